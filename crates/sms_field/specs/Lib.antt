@@ -1,0 +1,10 @@
+pub mod Bit
+pub mod Field
+pub mod Reading
+pub mod Answer
+pub mod Digits
+pub mod AddressValue
+pub mod Address
+pub mod Coding
+pub mod Optional
+pub mod Halves

@@ -1,0 +1,31 @@
+-- A part that is there exactly where the next octet is its tag.
+use Rattle.std.specs.Prelude.{◌≡◌, ◌≢◌, ℕ, ◌+◌, ◌⊎◌, List, [], ◌∷◌, Option, Some, None, ◌==◌, if◌then◌else◌}
+use Rattle.sms_field.specs.Field.{Field, Outcome, found, refused}
+
+-- nothing follows, or another octet than the tag
+abbrev pub LacksTag : ℕ → List ℕ → Type 0
+LacksTag tag [] = Unit {0}
+LacksTag tag (octet ∷ rest) = octet ≢ tag
+
+abbrev pub ReadsTagged : {V W : Type 0} → ℕ → Field V W → Option V → List ℕ → List ℕ → Type 0
+ReadsTagged tag part None octets rest = (octets ≡ []) × LacksTag tag rest
+ReadsTagged tag part (Some value) octets rest = (others : List ℕ) × (octets ≡ tag ∷ others) × part.reads value others rest
+
+abbrev pub some_found : {V W : Type 0} → Outcome V W → Outcome (Option V) W
+some_found (found value after rest) = found (Some value) after rest
+some_found (refused place why) = refused place why
+
+abbrev pub tagged_at : {V W : Type 0} → ℕ → Field V W → ℕ → List ℕ → Outcome (Option V) W
+tagged_at tag part at [] = found None at []
+tagged_at tag part at (octet ∷ rest) = if octet == tag then some_found (part.read (at + 1) rest) else found None at (octet ∷ rest)
+
+abbrev pub behind_tag : {V W : Type 0} → ℕ → Field V W → List ℕ → ℕ → W → Type 0
+behind_tag tag part [] octet why = ⊥
+behind_tag tag part (first ∷ front) octet why = part.reason front octet why
+
+abbrev pub tagged : {V W : Type 0} → ℕ → Field V W → Field (Option V) W
+tagged tag part = record {
+  reads = ReadsTagged tag part;
+  reason = behind_tag tag part;
+  read = tagged_at tag part;
+}
