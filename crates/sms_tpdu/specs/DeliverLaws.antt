@@ -6,9 +6,9 @@ use Rattle.sms_field.specs.Address.{address, up_to}
 use Rattle.sms_field.specs.Coding.{alphabet_at}
 use Rattle.sms_field.specs.declared.coding.Alphabet.{Alphabet}
 use Rattle.sms_field.specs.declared.coding.Alphabet.TheVariants.{Gsm7, EightBit, Ucs2, Compressed}
-use Rattle.sms_field.proofs.Join.{join_lawful, join_self_contained}
-use Rattle.sms_field.proofs.Single.{always_self, always_lawful, octet_self, octet_lawful, octet_by_self, octet_by_lawful, octets_of_self, octets_of_lawful, renamed_lawful, apart_else}
-use Rattle.sms_field.proofs.AddressLaws.{address_self, address_lawful}
+use Rattle.sms_field.specs.JoinLaws.{join_lawful, join_self_contained}
+use Rattle.sms_field.specs.SingleLaws.{always_self, always_lawful, octet_self, octet_lawful, octet_by_self, octet_by_lawful, octets_of_self, octets_of_lawful, renamed_lawful, apart_else}
+use Rattle.sms_field.specs.AddressLaws.{address_self, address_lawful}
 use Rattle.sms_field.specs.declared.fault.FieldFault.{FieldFault}
 use Rattle.sms_field.specs.declared.fault.FieldFault.TheVariants as fields
 use Rattle.sms_tpdu.specs.declared.fault.UnitFault.{UnitFault}

@@ -12,8 +12,8 @@ use Rattle.sms_field.specs.Address.{address, up_to, address_octets}
 use Rattle.sms_field.specs.Coding.{alphabet_at}
 use Rattle.sms_field.specs.declared.coding.Alphabet.{Alphabet}
 use Rattle.sms_field.specs.declared.coding.Alphabet.TheVariants.{Gsm7, EightBit, Ucs2, Compressed}
-use Rattle.sms_field.proofs.AddressSpelling.{address_again, address_are_octets}
-use Rattle.sms_field.proofs.Join.{octets-append}
+use Rattle.sms_field.specs.AddressSpelling.{address_again, address_are_octets}
+use Rattle.sms_field.specs.OctetLists.{octets-append}
 use Rattle.sms_tpdu.specs.declared.fault.UnitFault.{UnitFault}
 use Rattle.sms_tpdu.specs.declared.fault.UnitFault.TheVariants.{Short, DataTooLong, NotYet, WrongType}
 use Rattle.sms_tpdu.specs.declared.user.Body.{Body}

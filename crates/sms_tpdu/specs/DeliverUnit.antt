@@ -5,7 +5,7 @@ use Rattle.sms_field.specs.Reading.{Reads}
 use Rattle.sms_tpdu.specs.Delivery.{Delivery}
 use Rattle.sms_tpdu.specs.declared.fault.UnitFault.TheVariants.{Short}
 use Rattle.sms_tpdu.specs.Deliver.{deliver, SpellsDeliver}
-use Rattle.sms_field.proofs.Promise as promise
+use Rattle.sms_field.specs.ReadingLaws as promise
 use Rattle.sms_tpdu.specs.DeliverLaws.{deliver_lawful}
 use Rattle.sms_tpdu.specs.DeliverSpelling as spelling
 

@@ -3,8 +3,8 @@ use Rattle.std.proofs.Common.{◌≡◌, ℕ, ◌+◌, ◌-◌, ◌*◌, ◌/◌
 use Rattle.sms_field.specs.Field.{Field, ◌>>=◌, always, octet_by, octets_of, IsLawful, IsSelfContained}
 use Rattle.sms_field.specs.declared.coding.Alphabet.{Alphabet}
 use Rattle.sms_field.specs.declared.coding.Alphabet.TheVariants.{Gsm7, EightBit, Ucs2, Compressed}
-use Rattle.sms_field.proofs.Join.{join_lawful, join_self_contained}
-use Rattle.sms_field.proofs.Single.{always_self, always_lawful, octet_by_self, octet_by_lawful, octets_of_self, octets_of_lawful, apart_else}
+use Rattle.sms_field.specs.JoinLaws.{join_lawful, join_self_contained}
+use Rattle.sms_field.specs.SingleLaws.{always_self, always_lawful, octet_by_self, octet_by_lawful, octets_of_self, octets_of_lawful, apart_else}
 use Rattle.sms_tpdu.specs.declared.fault.UnitFault.{UnitFault}
 use Rattle.sms_tpdu.specs.declared.fault.UnitFault.TheVariants.{Short, NotYet, DataTooLong}
 use Rattle.sms_tpdu.specs.Header.{header_units, greatest_length, length_with_header, header_length, octets_of_length, data_with_header}

@@ -2,7 +2,7 @@ use Rattle.std.proofs.Common.{◌≡◌, ◌∙◌, ◌++◌, ◌∷◌, ◌<◌
 use Rattle.std.proofs.lemmas.List.Elements.{recursion_from_All}
 use Rattle.sms_text.specs.Bits.{PackedPlain}
 use Rattle.sms_text.specs.Octets.{IsOctets}
-use Rattle.sms_field.proofs.Join.{octets_back}
+use Rattle.sms_field.specs.OctetLists.{octets_back}
 use Rattle.sms_tpdu.specs.Deliver.{SpellsBody, body_length}
 use Rattle.sms_tpdu.proofs.writing.put_body.Goals as goal
 
