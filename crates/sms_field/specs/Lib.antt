@@ -12,8 +12,10 @@ pub mod Answer
 pub mod Optional
 pub mod OptionalLaws
 pub mod Digits
+pub mod DigitText
 pub mod AddressValue
 pub mod Address
+pub mod AddressText
 pub mod AddressLaws
 pub mod AddressSpelling
 pub mod Coding

@@ -5,12 +5,14 @@ mod address;
 mod bit;
 mod coding;
 mod cursor;
+mod digits;
 mod fault;
 mod refusal;
 
-pub use address::{Address, Digits, address_laws};
+pub use address::{Address, AddressFault, address_laws};
 pub use bit::has_bit;
 pub use coding::{Alphabet, alphabet_of};
 pub use cursor::Cursor;
+pub use digits::Digits;
 pub use fault::FieldFault;
 pub use refusal::{Reason, Refusal};

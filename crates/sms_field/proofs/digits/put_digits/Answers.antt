@@ -1,6 +1,6 @@
 use Rattle.std.proofs.Common.{arith}
 use Rattle.sms_field.proofs.DigitWriting.{two_written, none_written, one_written, digits_left}
-use Rattle.sms_field.proofs.address.put_digits.Goals as goal
+use Rattle.sms_field.proofs.digits.put_digits.Goals as goal
 
 pub loop-rest-preserved : goal.loop-rest-preserved
 loop-rest-preserved c = record {

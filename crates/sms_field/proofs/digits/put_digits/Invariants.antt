@@ -1,6 +1,6 @@
 use Rattle.std.proofs.Common.{◌≡◌, ◌<◌, ◌++◌, length, All}
 use Rattle.sms_field.specs.Address.{digit_octets}
-use Rattle.sms_field.proofs.address.put_digits.Given as goal
+use Rattle.sms_field.proofs.digits.put_digits.Given as goal
 
 abbrev pub invariant-loop-rest : goal.invariant-loop-rest
 invariant-loop-rest l = record {
