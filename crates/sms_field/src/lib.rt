@@ -7,12 +7,10 @@ mod coding;
 mod cursor;
 mod fault;
 mod refusal;
-mod view;
 
-pub use address::{Address, Digits};
+pub use address::{Address, Digits, address_laws};
 pub use bit::has_bit;
 pub use coding::{Alphabet, alphabet_of};
 pub use cursor::Cursor;
 pub use fault::FieldFault;
 pub use refusal::{Reason, Refusal};
-pub use view::AddressView;

@@ -5,7 +5,7 @@ use Rattle.sms_field.specs.declared.refusal.Refusal.{Refusal}
 use Rattle.sms_field.specs.declared.refusal.Refusal.TheVariants.{Memory, At}
 use Rattle.sms_text.specs.Octets.{IsOctets}
 use Rattle.sms_field.specs.Reading.{IsRefused}
-use Rattle.sms_field.proofs.Join.{octets_back}
+use Rattle.sms_field.specs.OctetLists.{octets_back}
 
 pub only_memory : {V W : Type 0} (reads : V → List ℕ → ℕ → Type 0) (reason : List ℕ → ℕ → W → Type 0) (short : W) (octets input : List ℕ) (v : V) (used : ℕ) → IsOctets octets → input ≡ octets → reads v octets used → (e : Refusal W) → IsRefused reads reason short input e → e ≡ Memory
 only_memory reads reason short octets input v used fits same read Memory h = refl

@@ -8,10 +8,11 @@ use Rattle.sms_field.specs.Reading.{Reads}
 use Rattle.sms_field.specs.Address.{address, address_octets}
 use Rattle.sms_field.specs.Coding.{alphabet_at}
 use Rattle.sms_field.specs.declared.fault.FieldFault.TheVariants as fields
-use Rattle.sms_field.proofs.Join.{join_lawful, octets-append}
-use Rattle.sms_field.proofs.Single.{always_lawful, octet_self, octet_lawful, octet_by_self, octet_by_lawful, octets_of_self, octets_of_lawful, renamed_lawful}
-use Rattle.sms_field.proofs.AddressLaws.{address_self, address_lawful}
-use Rattle.sms_field.proofs.AddressSpelling.{address_again, address_are_octets}
+use Rattle.sms_field.specs.JoinLaws.{join_lawful}
+use Rattle.sms_field.specs.OctetLists.{octets-append}
+use Rattle.sms_field.specs.SingleLaws.{always_lawful, octet_self, octet_lawful, octet_by_self, octet_by_lawful, octets_of_self, octets_of_lawful, renamed_lawful}
+use Rattle.sms_field.specs.AddressLaws.{address_self, address_lawful}
+use Rattle.sms_field.specs.AddressSpelling.{address_again, address_are_octets}
 use Rattle.sms_tpdu.specs.Fault.{unit_fault}
 use Rattle.sms_tpdu.specs.FaultLaws.{fault_apart}
 use Rattle.sms_tpdu.specs.DeliverFlags.{deliver_flags, deliver_octet}

@@ -2,7 +2,7 @@
 use Rattle.std.specs.Prelude.{◌≡◌, ℕ, List, ◌++◌, length}
 use Rattle.sms_text.specs.Octets.{IsOctets}
 use Rattle.sms_field.specs.Reading.{Reads}
-use Rattle.sms_field.proofs.Promise as promise
+use Rattle.sms_field.specs.ReadingLaws as promise
 use Rattle.sms_tpdu.specs.Delivery.{Delivery}
 use Rattle.sms_tpdu.specs.Deliver.{deliver, SpellsDeliver}
 use Rattle.sms_tpdu.specs.DeliverLaws.{deliver_lawful, deliver_is_read, deliver_are_octets}

@@ -9,8 +9,8 @@ use Rattle.sms_field.specs.Field.{IsLawful, IsSelfContained}
 use Rattle.sms_field.specs.Address.{up_to}
 use Rattle.sms_field.specs.declared.coding.Alphabet.{Alphabet}
 use Rattle.sms_field.specs.declared.coding.Alphabet.TheVariants.{Gsm7, EightBit, Ucs2, Compressed}
-use Rattle.sms_field.proofs.Join.{join_lawful, join_self_contained}
-use Rattle.sms_field.proofs.Single.{always_self, always_lawful, octet_by_self, octet_by_lawful, octets_of_self, octets_of_lawful, apart_else}
+use Rattle.sms_field.specs.JoinLaws.{join_lawful, join_self_contained}
+use Rattle.sms_field.specs.SingleLaws.{always_self, always_lawful, octet_by_self, octet_by_lawful, octets_of_self, octets_of_lawful, apart_else}
 use Rattle.sms_tpdu.specs.DataLength.{greatest_length, octets_of_length}
 use Rattle.sms_tpdu.specs.UserData.{FitsAlphabet, body_of, user_data, body_length, SpellsBody, SpellsUserData}
 use Rattle.sms_tpdu.specs.declared.fault.UnitFault.{UnitFault}

@@ -1,7 +1,7 @@
 use Rattle.std.proofs.Common.{◌≡◌, ◌++◌, ◌∷◌, ◌<◌, [], ℕ, List, length, ap, subst, append_assoc, arith}
 use Rattle.std.proofs.lemmas.List.Elements.{recursion_from_All}
 use Rattle.sms_text.specs.Octets.{IsOctets}
-use Rattle.sms_field.proofs.Join.{octets_back}
+use Rattle.sms_field.specs.OctetLists.{octets_back}
 use Rattle.sms_tpdu.specs.UserData.{SpellsUserData}
 use Rattle.sms_tpdu.proofs.data.put_user_data.Goals as goal
 

@@ -1,18 +1,14 @@
 -- What a lawful field promises of a reader that answers as its plain reader does.
-use Rattle.std.proofs.Common.{◌≡◌, ℕ, ◌+◌, ◌<◌, ◌≤◌, ◌⊎◌, List, [], ◌∷◌, ◌++◌, length, take, Result, Ok, Err, refl, sym, ap, subst, ◌∙◌, append_assoc, arith, inl, inr, length-append, get_or}
-use Rattle.std.specs.List.{AllByRecursion}
-use Rattle.std.proofs.lemmas.List.{take_at, append-nil}
-use Rattle.std.proofs.lemmas.List.Elements.{All-from_get_or, recursion_from_All}
+use Rattle.std.proofs.Common.{◌≡◌, ℕ, ◌+◌, ◌<◌, List, [], ◌∷◌, ◌++◌, length, take, refl, sym, ap, subst, ◌∙◌, append_assoc, arith, inl, inr, length-append, get_or}
+use Rattle.std.proofs.lemmas.List.{take_at}
 use Rattle.sms_field.specs.declared.refusal.Refusal.{Refusal}
 use Rattle.sms_field.specs.declared.refusal.Refusal.TheVariants.{Memory, At}
 use Rattle.sms_text.specs.Octets.{IsOctets}
-use Rattle.sms_field.specs.Field.{Outcome, found, refused, Field, HasReading, CanContinue, IsReading, IsShort, IsFault, IsAnswer, IsSelfContained, IsLawful}
-use Rattle.sms_field.specs.Reading.{Reads, IsReadable, IsViable, EndsTooSoon, BreaksAt, IsRefused}
-use Rattle.sms_field.specs.Answer.{Refuses, Gives}
-use Rattle.sms_field.proofs.Join.{agree}
-
-pub octets_are : (input : List ℕ) → ((i : ℕ) → get_or input i 0 < 256) → IsOctets input
-octets_are input h = recursion_from_All (λ octet. octet < 256) input (All-from_get_or (λ octet. octet < 256) input 0 (λ i lt. h i))
+use Rattle.sms_field.specs.Field.{found, refused, Field, HasReading, CanContinue, IsAnswer, IsLawful}
+use Rattle.sms_field.specs.Reading.{Reads, IsReadable, IsViable, IsRefused}
+use Rattle.sms_field.specs.Answer.{Refuses}
+use Rattle.sms_field.specs.OctetLists.{octets_are}
+use Rattle.sms_field.specs.JoinLaws.{agree}
 
 get_or-append_here : (xs : List ℕ) (y : ℕ) (ys : List ℕ) → get_or (xs ++ (y ∷ ys)) (length xs) 0 ≡ y
 get_or-append_here [] y ys = refl

@@ -1,10 +1,9 @@
 -- The single fields are lawful.
-use Rattle.std.proofs.Common.{◌≡◌, ℕ, zero, suc, ◌+◌, ◌-◌, ◌<◌, ◌≤◌, ◌⊎◌, Bool, true, false, cond, ltb, List, [], ◌∷◌, ◌++◌, length, take, drop, replicate, Result, Ok, Err, refl, sym, ap, subst, ◌∙◌, append_assoc, arith, inl, inr, length-append}
+use Rattle.std.proofs.Common.{◌≡◌, ℕ, zero, suc, ◌+◌, ◌-◌, ◌<◌, ◌≤◌, Bool, true, false, cond, ltb, List, [], ◌∷◌, ◌++◌, length, take, drop, replicate, Result, Ok, Err, refl, sym, ap, subst, ◌∙◌, arith, inl, inr, length-append}
 use Rattle.std.proofs.lemmas.Bool.{ltb-true, ltb-false}
-use Rattle.std.proofs.lemmas.List.{take_at, drop_at, take-append-drop, length-take, length-replicate, append-nil}
+use Rattle.std.proofs.lemmas.List.{take_at, take-append-drop, length-take, length-replicate, append-nil}
 use Rattle.sms_text.specs.Octets.{IsOctets}
-use Rattle.sms_field.specs.Field.{Outcome, found, refused, Field, HasReading, CanContinue, IsReading, IsShort, IsFault, IsAnswer, IsSelfContained, IsLawful, always, octet_at, octet, found_if, judged, octet_by, octets_of, renamed_outcome, renamed}
-use Rattle.sms_field.proofs.Join.{octets-append, octets_front, octets_back}
+use Rattle.sms_field.specs.Field.{Outcome, found, refused, Field, HasReading, CanContinue, IsAnswer, IsSelfContained, IsLawful, always, octet_at, octet, found_if, judged, octet_by, octets_of, renamed_outcome, renamed}
 
 nothing_left : (xs ys : List ℕ) → [] ≡ xs ++ ys → xs ≡ []
 nothing_left [] ys e = refl

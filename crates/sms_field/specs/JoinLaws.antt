@@ -1,20 +1,8 @@
 -- What holds of two fields holds of one after the other.
-use Rattle.std.proofs.Common.{◌≡◌, ℕ, ◌+◌, ◌<◌, ◌⊎◌, List, [], ◌∷◌, ◌++◌, length, refl, sym, ap, subst, ◌∙◌, append_assoc, arith, inl, inr, length-append}
-use Rattle.std.specs.List.{AllByRecursion}
+use Rattle.std.proofs.Common.{◌≡◌, ℕ, ◌⊎◌, List, [], ◌∷◌, ◌++◌, length, refl, sym, ap, subst, ◌∙◌, append_assoc, arith, inl, inr, length-append}
 use Rattle.sms_text.specs.Octets.{IsOctets}
-use Rattle.sms_field.specs.Field.{Outcome, found, refused, Field, HasReading, CanContinue, IsReading, IsShort, IsFault, IsAnswer, IsSelfContained, IsLawful, ReadsBoth, ReasonInFirst, ReasonInSecond, read_then, ◌>>=◌}
-
-pub octets-append : (xs ys : List ℕ) → IsOctets xs → IsOctets ys → IsOctets (xs ++ ys)
-octets-append [] ys p q = q
-octets-append (x ∷ xs) ys p q = (p.0, octets-append xs ys p.1 q)
-
-pub octets_back : (xs ys : List ℕ) → IsOctets (xs ++ ys) → IsOctets ys
-octets_back [] ys p = p
-octets_back (x ∷ xs) ys p = octets_back xs ys p.1
-
-pub octets_front : (xs ys : List ℕ) → IsOctets (xs ++ ys) → IsOctets xs
-octets_front [] ys p = tt
-octets_front (x ∷ xs) ys p = (p.0, octets_front xs ys p.1)
+use Rattle.sms_field.specs.OctetLists.{octets-append, octets_front, octets_back}
+use Rattle.sms_field.specs.Field.{Outcome, found, refused, Field, HasReading, CanContinue, IsReading, IsAnswer, IsSelfContained, IsLawful, read_then, ◌>>=◌}
 
 -- a list has one part behind a front
 pub same_back : (xs ys zs : List ℕ) → xs ++ ys ≡ xs ++ zs → ys ≡ zs

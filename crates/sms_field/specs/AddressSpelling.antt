@@ -1,16 +1,12 @@
 -- An address that is written is read.
-use Rattle.std.proofs.Common.{◌≡◌, ◌≢◌, ℕ, zero, suc, ◌-◌, ◌+◌, ◌*◌, ◌/◌, ◌%◌, ◌<◌, ◌≤◌, Bool, true, false, cond, ltb, leb, eqb, List, [], ◌∷◌, ◌++◌, length, Result, Ok, Err, refl, sym, ap, subst, ◌∙◌, append_assoc, arith}
-use Rattle.std.specs.Prelude.{◌&&◌}
+use Rattle.std.proofs.Common.{◌≡◌, ◌≢◌, ℕ, ◌+◌, ◌*◌, ◌/◌, ◌%◌, ◌<◌, Bool, true, false, cond, ltb, leb, List, [], ◌∷◌, length, Ok, Err, refl, sym, arith}
 use Rattle.std.specs.List.{AllByRecursion}
 use Rattle.std.proofs.lemmas.Bool.{lt-ltb, le-leb, ne_eqb}
 use Rattle.std.proofs.lemmas.List.{append-nil}
 use Rattle.sms_text.specs.Octets.{IsOctets}
-use Rattle.sms_field.specs.Field.{Field, IsLawful, octet_by, always, ◌>>=◌}
-use Rattle.sms_field.specs.declared.fault.FieldFault.{FieldFault}
-use Rattle.sms_field.specs.declared.fault.FieldFault.TheVariants.{Short, AddressTooLong, BadDigit, NotYet}
-use Rattle.sms_field.specs.Digits.{AreDigits}
+use Rattle.sms_field.specs.declared.fault.FieldFault.TheVariants.{AddressTooLong, BadDigit}
 use Rattle.sms_field.specs.AddressValue.{AddressValue, HasSpelling}
-use Rattle.sms_field.specs.Address.{low_digit, both_digits, digits, up_to, type_of_address, address, digit_octets, address_octets}
+use Rattle.sms_field.specs.Address.{low_digit, both_digits, digits, type_of_address, address, digit_octets, address_octets}
 
 chooses : {A W : Type 0} (b : Bool) (x : A) (why : W) → b ≡ true → cond b (Ok x) (Err why) ≡ Ok x
 chooses b x why e = rw e refl
