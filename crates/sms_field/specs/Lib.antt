@@ -6,5 +6,8 @@ pub mod Digits
 pub mod AddressValue
 pub mod Address
 pub mod Coding
+pub mod Stamp
+pub mod Days
+pub mod StampDate
 pub mod Optional
 pub mod Halves

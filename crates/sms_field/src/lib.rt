@@ -3,10 +3,12 @@
 
 mod address;
 mod bit;
+mod calendar;
 mod coding;
 mod cursor;
 mod fault;
 mod refusal;
+mod stamp;
 mod view;
 
 pub use address::{Address, Digits};
@@ -15,4 +17,5 @@ pub use coding::{Alphabet, alphabet_of};
 pub use cursor::Cursor;
 pub use fault::FieldFault;
 pub use refusal::{Reason, Refusal};
+pub use stamp::{Stamp, StampDate};
 pub use view::AddressView;
