@@ -17,3 +17,6 @@ pub mod Address
 pub mod AddressLaws
 pub mod AddressSpelling
 pub mod Coding
+pub mod Stamp
+pub mod Days
+pub mod StampDate
