@@ -19,3 +19,6 @@ pub mod AddressText
 pub mod AddressLaws
 pub mod AddressSpelling
 pub mod Coding
+pub mod Stamp
+pub mod Days
+pub mod StampDate

@@ -3,11 +3,13 @@
 
 mod address;
 mod bit;
+mod calendar;
 mod coding;
 mod cursor;
 mod digits;
 mod fault;
 mod refusal;
+mod stamp;
 
 pub use address::{Address, AddressFault, address_laws};
 pub use bit::has_bit;
@@ -16,3 +18,4 @@ pub use cursor::Cursor;
 pub use digits::Digits;
 pub use fault::FieldFault;
 pub use refusal::{Reason, Refusal};
+pub use stamp::{Stamp, StampDate};

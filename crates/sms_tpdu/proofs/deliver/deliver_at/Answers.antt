@@ -1,8 +1,8 @@
-use Rattle.std.proofs.Common.{◌≡◌, ◌∙◌, ◌≤◌, ◌<◌, arith, subst}
+use Rattle.std.proofs.Common.{arith, subst}
 use Rattle.sms_field.specs.AddressValue.{HasSpelling}
 use Rattle.sms_field.specs.declared.coding.Alphabet.{Alphabet}
-use Rattle.sms_tpdu.specs.Delivery.{FitsAlphabet}
-use Rattle.sms_tpdu.proofs.reading.deliver_at.Goals as goal
+use Rattle.sms_tpdu.specs.UserData.{FitsAlphabet}
+use Rattle.sms_tpdu.proofs.deliver.deliver_at.Goals as goal
 
 pub invariant_of-result : goal.invariant_of-result
 invariant_of-result c = record {
