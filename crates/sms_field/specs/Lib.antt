@@ -9,5 +9,8 @@ pub mod Coding
 pub mod Stamp
 pub mod Days
 pub mod StampDate
+pub mod Moment
+pub mod Stamping
+pub mod Validity
 pub mod Optional
 pub mod Halves
