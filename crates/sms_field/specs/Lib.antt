@@ -22,3 +22,6 @@ pub mod Coding
 pub mod Stamp
 pub mod Days
 pub mod StampDate
+pub mod Moment
+pub mod Stamping
+pub mod Validity
