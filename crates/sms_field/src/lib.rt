@@ -9,6 +9,7 @@ mod cursor;
 mod fault;
 mod refusal;
 mod stamp;
+mod validity;
 
 pub use address::{Address, Digits, address_laws};
 pub use bit::has_bit;
@@ -17,3 +18,4 @@ pub use cursor::Cursor;
 pub use fault::FieldFault;
 pub use refusal::{Reason, Refusal};
 pub use stamp::{Stamp, StampDate};
+pub use validity::Validity;
