@@ -1,8 +1,9 @@
 -- SMS-DELIVER (3GPP TS 23.040, 9.2.2.1), without a user data header.
 use Rattle.std.specs.Prelude.{◌≡◌, ℕ, List, ◌∷◌, ◌++◌}
-use Rattle.sms_field.specs.Field.{Field, ◌>>=◌, always, octet, octet_by, octets_of, renamed}
+use Rattle.sms_field.specs.Field.{Field, ◌>>=◌, always, octet, octet_by, renamed}
 use Rattle.sms_field.specs.Address.{address, address_octets}
 use Rattle.sms_field.specs.Coding.{alphabet_at}
+use Rattle.sms_field.specs.Stamp as time
 use Rattle.sms_tpdu.specs.Fault.{unit_fault}
 use Rattle.sms_tpdu.specs.DeliverFlags.{deliver_flags, deliver_octet}
 use Rattle.sms_tpdu.specs.UserData.{user_data, SpellsUserData}
@@ -18,7 +19,7 @@ deliver = do
   origin ← renamed unit_fault address
   pid ← octet Short
   dcs ← octet Short
-  stamp ← octets_of Short 7
+  stamp ← time.stamp Short
   user ← user_data (alphabet_at dcs)
   always (record { more = flags.more; looped = flags.looped; report = flags.report; reply = flags.reply; origin = origin; pid = pid; dcs = dcs; stamp = stamp; user = user })
 

@@ -27,7 +27,10 @@ fn reads_and_writes_a_delivery(rt: HostRuntime) -> Result<(), Fail> {
         (4, 8)
     );
     assert_eq!(rt; (deliver.pid, deliver.dcs), (0, 0));
-    assert_eq!(rt; deliver.stamp, [0x99, 0x30, 0x92, 0x51, 0x61, 0x95, 0x80]);
+    assert_eq!(rt;
+        deliver.stamp.octets(),
+        [0x99, 0x30, 0x92, 0x51, 0x61, 0x95, 0x80]
+    );
     match &deliver.user.body {
         Body::Septets(septets) => {
             assert_eq!(rt; septets.as_slice(), b"hellohello".as_slice());
