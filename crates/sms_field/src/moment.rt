@@ -90,3 +90,6 @@ pub fn moment_of_stamp_at(seconds: u64, quarters: i8) -> Option<u64>
 {
     Stamp::at(seconds, quarters)?.moment()
 }
+
+#[cfg(test)]
+mod tests;

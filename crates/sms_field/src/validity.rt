@@ -59,3 +59,6 @@ impl Validity {
         }
     }
 }
+
+#[cfg(test)]
+mod tests;
