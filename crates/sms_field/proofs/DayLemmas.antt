@@ -124,3 +124,11 @@ days_before_injective y m d y₂ m₂ d₂ h k e =
 -- a number of these years is below 36,525
 pub days_before_bound : (y m d : ℕ) → IsDay y m d → days_before y m d < 36_525
 days_before_bound y m d h = omega (arith, day_count-day y m d h, day_count-2000)
+
+-- the year of a date that was read is as it was cast to an unsigned number
+pub year_cast : (date : Date) (y n : ℕ) → IsRead date y n → to_z w16 (of_z w16 date.year) ≡ pos y
+year_cast date y n read = read_back date.year y read.year (omega (arith, read.is_day.0.1))
+
+-- the date of a day of these years
+pub read_day : (date : Date) (days : ℕ) → days < 36_525 → epoch_day date +ℤ pos 4_371_587 ≡ pos (days + 4_382_544) → IsRead date (up date.year - down date.year) (days + 4_382_544)
+read_day date days few e = parts_of date (days + 4_382_544) (omega arith) (omega (arith, few)) e

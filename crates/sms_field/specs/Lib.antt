@@ -12,11 +12,16 @@ pub mod Answer
 pub mod Optional
 pub mod OptionalLaws
 pub mod Digits
+pub mod DigitText
 pub mod AddressValue
 pub mod Address
+pub mod AddressText
 pub mod AddressLaws
 pub mod AddressSpelling
 pub mod Coding
 pub mod Stamp
 pub mod Days
 pub mod StampDate
+pub mod Moment
+pub mod Stamping
+pub mod Validity

@@ -85,3 +85,39 @@ fn addresses_written(rt: HostRuntime) -> Result<(), Fail> {
     }
     Ok(())
 }
+
+#[test]
+fn addresses_from_texts(rt: HostRuntime) -> Result<(), Fail> {
+    let good: [(&str, &[u8]); 8] = [
+        ("", b"\x00\x81"),
+        ("+", b"\x00\x91"),
+        ("7", b"\x01\x81\xF7"),
+        ("+1002", b"\x04\x91\x01\x20"),
+        ("*#abc", b"\x05\x81\xBA\xDC\xFE"),
+        ("+*#abc0", b"\x06\x91\xBA\xDC\x0E"),
+        ("1234567890123456789", NINETEEN),
+        ("12345678901234567890", TWENTY),
+    ];
+    for (text, octets) in good {
+        let address = Address::from_text(rt.alloc(), text)?;
+        assert_eq!(rt; address.write(rt.alloc())?.as_slice(), octets, "{text}");
+        assert_eq!(rt; address.to_text(rt.alloc())?.as_str(), text);
+    }
+    let bad: [(&str, AddressFault); 8] = [
+        ("+12x", AddressFault::BadDigit),
+        ("++1", AddressFault::BadDigit),
+        ("+A", AddressFault::BadDigit),
+        ("1+", AddressFault::BadDigit),
+        ("12345678901234567890x", AddressFault::BadDigit),
+        ("+123456789012345678901x", AddressFault::BadDigit),
+        ("123456789012345678901", AddressFault::TooLong),
+        ("+123456789012345678901", AddressFault::TooLong),
+    ];
+    for (text, fault) in bad {
+        match Address::from_text(rt.alloc(), text) {
+            Ok(_) => assert!(rt; false, "{text}"),
+            Err(why) => assert_eq!(rt; why, fault, "{text}"),
+        }
+    }
+    Ok(())
+}
