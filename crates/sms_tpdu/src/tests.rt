@@ -80,6 +80,7 @@ fn refuses_a_delivery(rt: HostRuntime) -> Result<(), Fail> {
 }
 
 /// A submission as its octets, and what they say.
+#[derive(Drop)]
 struct Row<'a> {
     octets: &'a [u8],
     flags: (bool, bool, bool),
