@@ -8,7 +8,7 @@ use Rattle.sms_tpdu.specs.Fault.{unit_fault}
 use Rattle.sms_tpdu.specs.DeliverFlags.{deliver_flags, deliver_octet}
 use Rattle.sms_tpdu.specs.UserData.{user_data, SpellsUserData}
 use Rattle.sms_tpdu.specs.Delivery.{Delivery, IsDeliverable}
-use Rattle.sms_tpdu.specs.declared.flags.DeliverFlags.{DeliverFlags}
+use Rattle.sms_tpdu.specs.declared.deliver_flags.DeliverFlags.{DeliverFlags}
 use Rattle.sms_tpdu.specs.declared.fault.UnitFault.{UnitFault}
 use Rattle.sms_tpdu.specs.declared.fault.UnitFault.TheVariants.{Short}
 

@@ -2,7 +2,7 @@
 use Rattle.std.specs.Prelude.{ℕ, ◌+◌, ◌||◌, not, Result, Ok, Err, if◌then◌else◌}
 use Rattle.sms_field.specs.Bit.{bit}
 use Rattle.sms_tpdu.specs.Weight.{weight}
-use Rattle.sms_tpdu.specs.declared.flags.DeliverFlags.{DeliverFlags}
+use Rattle.sms_tpdu.specs.declared.deliver_flags.DeliverFlags.{DeliverFlags}
 use Rattle.sms_tpdu.specs.declared.fault.UnitFault.{UnitFault}
 use Rattle.sms_tpdu.specs.declared.fault.UnitFault.TheVariants.{WrongType, NotYet}
 

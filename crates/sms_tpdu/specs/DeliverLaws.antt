@@ -20,7 +20,7 @@ use Rattle.sms_tpdu.specs.UserData.{SpellsUserData}
 use Rattle.sms_tpdu.specs.UserDataLaws.{user_data_self, user_data_lawful, user_data_again, user_data_are_octets}
 use Rattle.sms_tpdu.specs.Delivery.{Delivery, IsDeliverable}
 use Rattle.sms_tpdu.specs.Deliver.{deliver, flags_in, SpellsDeliver}
-use Rattle.sms_tpdu.specs.declared.flags.DeliverFlags.{DeliverFlags}
+use Rattle.sms_tpdu.specs.declared.deliver_flags.DeliverFlags.{DeliverFlags}
 use Rattle.sms_tpdu.specs.declared.fault.UnitFault.TheVariants.{Short, WrongType, NotYet}
 
 flags_apart_from : (a b : Bool) (f : DeliverFlags) → cond a (Err WrongType) (cond b (Err NotYet) (Ok f)) ≡ Err Short → ⊥

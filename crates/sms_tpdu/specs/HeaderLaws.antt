@@ -5,9 +5,9 @@ use Rattle.sms_text.specs.Octets.{IsOctets}
 use Rattle.sms_field.specs.Field.{IsLawful}
 use Rattle.sms_field.specs.Reading.{Reads}
 use Rattle.sms_field.specs.Address.{up_to}
-use Rattle.sms_field.proofs.Join.{join_lawful}
-use Rattle.sms_field.proofs.Single.{octet_by_self, octet_by_lawful, octets_of_lawful, apart_else}
-use Rattle.sms_field.proofs.Promise as promise
+use Rattle.sms_field.specs.JoinLaws.{join_lawful}
+use Rattle.sms_field.specs.SingleLaws.{octet_by_self, octet_by_lawful, octets_of_lawful, apart_else}
+use Rattle.sms_field.specs.ReadingLaws as promise
 use Rattle.sms_tpdu.specs.declared.fault.UnitFault.TheVariants.{Short, HeaderTooLong}
 use Rattle.sms_tpdu.specs.Header.{header, SpellsHeader}
 

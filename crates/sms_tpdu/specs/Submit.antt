@@ -8,7 +8,7 @@ use Rattle.sms_tpdu.specs.SubmitFlags.{submit_flags, submit_octet}
 use Rattle.sms_tpdu.specs.Validity.{validity, format_of, validity_octets}
 use Rattle.sms_tpdu.specs.UserData.{user_data, SpellsUserData}
 use Rattle.sms_tpdu.specs.Submission.{Submission, IsSubmittable}
-use Rattle.sms_tpdu.specs.declared.flags.SubmitFlags.{SubmitFlags}
+use Rattle.sms_tpdu.specs.declared.submit_flags.SubmitFlags.{SubmitFlags}
 use Rattle.sms_tpdu.specs.declared.fault.UnitFault.{UnitFault}
 use Rattle.sms_tpdu.specs.declared.fault.UnitFault.TheVariants.{Short}
 

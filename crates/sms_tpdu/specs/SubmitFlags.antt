@@ -3,7 +3,7 @@ use Rattle.std.specs.Prelude.{ℕ, ◌+◌, ◌||◌, not, true, Result, Ok, Err
 use Rattle.sms_field.specs.Bit.{bit}
 use Rattle.sms_tpdu.specs.Weight.{weight}
 use Rattle.sms_tpdu.specs.ValidityFormat.{validity_format, format_bits}
-use Rattle.sms_tpdu.specs.declared.flags.SubmitFlags.{SubmitFlags}
+use Rattle.sms_tpdu.specs.declared.submit_flags.SubmitFlags.{SubmitFlags}
 use Rattle.sms_tpdu.specs.declared.fault.UnitFault.{UnitFault}
 use Rattle.sms_tpdu.specs.declared.fault.UnitFault.TheVariants.{WrongType, NotYet}
 

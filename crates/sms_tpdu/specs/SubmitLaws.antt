@@ -22,7 +22,7 @@ use Rattle.sms_tpdu.specs.UserData.{user_data, SpellsUserData}
 use Rattle.sms_tpdu.specs.UserDataLaws.{user_data_self, user_data_lawful, user_data_again, user_data_are_octets}
 use Rattle.sms_tpdu.specs.Submission.{Submission, IsSubmittable}
 use Rattle.sms_tpdu.specs.Submit.{submit, flags_in, SpellsSubmit}
-use Rattle.sms_tpdu.specs.declared.flags.SubmitFlags.{SubmitFlags}
+use Rattle.sms_tpdu.specs.declared.submit_flags.SubmitFlags.{SubmitFlags}
 use Rattle.sms_tpdu.specs.declared.fault.UnitFault.{UnitFault}
 use Rattle.sms_tpdu.specs.declared.fault.UnitFault.TheVariants.{Short, WrongType, NotYet}
 use Rattle.sms_tpdu.specs.declared.validity.ValidityFormat.{ValidityFormat}

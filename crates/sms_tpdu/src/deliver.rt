@@ -8,8 +8,8 @@ ghost use Rattle.sms_tpdu.specs.declared.fault.UnitFault.TheVariants.{Short};
 
 use crate::address::address_at;
 use crate::data::{put_user_data, user_data_at};
+use crate::deliver_flags::DeliverFlags;
 use crate::fault::UnitFault;
-use crate::flags::DeliverFlags;
 use crate::unit::Unit;
 use crate::user::UserData;
 use sms_field::{Address, Cursor, Refusal, Stamp, alphabet_of};

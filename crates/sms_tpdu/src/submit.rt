@@ -9,7 +9,7 @@ ghost use Rattle.sms_tpdu.specs.declared.fault.UnitFault.TheVariants.{Short};
 use crate::address::address_at;
 use crate::data::{put_user_data, user_data_at};
 use crate::fault::UnitFault;
-use crate::flags::SubmitFlags;
+use crate::submit_flags::SubmitFlags;
 use crate::unit::Unit;
 use crate::user::UserData;
 use crate::validity::{ValidityFormat, put_validity, validity_at};

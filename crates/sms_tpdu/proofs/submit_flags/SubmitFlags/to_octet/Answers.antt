@@ -2,7 +2,7 @@ use mir.Val.{bool_byte}
 use Rattle.std.proofs.Common.{◌≡◌, ℕ, ◌+◌, ◌*◌, ◌%◌, Bool, true, false, cond, bit_or, refl}
 use Rattle.sms_tpdu.specs.SubmitFlags.{submit_octet}
 use Rattle.sms_tpdu.specs.ValidityFormat.{format_bits}
-use Rattle.sms_tpdu.proofs.flags.SubmitFlags.to_octet.Goals as goal
+use Rattle.sms_tpdu.proofs.submit_flags.SubmitFlags.to_octet.Goals as goal
 
 -- five bits, each 0 or 1, in their places
 in_places : (f : Bool → ℕ) → f true ≡ 1 → f false ≡ 0 → (a b c d e : Bool)
