@@ -1,35 +1,24 @@
 //! Addresses: a type of number, a plan and digits.
 
-ghost use Rattle.std.specs.Prelude.{◌≡◌, ℕ, ◌+◌, ◌*◌, ◌^◌, ◌<◌, ◌≤◌, length, IfOk, IfErr, OnOk, All, ◌++◌};
-ghost use Rattle.sms_field.specs.Field.{octet_by};
-ghost use Rattle.sms_field.specs.Address.{low_digit, both_digits, digits, address, digit_octets, address_octets};
-ghost use Rattle.sms_field.specs.declared.fault.FieldFault.TheVariants.{Short, BadDigit};
+ghost use Rattle.std.specs.Prelude.{◌≡◌, ◌≢◌, ◌<◌, ℕ, List, ◌++◌, Ok, Err, IfOk, IfErr, OnOk, None, MatchOption, ◌∷◌};
+ghost use Rattle.std.specs.Str.{chars};
+ghost use Rattle.std.specs.String.{string_bytes};
+ghost use Rattle.sms_field.specs.Field.{IsLawful};
+ghost use Rattle.sms_field.specs.AddressValue.{AddressValue, HasSpelling};
+ghost use Rattle.sms_field.specs.Address.{address, address_octets};
+ghost use Rattle.sms_field.specs.AddressText.{plus, address_text, number_of, address_of_text};
+ghost use Rattle.sms_field.specs.DigitText.{digits_of_text};
+ghost use Rattle.sms_field.specs.declared.fault.FieldFault.TheVariants.{Short};
+ghost use Rattle.sms_field.specs.declared.address.AddressFault.TheVariants.{Memory};
 ghost use Rattle.sms_field.specs.Reading.{Reads, IsRefused};
 ghost use Rattle.sms_field.specs.Answer.{Gives};
 
 use crate::cursor::Cursor;
+use crate::digits::{Digits, digits_at, digits_of, push_digits, put_digits};
 use crate::fault::FieldFault;
 use crate::refusal::Refusal;
 use std::alloc::{AllocError, Global};
 use std::marker::Model;
-
-/// Up to 20 digits, each 0 to 14.
-#[derive(Drop)]
-pub struct Digits {
-    values: Vec<u8>,
-}
-
-impl Model for Digits {
-    ghost use Rattle.std.specs.Prelude.{ℕ, List};
-
-    ghost Value = { List ℕ };
-
-    ghost use Rattle.sms_field.specs.Digits.{AreDigits};
-
-    ghost view = { λ d. d.values.items };
-
-    ghost invariant = { λ d. AreDigits d.values.items };
-}
 
 /// An address with digits.
 #[derive(Drop)]
@@ -49,82 +38,100 @@ impl Model for Address {
     ghost invariant = { λ a. HasSpelling (record { kind = a.type_of_number; plan = a.plan; digits = a.digits }) };
 }
 
-/// A digit in the low half of an octet.
-fn low_digit_at(input: &mut Cursor) -> Result<u8, Refusal<FieldFault>>
-    ensures { Gives (λ d. d) result input.new.place input.new.rest.now ((octet_by Short low_digit).read input.old.place input.old.rest.now) }
-{
-    let place = input.place;
-    let octet = input.octet()?;
-    let low = octet % 16;
-    if low < 15 {
-        Ok(low)
-    } else {
-        Err(Refusal::At {
-            place,
-            why: FieldFault::BadDigit,
-        })
+/// Does nothing: its contract says that an address is a lawful field, and that what is written is read back.
+#[tactic(auto, using(crate::specs::AddressLaws::address_lawful, crate::specs::AddressSpelling::address_again))]
+pub fn address_laws()
+    ensures lawful { IsLawful Short address }
+    ensures read_back { (value : AddressValue) (rest : List ℕ) → HasSpelling value → address.reads value (address_octets value) rest }
+{}
+
+/// Why a text is no address.
+#[derive(Clone, Copy, Debug, PartialEq, Eq)]
+pub enum AddressFault {
+    /// Memory ran out.
+    Memory,
+    /// A character stands where only digits may.
+    BadDigit,
+    /// There are more than 20 digits.
+    TooLong,
+}
+
+impl From<AllocError> for AddressFault {
+    ghost from_gives = { λ _ e. e ≡ Memory };
+
+    fn from(_e: AllocError) -> AddressFault {
+        AddressFault::Memory
     }
 }
 
-/// Two digits in an octet, the one in the low half first.
-fn both_digits_at(input: &mut Cursor) -> Result<(u8, u8), Refusal<FieldFault>>
-    ensures { Gives (λ d. d) result input.new.place input.new.rest.now ((octet_by Short both_digits).read input.old.place input.old.rest.now) }
+/// What stands behind a `+` at the front of a text.
+fn international(text: &str) -> Option<&str>
+    ensures { MatchOption result ((rest : List ℕ) → chars text.now ≢ plus ∷ rest) (λ rest. chars text.now ≡ plus ∷ chars rest.now) }
 {
-    let place = input.place;
-    let octet = input.octet()?;
-    let (low, high) = (octet % 16, octet / 16);
-    if low < 15 && high < 15 {
-        Ok((low, high))
-    } else {
-        Err(Refusal::At {
-            place,
-            why: FieldFault::BadDigit,
-        })
-    }
+    text.strip_prefix('+')
 }
 
-/// The digits of an address, two an octet.
-fn digits_at(alloc: Global, input: &mut Cursor, count: u8) -> Result<Vec<u8>, Refusal<FieldFault>>
-    ensures { Gives (λ v. v.items) result input.new.place input.new.rest.now ((digits count).read input.old.place input.old.rest.now) }
+/// An address with digits in plan 1, telephone numbers.
+fn number(alloc: Global, type_of_number: u8, text: &str) -> Result<Address, AddressFault>
+    requires { type_of_number < 2 }
+    ensures { result ≢ Err Memory → result ≡ number_of type_of_number (digits_of_text (chars text.now)) }
 {
-    let mut digits = Vec::new(alloc);
-    for _ in 0..count / 2 {
-        let (low, high) = both_digits_at(input)?;
-        digits.push(low)?;
-        digits.push(high)?;
+    let Some(values) = digits_of(alloc, text)? else {
+        return Err(AddressFault::BadDigit);
+    };
+    if values.len() > 20 {
+        return Err(AddressFault::TooLong);
     }
-    if count % 2 == 1 {
-        digits.push(low_digit_at(input)?)?;
-    }
-    Ok(digits)
-}
-
-/// Writes digits, two an octet.
-fn put_digits(out: &mut Vec<u8>, digits: &[u8]) -> Result<(), AllocError>
-    requires { All (λ digit. digit < 15) digits.now }
-    ensures { OnOk result (out.new.items ≡ out.old.items ++ digit_octets digits.now) }
-{
-    let mut rest = digits;
-    while let [low, high, others @ ..] = rest {
-        out.push(16 * *high + *low)?;
-        rest = others;
-    }
-    if rest.len() == 1 {
-        out.push(240 + rest[0])?;
-    }
-    Ok(())
+    Ok(Address {
+        type_of_number,
+        plan: 1,
+        digits: Digits::new(values),
+    })
 }
 
 impl Address {
+    /// The address that a text says: `+` and digits are a number of type 1, digits alone one of type 0,
+    /// both in plan 1. Digits are `0` to `9`, `*`, `#`, `a`, `b` and `c`. A bad digit is found before too many.
+    pub fn from_text(alloc: Global, text: &str) -> Result<Address, AddressFault>
+        ensures { result ≢ Err Memory → result ≡ address_of_text (chars text.now) }
+    {
+        match international(text) {
+            Some(digits) => number(alloc, 1, digits),
+            None => number(alloc, 0, text),
+        }
+    }
+
+    /// The text of the address: its digits, behind a `+` where the type of number is 1.
+    #[tactic(auto, unfolding(crate::specs::AddressText::address_text))]
+    pub fn to_text(&self, alloc: Global) -> Result<String, AllocError>
+        ensures { IfOk result (λ text. chars (string_bytes text) ≡ address_text self.now) }
+    {
+        let mut text = String::new(alloc);
+        if self.type_of_number == 1 {
+            text.push('+')?;
+        }
+        push_digits(&mut text, self.digits.as_slice())?;
+        Ok(text)
+    }
+
+    /// The octets of the address: the number of digits, the type octet with bit 7 set, and the digits.
+    pub fn write(&self, alloc: Global) -> Result<Vec<u8>, AllocError>
+        ensures { IfOk result (λ octets. octets.items ≡ address_octets self.now) }
+    {
+        let mut octets = Vec::new(alloc);
+        self.write_to(&mut octets)?;
+        Ok(octets)
+    }
+
     /// Adds the octets of the address.
     #[tactic(auto, unfolding(crate::specs::Address::address_octets))]
     pub fn write_to(&self, out: &mut Vec<u8>) -> Result<(), AllocError>
         ensures { OnOk result (out.new.items ≡ out.old.items ++ address_octets self.now) }
     {
         let digits = &self.digits;
-        out.push(digits.values.len() as u8)?;
+        out.push(digits.as_slice().len() as u8)?;
         out.push(128 + 16 * self.type_of_number + self.plan)?;
-        put_digits(out, &digits.values)
+        put_digits(out, digits.as_slice())
     }
 
     /// Reads an address at the front of the octets, and says how many it takes.
@@ -163,7 +170,10 @@ impl Address {
         Ok(Address {
             type_of_number,
             plan: kind % 16,
-            digits: Digits { values },
+            digits: Digits::new(values),
         })
     }
 }
+
+#[cfg(test)]
+mod tests;

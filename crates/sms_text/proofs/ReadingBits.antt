@@ -1,10 +1,9 @@
 -- Bits that are read one by one.
-use Rattle.std.proofs.Common.{◌≡◌, ℕ, zero, suc, ◌+◌, ◌-◌, ◌*◌, ◌/◌, ◌%◌, ◌^◌, ◌<◌, ◌≤◌, Bool, true, false, List, [], ◌∷◌, ◌++◌, length, take, drop, replicate, get_or, Option, Some, None, Result, Ok, Err, refl, sym, ap, subst, ◌∙◌, append_assoc, arith, length-append, length-drop}
+use Rattle.std.proofs.Common.{◌≡◌, ℕ, zero, suc, ◌+◌, ◌-◌, ◌*◌, ◌/◌, ◌%◌, ◌^◌, ◌<◌, ◌≤◌, List, [], ◌∷◌, ◌++◌, length, take, drop, replicate, get_or, refl, sym, ap, subst, ◌∙◌, append_assoc, arith, length-append, length-drop}
 use Rattle.std.proofs.Math.Nat.{pow-succ', div-div-eq-div-mul, pow-le-pow_right}
-use Rattle.std.proofs.lemmas.List.{append-nil, take_at, drop_at, take_all, take_more, take-append-drop, length-take, length-replicate}
-use Rattle.std.proofs.lemmas.Nat.{one_shl, and_mask, pow_below}
-use Rattle.std.specs.Prelude.{bit_and, IfOk, IsSomeAnd, MatchOption}
-use Rattle.std.specs.Global.{Vec}
+use Rattle.std.proofs.lemmas.List.{append-nil, take_at, drop_at, take_all, take-append-drop, length-take, length-replicate}
+use Rattle.std.proofs.lemmas.Nat.{one_shl, and_mask}
+use Rattle.std.specs.Prelude.{bit_and}
 use Rattle.std.specs.List.{AllByRecursion}
 use Rattle.sms_text.specs.Bits.{bits, number, octet_bits, septet_bits, septets_of, unpacked, Packed, PackedPlain, AreSeptets}
 
@@ -157,12 +156,6 @@ length-septet_bits (x ∷ xs) = ap length (septet_bits-cons x xs) ∙ length-app
 pub enough : (fill : ℕ) (septets octets : List ℕ) → Packed fill septets octets → fill + 7 * length septets ≤ 8 * length octets
 enough fill septets octets p =
     omega (arith, p.filled, ap length p.parts, length-octet_bits octets, length-append (p.front ++ septet_bits septets) p.back, length-append p.front (septet_bits septets), length-septet_bits septets)
-
-pub undone : {E : Type 0} (r : Result (Option (Vec ℕ)) E) (fill count : ℕ) (octets septets : List ℕ) → AreSeptets septets → length septets ≡ count → Packed fill septets octets
-    → IfOk r (λ found. MatchOption found (8 * length octets < fill + 7 * count) (λ again. (again.items ≡ unpacked fill count octets) × (fill + 7 * count ≤ 8 * length octets))) → IfOk r (λ found. IsSomeAnd found (λ again. again.items ≡ septets))
-undone (Ok (Some v)) fill count octets septets fits len p h = h.0 ∙ ap (λ (n : ℕ). unpacked fill n octets) (sym len) ∙ unpacked-packed fill septets octets fits p
-undone (Ok None) fill count octets septets fits len p h = absurd (omega (arith, h, len, enough fill septets octets p))
-undone (Err e) fill count octets septets fits len p h = tt
 
 -- spare bits that are 0 are spare bits
 pub plain_is_packed : (fill : ℕ) (septets octets : List ℕ) → PackedPlain fill septets octets → Packed fill septets octets

@@ -1,46 +1,47 @@
--- User data with a header are a lawful field.
-use Rattle.std.proofs.Common.{◌≡◌, ℕ, ◌+◌, ◌-◌, ◌*◌, ◌/◌, ◌<◌, ◌≤◌, Bool, true, false, cond, leb, List, [], Result, Ok, Err, refl, sym, ap, subst, lit<, arith}
-use Rattle.sms_field.specs.Field.{Field, ◌>>=◌, always, octet_by, octets_of, IsLawful, IsSelfContained}
-use Rattle.sms_field.specs.declared.coding.Alphabet.{Alphabet}
-use Rattle.sms_field.specs.declared.coding.Alphabet.TheVariants.{Gsm7, EightBit, Ucs2, Compressed}
-use Rattle.sms_field.proofs.Join.{join_lawful, join_self_contained}
-use Rattle.sms_field.proofs.Single.{always_self, always_lawful, octet_by_self, octet_by_lawful, octets_of_self, octets_of_lawful, apart_else}
-use Rattle.sms_tpdu.specs.declared.fault.UnitFault.{UnitFault}
-use Rattle.sms_tpdu.specs.declared.fault.UnitFault.TheVariants.{Short, NotYet, DataTooLong}
-use Rattle.sms_tpdu.specs.Header.{header_units, greatest_length, length_with_header, header_length, octets_of_length, data_with_header}
+-- A header is a lawful field, and what is written is read back.
+use Rattle.std.proofs.Common.{◌≡◌, ℕ, ◌≤◌, leb, List, [], ◌∷◌, ◌++◌, length, Ok, refl, sym, subst, lit<, arith}
+use Rattle.std.proofs.lemmas.Bool.{le-leb}
+use Rattle.sms_text.specs.Octets.{IsOctets}
+use Rattle.sms_field.specs.Field.{IsLawful}
+use Rattle.sms_field.specs.Reading.{Reads}
+use Rattle.sms_field.specs.Address.{up_to}
+use Rattle.sms_field.specs.JoinLaws.{join_lawful}
+use Rattle.sms_field.specs.SingleLaws.{octet_by_self, octet_by_lawful, octets_of_lawful, apart_else}
+use Rattle.sms_field.specs.ReadingLaws as promise
+use Rattle.sms_tpdu.specs.declared.fault.UnitFault.TheVariants.{Short, HeaderTooLong}
+use Rattle.sms_tpdu.specs.Header.{header, SpellsHeader}
 
--- some length has room for a header
-any_length : (alphabet : Alphabet) → length_with_header alphabet 140 ≡ Ok 140
-any_length Gsm7 = refl
-any_length EightBit = refl
-any_length Ucs2 = refl
-any_length Compressed = refl
+pub header_lawful : IsLawful Short header
+unfolding header
+header_lawful =
+    join_lawful _ _ Short (octet_by_self Short (up_to 139 HeaderTooLong)) (octet_by_lawful Short (up_to 139 HeaderTooLong) (0, lit< tt, 0, refl) (λ o. apart_else Short (leb o 139) o HeaderTooLong (λ e. cc))) (λ size _ _ _.
+    octets_of_lawful Short size)
 
-abbrev ok : ℕ → Result ℕ UnitFault
-ok n = Ok n
+few_octets : (n : ℕ) → n ≤ 139 → up_to 139 HeaderTooLong n ≡ Ok n
+few_octets n h = rw (le-leb n 139 h) refl
 
-same_ok : (a b : ℕ) → ok a ≡ ok b → a ≡ b
-same_ok a b e = cc
+header_again : (value rest : List ℕ) → length value ≤ 139 → header.reads value (length value ∷ value) rest
+unfolding header
+header_again value rest few = record {
+  choice = length value;
+  front = length value ∷ [];
+  back = value;
+  parts = refl;
+  of_first = (length value, refl, few_octets (length value) few);
+  of_second = (refl, refl);
+}
 
--- a length that has room for the shortest header has it for the header of length 0
-has_room : (alphabet : Alphabet) (o count : ℕ) → length_with_header alphabet o ≡ Ok count → header_length alphabet count 0 ≡ Ok 0
-has_room alphabet o count e = go (leb o (greatest_length alphabet)) (leb (header_units alphabet 1) o) refl e
-  where
-    go : (a b : Bool) → leb (header_units alphabet 1) o ≡ b → cond a (cond b (Ok o) (Err NotYet)) (Err DataTooLong) ≡ Ok count → header_length alphabet count 0 ≡ Ok 0
-    go true true is f = subst (λ (n : ℕ). header_length alphabet n 0 ≡ Ok 0) (same_ok o count f) (rw is refl)
-    go true false is f = absurd cc
-    go false b is f = absurd cc
+pub one_reading : (v w : List ℕ) (input : List ℕ) (m n : ℕ) → IsOctets input → Reads header v input m → Reads header w input n → (w ≡ v) × (n ≡ m)
+one_reading = promise.one_reading header Short header_lawful
 
-length_apart : (a b : Bool) (o : ℕ) → cond a (cond b (Ok o) (Err NotYet)) (Err DataTooLong) ≡ Err Short → ⊥
-length_apart true true o e = cc
-length_apart true false o e = cc
-length_apart false b o e = cc
+pub spelled_in_octets : (v octets : List ℕ) → SpellsHeader v octets → IsOctets octets
+spelled_in_octets v octets s = subst IsOctets (sym s.1) (omega (arith, s.0.0), s.0.1)
 
-pub data_with_header_lawful : (alphabet : Alphabet) → IsLawful Short (data_with_header alphabet)
-unfolding data_with_header
-data_with_header_lawful alphabet =
-    join_lawful _ _ Short (octet_by_self Short (length_with_header alphabet)) (octet_by_lawful Short (length_with_header alphabet) (140, lit< tt, 140, any_length alphabet) (λ o. length_apart (leb o (greatest_length alphabet)) (leb (header_units alphabet 1) o) o)) (λ count octets rest p.
-    join_lawful _ _ Short (octet_by_self Short (header_length alphabet count)) (octet_by_lawful Short (header_length alphabet count) (0, lit< tt, 0, has_room alphabet p.0 count p.2) (λ o. apart_else Short (leb (header_units alphabet (o + 1)) count) o NotYet (λ e. cc))) (λ size _ _ _.
-    join_lawful _ _ Short (octets_of_self Short size) (octets_of_lawful Short size) (λ header _ _ _.
-    join_lawful _ _ Short (octets_of_self Short (octets_of_length alphabet count - (size + 1))) (octets_of_lawful Short (octets_of_length alphabet count - (size + 1))) (λ packed _ _ _.
-    always_lawful Short _))))
+pub read_back : (v octets more : List ℕ) → SpellsHeader v octets → Unit {0} → Reads header v (octets ++ more) (length octets)
+read_back v octets more s f = record {
+  octets = octets;
+  rest = more;
+  parts = refl;
+  used_is = refl;
+  read = subst (λ (l : List ℕ). header.reads v l more) (sym s.1) (header_again v more s.0.0);
+}

@@ -17,4 +17,4 @@ returns-clause-value c =
     let fourth = c.octet_of-4.ensures in
     let fifth = c.octet_of-5.ensures in
     let sixth = c.octet_of-6.ensures in
-    rw (c.new.ensures, c.octet_of_zone.ensures, same) (stamp_is c.args.seconds _ date.0 date.1 date.2 c.args.quarters _ _ _ _ _ _ c.date_of-year.ensures.date (omega arith) first.digits second.digits third.digits fourth.digits fifth.digits sixth.digits first.value second.value third.value fourth.value fifth.value sixth.value west east (omega (arith, ints, sum, c.date_of-year.ensures.value)))
+    rw (c.new.ensures.is, c.octet_of_zone.ensures, same) (stamp_is c.args.seconds _ date.0 date.1 date.2 c.args.quarters _ _ _ _ _ _ c.date_of-year.ensures.date (omega arith) first.digits second.digits third.digits fourth.digits fifth.digits sixth.digits first.value second.value third.value fourth.value fifth.value sixth.value west east (omega (arith, ints, sum, c.date_of-year.ensures.value)))
