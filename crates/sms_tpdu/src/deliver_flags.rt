@@ -15,6 +15,8 @@ pub struct DeliverFlags {
     pub looped: bool,
     /// A status report will go to the sender.
     pub report: bool,
+    /// The user data begin with a header.
+    pub header: bool,
     /// A reply goes by the same service centre.
     pub reply: bool,
 }
@@ -27,13 +29,11 @@ impl DeliverFlags {
         if has_bit(octet, 0) || has_bit(octet, 1) {
             return Err(UnitFault::WrongType);
         }
-        if has_bit(octet, 6) {
-            return Err(UnitFault::NotYet);
-        }
         Ok(DeliverFlags {
             more: !has_bit(octet, 2),
             looped: has_bit(octet, 3),
             report: has_bit(octet, 5),
+            header: has_bit(octet, 6),
             reply: has_bit(octet, 7),
         })
     }
@@ -45,6 +45,7 @@ impl DeliverFlags {
         u8::from(!self.more) << 2
             | u8::from(self.looped) << 3
             | u8::from(self.report) << 5
+            | u8::from(self.header) << 6
             | u8::from(self.reply) << 7
     }
 }

@@ -73,7 +73,7 @@ fn submit_at(alloc: Global, input: &mut Cursor) -> Result<Submit, Refusal<UnitFa
     let pid = input.octet()?;
     let dcs = input.octet()?;
     let validity = validity_at(input, flags.format)?;
-    let user = user_data_at(alloc, input, alphabet_of(dcs))?;
+    let user = user_data_at(alloc, input, flags.header, alphabet_of(dcs))?;
     Ok(Submit {
         reject: flags.reject,
         validity,
@@ -113,6 +113,7 @@ impl Unit for Submit {
             reject: self.reject,
             format: ValidityFormat::of(&self.validity),
             report: self.report,
+            header: self.user.header.is_some(),
             reply: self.reply,
         };
         let mut out = Vec::new(alloc);

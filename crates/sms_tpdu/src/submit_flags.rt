@@ -16,6 +16,8 @@ pub struct SubmitFlags {
     pub format: ValidityFormat,
     /// A status report is wanted.
     pub report: bool,
+    /// The user data begin with a header.
+    pub header: bool,
     /// A reply goes by the same service centre.
     pub reply: bool,
 }
@@ -28,13 +30,11 @@ impl SubmitFlags {
         if has_bit(octet, 1) || !has_bit(octet, 0) {
             return Err(UnitFault::WrongType);
         }
-        if has_bit(octet, 6) {
-            return Err(UnitFault::NotYet);
-        }
         Ok(SubmitFlags {
             reject: has_bit(octet, 2),
             format: ValidityFormat::from_bits(has_bit(octet, 4), has_bit(octet, 3)),
             report: has_bit(octet, 5),
+            header: has_bit(octet, 6),
             reply: has_bit(octet, 7),
         })
     }
@@ -48,6 +48,7 @@ impl SubmitFlags {
             | u8::from(low) << 3
             | u8::from(high) << 4
             | u8::from(self.report) << 5
+            | u8::from(self.header) << 6
             | u8::from(self.reply) << 7
     }
 }

@@ -11,5 +11,5 @@ invariant_of-result c = record {
   target = subst HasSpelling c.target.view_is c.target.invariant;
   pid = omega arith;
   dcs = omega arith;
-  user = subst (λ (a : Alphabet). FitsAlphabet a c.in_ok-user.user.body) c.alphabet_of.ensures c.in_ok-user.ensures.fits;
+  user = subst (λ (a : Alphabet). FitsAlphabet a c.in_ok-user.user) c.alphabet_of.ensures c.in_ok-user.ensures.fits;
 }
