@@ -1,8 +1,8 @@
 -- So many octets as were asked for are read.
-use Rattle.std.proofs.Common.{◌≡◌, ℕ, ◌+◌, ◌-◌, ◌<◌, ◌≤◌, Bool, true, false, cond, ltb, List, length, take, drop, refl, sym, ap, ◌∙◌, arith}
-use Rattle.std.proofs.lemmas.Bool.{ltb-true, ltb-false}
+use Rattle.std.proofs.Common.{◌≡◌, ℕ, ◌+◌, ◌≤◌, Bool, true, false, cond, ltb, List, length, take, drop, refl, ap, arith}
+use Rattle.std.proofs.lemmas.Bool.{ltb-false}
 use Rattle.std.proofs.lemmas.List.{length-take}
-use Rattle.sms_field.specs.Field.{Outcome, found, refused, octets_of}
+use Rattle.sms_field.specs.Field.{found, refused, octets_of}
 
 found_length : {W : Type 0} (short : W) (n at : ℕ) (input : List ℕ) (b : Bool) → ltb (length input) n ≡ b → (value rest : List ℕ) (after : ℕ) → cond b (refused (at + length input) short) (found (take n input) (at + n) (drop n input)) ≡ found value after rest → length value ≡ n
 found_length short n at input true is value rest after e = absurd cc

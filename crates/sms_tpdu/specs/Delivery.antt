@@ -23,4 +23,4 @@ pub record IsDeliverable (d : Delivery) : Type 0 where
   pub pid : d.pid < 256
   pub dcs : d.dcs < 256
   pub stamp : IsStamp d.stamp
-  pub user : FitsAlphabet (alphabet_at d.dcs) d.user.body
+  pub user : FitsAlphabet (alphabet_at d.dcs) d.user

@@ -1,16 +1,14 @@
 -- A header is a lawful field, and what is written is read back.
-use Rattle.std.proofs.Common.{◌≡◌, ℕ, ◌+◌, ◌<◌, ◌≤◌, leb, List, [], ◌∷◌, ◌++◌, length, Result, Ok, refl, sym, ap, subst, lit<, arith}
+use Rattle.std.proofs.Common.{◌≡◌, ℕ, ◌≤◌, leb, List, [], ◌∷◌, ◌++◌, length, Ok, refl, sym, subst, lit<, arith}
 use Rattle.std.proofs.lemmas.Bool.{le-leb}
-use Rattle.std.proofs.lemmas.List.{append-nil}
 use Rattle.sms_text.specs.Octets.{IsOctets}
-use Rattle.sms_field.specs.Field.{Field, ◌>>=◌, octet_by, octets_of, IsLawful}
+use Rattle.sms_field.specs.Field.{IsLawful}
 use Rattle.sms_field.specs.Reading.{Reads}
 use Rattle.sms_field.specs.Address.{up_to}
-use Rattle.sms_field.proofs.Join.{join_lawful}
-use Rattle.sms_field.proofs.Single.{octet_by_self, octet_by_lawful, octets_of_lawful, apart_else}
-use Rattle.sms_field.proofs.Promise as promise
+use Rattle.sms_field.specs.JoinLaws.{join_lawful}
+use Rattle.sms_field.specs.SingleLaws.{octet_by_self, octet_by_lawful, octets_of_lawful, apart_else}
+use Rattle.sms_field.specs.ReadingLaws as promise
 use Rattle.sms_tpdu.specs.declared.fault.UnitFault.TheVariants.{Short, HeaderTooLong}
-use Rattle.sms_tpdu.specs.HeaderValue.{IsHeader}
 use Rattle.sms_tpdu.specs.Header.{header, SpellsHeader}
 
 pub header_lawful : IsLawful Short header

@@ -25,4 +25,4 @@ pub record IsSubmittable (s : Submission) : Type 0 where
   pub target : HasSpelling s.target
   pub pid : s.pid < 256
   pub dcs : s.dcs < 256
-  pub user : FitsAlphabet (alphabet_at s.dcs) s.user.body
+  pub user : FitsAlphabet (alphabet_at s.dcs) s.user

@@ -8,8 +8,8 @@ ghost use Rattle.sms_tpdu.specs.declared.fault.UnitFault.TheVariants.{Short};
 
 use crate::address::address_at;
 use crate::data::{put_user_data, user_data_at};
+use crate::deliver_flags::DeliverFlags;
 use crate::fault::UnitFault;
-use crate::flags::DeliverFlags;
 use crate::unit::Unit;
 use crate::user::UserData;
 use sms_field::{Address, Cursor, Refusal, Stamp, alphabet_of};
@@ -71,7 +71,7 @@ fn deliver_at(alloc: Global, input: &mut Cursor) -> Result<Deliver, Refusal<Unit
     let pid = input.octet()?;
     let dcs = input.octet()?;
     let stamp = Stamp::read_at(input)?;
-    let user = user_data_at(alloc, input, alphabet_of(dcs))?;
+    let user = user_data_at(alloc, input, flags.header, alphabet_of(dcs))?;
     Ok(Deliver {
         more: flags.more,
         looped: flags.looped,
@@ -111,6 +111,7 @@ impl Unit for Deliver {
             more: self.more,
             looped: self.looped,
             report: self.report,
+            header: self.user.header.is_some(),
             reply: self.reply,
         };
         let mut out = Vec::new(alloc);

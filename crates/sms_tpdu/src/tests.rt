@@ -1,7 +1,7 @@
 //! Units whose octets are known from the standard's tables.
 
-use crate::{Body, Deliver, Refusal, Unit, UnitFault};
-use sms_field::FieldFault;
+use crate::{Body, Deliver, Refusal, Submit, Unit, UnitFault, reread};
+use sms_field::{FieldFault, Stamp, Validity};
 use std::test::Fail;
 
 /// A delivery of `hellohello`.
@@ -37,7 +37,8 @@ fn reads_and_writes_a_delivery(rt: HostRuntime) -> Result<(), Fail> {
         }
         Body::Octets(_) => assert!(rt; false, "septets are wanted"),
     }
-    let written = deliver.write(rt.alloc())?;
+    let again = reread(rt.alloc(), &deliver)?;
+    let written = again.write(rt.alloc())?;
     assert_eq!(rt; written.as_slice(), HELLO.as_slice());
     Ok(())
 }
@@ -74,6 +75,115 @@ fn refuses_a_delivery(rt: HostRuntime) -> Result<(), Fail> {
             Some(Refusal::At { place, why }),
             "{octets:?}"
         );
+    }
+    Ok(())
+}
+
+/// A submission as its octets, and what they say.
+#[derive(Drop)]
+struct Row<'a> {
+    octets: &'a [u8],
+    flags: (bool, bool, bool),
+    reference: u8,
+    validity: Validity,
+    number: (u8, u8),
+    digits: &'a [u8],
+    septets: &'a [u8],
+}
+
+#[test]
+fn reads_and_writes_submissions(rt: HostRuntime) -> Result<(), Fail> {
+    let rows = [
+        Row {
+            octets: &[
+                0x11, 0x00, 0x0B, 0x91, 0x64, 0x07, 0x28, 0x15, 0x53, 0xF8, 0x00, 0x00, 0xAA, 0x0A,
+                0xE8, 0x32, 0x9B, 0xFD, 0x46, 0x97, 0xD9, 0xEC, 0x37,
+            ],
+            flags: (false, false, false),
+            reference: 0,
+            validity: Validity::Relative(170),
+            number: (1, 1),
+            digits: &[4, 6, 7, 0, 8, 2, 5, 1, 3, 5, 8],
+            septets: b"hellohello",
+        },
+        // ESC, and the code of the euro sign in the extension table
+        Row {
+            octets: &[
+                0x01, 0x00, 0x04, 0x91, 0x01, 0x20, 0x00, 0x00, 0x02, 0x9B, 0x32,
+            ],
+            flags: (false, false, false),
+            reference: 0,
+            validity: Validity::Absent,
+            number: (1, 1),
+            digits: &[1, 0, 0, 2],
+            septets: &[0x1B, 0x65],
+        },
+        // a repeat is to be rejected
+        Row {
+            octets: &[0x05, 0xFF, 0x04, 0x81, 0x01, 0x20, 0x00, 0x00, 0x01, 0x61],
+            flags: (true, false, false),
+            reference: 255,
+            validity: Validity::Absent,
+            number: (0, 1),
+            digits: &[1, 0, 0, 2],
+            septets: b"a",
+        },
+        // a number with an odd number of digits; the first letter of the alphabet has the code 0
+        Row {
+            octets: &[0x01, 0x00, 0x03, 0x91, 0x21, 0xF3, 0x00, 0x00, 0x01, 0x00],
+            flags: (false, false, false),
+            reference: 0,
+            validity: Validity::Absent,
+            number: (1, 1),
+            digits: &[1, 2, 3],
+            septets: &[0x00],
+        },
+        // the enhanced format, a report wanted
+        Row {
+            octets: &[
+                0x29, 0x01, 0x02, 0x81, 0x21, 0x00, 0x00, 1, 2, 3, 4, 5, 6, 7, 0x00,
+            ],
+            flags: (false, true, false),
+            reference: 1,
+            validity: Validity::Enhanced([1, 2, 3, 4, 5, 6, 7]),
+            number: (0, 1),
+            digits: &[1, 2],
+            septets: &[],
+        },
+        // a stamp, a reply by the same service centre
+        Row {
+            octets: &[
+                0x99, 0x02, 0x02, 0x81, 0x21, 0x00, 0x00, 0x99, 0x30, 0x92, 0x51, 0x61, 0x95, 0x80,
+                0x00,
+            ],
+            flags: (false, false, true),
+            reference: 2,
+            validity: Validity::Absolute(Stamp::new([0x99, 0x30, 0x92, 0x51, 0x61, 0x95, 0x80])),
+            number: (0, 1),
+            digits: &[1, 2],
+            septets: &[],
+        },
+    ];
+    for row in rows {
+        let (submit, used) = Submit::read(rt.alloc(), row.octets)?;
+        assert_eq!(rt; used, row.octets.len());
+        assert_eq!(rt; (submit.reject, submit.report, submit.reply), row.flags);
+        assert_eq!(rt;
+            (submit.reference, submit.validity),
+            (row.reference, row.validity)
+        );
+        assert_eq!(rt;
+            (submit.target.type_of_number, submit.target.plan),
+            row.number
+        );
+        assert_eq!(rt; submit.target.digits.as_slice(), row.digits);
+        match &submit.user.body {
+            Body::Septets(septets) => assert_eq!(rt; septets.as_slice(), row.septets),
+            Body::Octets(_) => assert!(rt; false, "septets are wanted"),
+        }
+        let again = reread(rt.alloc(), &submit)?;
+        let written = again.write(rt.alloc())?;
+        assert_eq!(rt; written.as_slice(), row.octets);
     }
     Ok(())
 }

@@ -10,5 +10,5 @@ invariant_of-result c = record {
   pid = omega arith;
   dcs = omega arith;
   stamp = c.in_ok-stamp.ensures.in_range;
-  user = subst (λ (a : Alphabet). FitsAlphabet a c.in_ok-user.user.body) c.alphabet_of.ensures c.in_ok-user.ensures.fits;
+  user = subst (λ (a : Alphabet). FitsAlphabet a c.in_ok-user.user) c.alphabet_of.ensures c.in_ok-user.ensures.fits;
 }

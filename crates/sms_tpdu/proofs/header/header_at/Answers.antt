@@ -1,4 +1,4 @@
-use Rattle.std.proofs.Common.{◌≡◌, ◌≤◌, arith, ap, length}
+use Rattle.std.proofs.Common.{arith, ap, length}
 use Rattle.sms_tpdu.specs.declared.fault.UnitFault.TheVariants.{Short}
 use Rattle.sms_tpdu.proofs.Counted.{counted}
 use Rattle.sms_tpdu.proofs.header.header_at.Goals as goal

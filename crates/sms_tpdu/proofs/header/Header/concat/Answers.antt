@@ -1,4 +1,4 @@
-use Rattle.std.proofs.Common.{◌≡◌, ◌∙◌, sym, length, None, arith}
+use Rattle.std.proofs.Common.{◌∙◌, sym, length, None, arith}
 use Rattle.std.proofs.lemmas.Bool.{eqb-true, eqb-false}
 use Rattle.sms_tpdu.proofs.ElementLaws.{one_concat, further, at_end, cut_before_length, cut_behind_length}
 use Rattle.sms_tpdu.proofs.header.Header.concat.Goals as goal

@@ -1,4 +1,4 @@
-use Rattle.std.proofs.Common.{◌≡◌, ℕ, List, Some, sym, ◌∙◌, subst, rules}
+use Rattle.std.proofs.Common.{◌≡◌, ℕ, List, Some, sym, subst, rules}
 use Rattle.sms_tpdu.specs.Elements.{element_octets}
 use Rattle.sms_tpdu.specs.Concatenation.{concat_element, IsConcatOf}
 use Rattle.sms_tpdu.proofs.ElementLaws.{own}

@@ -3,7 +3,7 @@ use Rattle.std.proofs.lemmas.Result.{err_from_is_err_and}
 use Rattle.sms_tpdu.specs.declared.fault.UnitFault.TheVariants.{Short}
 use Rattle.sms_tpdu.specs.Header.{header}
 use Rattle.sms_tpdu.specs.HeaderLaws.{header_lawful}
-use Rattle.sms_field.proofs.Promise.{promise_found, promise_refused}
+use Rattle.sms_field.specs.ReadingLaws.{promise_found, promise_refused}
 use Rattle.sms_tpdu.proofs.header.HeaderUnit.read.Goals as goal
 
 pub returns-clause-found : goal.returns-clause-found

@@ -1,55 +1,11 @@
-//! The first octet of a unit: its type, and flags.
+//! The first octet of a submission: its type, and flags.
 
 ghost use Rattle.std.specs.Prelude.{◌≡◌};
-ghost use Rattle.sms_tpdu.specs.DeliverFlags.{deliver_flags, deliver_octet};
 ghost use Rattle.sms_tpdu.specs.SubmitFlags.{submit_flags, submit_octet};
 
 use crate::fault::UnitFault;
 use crate::validity::ValidityFormat;
 use sms_field::has_bit;
-
-/// The flags in the first octet of a delivery (TS 23.040, 9.2.2.1).
-#[derive(Clone, Copy)]
-pub struct DeliverFlags {
-    /// More messages wait in the service centre.
-    pub more: bool,
-    /// The message was forwarded, to keep it from going round.
-    pub looped: bool,
-    /// A status report will go to the sender.
-    pub report: bool,
-    /// A reply goes by the same service centre.
-    pub reply: bool,
-}
-
-impl DeliverFlags {
-    /// What the first octet of a delivery says.
-    pub fn from_octet(octet: u8) -> Result<DeliverFlags, UnitFault>
-        ensures { result ≡ deliver_flags octet }
-    {
-        if has_bit(octet, 0) || has_bit(octet, 1) {
-            return Err(UnitFault::WrongType);
-        }
-        if has_bit(octet, 6) {
-            return Err(UnitFault::NotYet);
-        }
-        Ok(DeliverFlags {
-            more: !has_bit(octet, 2),
-            looped: has_bit(octet, 3),
-            report: has_bit(octet, 5),
-            reply: has_bit(octet, 7),
-        })
-    }
-
-    /// The first octet of a delivery with these flags.
-    pub fn to_octet(self) -> u8
-        ensures { result ≡ deliver_octet self }
-    {
-        u8::from(!self.more) << 2
-            | u8::from(self.looped) << 3
-            | u8::from(self.report) << 5
-            | u8::from(self.reply) << 7
-    }
-}
 
 /// The flags in the first octet of a submission (TS 23.040, 9.2.2.2).
 #[derive(Clone, Copy)]
@@ -60,6 +16,8 @@ pub struct SubmitFlags {
     pub format: ValidityFormat,
     /// A status report is wanted.
     pub report: bool,
+    /// The user data begin with a header.
+    pub header: bool,
     /// A reply goes by the same service centre.
     pub reply: bool,
 }
@@ -72,13 +30,11 @@ impl SubmitFlags {
         if has_bit(octet, 1) || !has_bit(octet, 0) {
             return Err(UnitFault::WrongType);
         }
-        if has_bit(octet, 6) {
-            return Err(UnitFault::NotYet);
-        }
         Ok(SubmitFlags {
             reject: has_bit(octet, 2),
             format: ValidityFormat::from_bits(has_bit(octet, 4), has_bit(octet, 3)),
             report: has_bit(octet, 5),
+            header: has_bit(octet, 6),
             reply: has_bit(octet, 7),
         })
     }
@@ -92,6 +48,7 @@ impl SubmitFlags {
             | u8::from(low) << 3
             | u8::from(high) << 4
             | u8::from(self.report) << 5
+            | u8::from(self.header) << 6
             | u8::from(self.reply) << 7
     }
 }
