@@ -23,7 +23,7 @@ digits_self (suc (suc n)) =
 low_apart : (o : ℕ) → low_digit o ≡ Err Short → ⊥
 low_apart o = apart_else Short (ltb (o % 16) 15) (o % 16) BadDigit (λ e. cc)
 
-both_apart : (o : ℕ) → both_digits o ≡ Err Short → ⊥
+pub both_apart : (o : ℕ) → both_digits o ≡ Err Short → ⊥
 both_apart o = apart_else Short (ltb (o % 16) 15 && ltb (o / 16) 15) (o % 16, o / 16) BadDigit (λ e. cc)
 
 pub digits_lawful : (n : ℕ) → IsLawful Short (digits n)
@@ -44,7 +44,7 @@ one_digit d h =
     let low : (240 + d) % 16 ≡ d = omega arith in
     rw low (chooses (ltb d 15) d BadDigit (lt-ltb d 15 h))
 
-two_digits : (d e : ℕ) → d < 15 → e < 15 → both_digits (16 * e + d) ≡ Ok (d, e)
+pub two_digits : (d e : ℕ) → d < 15 → e < 15 → both_digits (16 * e + d) ≡ Ok (d, e)
 two_digits d e h k =
     let low : (16 * e + d) % 16 ≡ d = omega arith in
     let high : (16 * e + d) / 16 ≡ e = omega arith in

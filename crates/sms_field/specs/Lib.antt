@@ -22,6 +22,10 @@ pub mod AddressText
 pub mod NameSpelling
 pub mod AddressLaws
 pub mod AddressSpelling
+pub mod RelayAddressValue
+pub mod RelayAddress
+pub mod RelayAddressText
+pub mod RelayAddressLaws
 pub mod Coding
 pub mod Stamp
 pub mod Days

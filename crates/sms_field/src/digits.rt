@@ -110,7 +110,7 @@ fn low_digit_at(input: &mut Cursor) -> Result<u8, Refusal<FieldFault>>
 }
 
 /// Two digits in an octet, the one in the low half first.
-fn both_digits_at(input: &mut Cursor) -> Result<(u8, u8), Refusal<FieldFault>>
+pub fn both_digits_at(input: &mut Cursor) -> Result<(u8, u8), Refusal<FieldFault>>
     ensures { Gives (λ d. d) result input.new.place input.new.rest.now ((octet_by Short both_digits).read input.old.place input.old.rest.now) }
 {
     let place = input.place;
