@@ -1,16 +1,15 @@
 -- Stamps as moments, over plain numbers.
-use Rattle.std.proofs.Common.{◌≡◌, ℕ, ℤ, pos, negsuc, zero, suc, ◌+◌, ◌-◌, ◌*◌, ◌/◌, ◌%◌, ◌<◌, ◌≤◌, ◌^◌, ◌+ℤ◌, ◌-ℤ◌, ◌*ℤ◌, ◌≤ℤ◌, ◌<ℤ◌, Bool, true, false, cond, List, [], ◌∷◌, Option, Some, None, refl, sym, ap, subst, ◌∙◌, arith}
-use Rattle.std.specs.Prelude.{SomeIff, nat_abs, neg_ℤ, slice_index, ◌==◌}
-use Rattle.std.specs.Int.{FitsUnsigned, IsInRange}
+use Rattle.std.proofs.Common.{◌≡◌, ℕ, ℤ, pos, negsuc, suc, ◌+◌, ◌-◌, ◌*◌, ◌/◌, ◌%◌, ◌<◌, ◌≤◌, ◌^◌, ◌+ℤ◌, ◌-ℤ◌, ◌*ℤ◌, ◌≤ℤ◌, Bool, true, false, cond, List, [], ◌∷◌, Option, Some, None, refl, sym, ap, subst, ◌∙◌, arith}
+use Rattle.std.specs.Prelude.{SomeIff, nat_abs, neg_ℤ, slice_index}
+use Rattle.std.specs.Int.{FitsUnsigned}
 use Rattle.std.proofs.lemmas.Int.{ints, to_z-of_z}
 use mir.Syntax.{w8, w64}
 use mir.Val.{to_z, of_z, SFits}
-use Rattle.jiff_core.specs.Calendar.{days_in_month}
 use Rattle.sms_field.specs.Bit.{bit}
 use Rattle.sms_field.specs.declared.stamp.StampDate.{StampDate}
 use Rattle.sms_field.specs.Days.{IsDay, days_before}
 use Rattle.sms_field.specs.StampDate.{HasTwoDigits, number_in, quarters_in, date_in, IsDate}
-use Rattle.sms_field.specs.Moment.{local_seconds, IsMoment, MomentIs}
+use Rattle.sms_field.specs.Moment.{local_seconds, MomentIs}
 use Rattle.sms_field.specs.Stamping.{zone_octet, IsStampAt}
 use Rattle.sms_field.proofs.DayLemmas.{days_before_bound}
 

@@ -1,5 +1,5 @@
 -- The moment of a time stamp (3GPP TS 23.040, 9.2.3.11), in seconds from 2000-01-01 00:00:00 UTC.
-use Rattle.std.specs.Prelude.{◌≡◌, ℕ, ℤ, pos, negsuc, suc, ◌+◌, ◌*◌, ◌/◌, ◌%◌, ◌-ℤ◌, ◌*ℤ◌, List, Option, Some, None}
+use Rattle.std.specs.Prelude.{◌≡◌, ℕ, pos, ◌+◌, ◌*◌, ◌-ℤ◌, ◌*ℤ◌, List, Option, Some, None}
 use Rattle.sms_field.specs.Days.{days_before}
 use Rattle.sms_field.specs.StampDate.{IsDate, date_in}
 use Rattle.sms_field.specs.declared.stamp.StampDate.{StampDate}

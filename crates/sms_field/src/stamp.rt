@@ -39,12 +39,17 @@ impl Model for Stamp {
 pub struct StampDate {
     /// 2000 to 2099.
     pub year: u16,
+    /// 1 to 12.
     pub month: u8,
+    /// 1 to the last day of the month.
     pub day: u8,
+    /// 0 to 23.
     pub hour: u8,
+    /// 0 to 59.
     pub minute: u8,
+    /// 0 to 59.
     pub second: u8,
-    /// Local time less UTC, in quarters of an hour.
+    /// Local time less UTC, in quarters of an hour: -79 to 79.
     pub quarters: i8,
 }
 

@@ -1,6 +1,5 @@
-use Rattle.std.proofs.Common.{◌≡◌, ◌≤ℤ◌, ◌∙◌, ◌*ℤ◌, ap, arith, pos, negsuc, refl, sym}
+use Rattle.std.proofs.Common.{◌≡◌, ◌≤ℤ◌, ◌∙◌, ◌*ℤ◌, ap, arith, pos, negsuc}
 use Rattle.std.proofs.lemmas.Int.{ints}
-use Rattle.sms_field.specs.Stamping.{zone_octet}
 use Rattle.sms_field.proofs.MomentLaws.{stamp_is, same_quarters, local_sum}
 use Rattle.sms_field.proofs.stamp.Stamp.at.Goals as goal
 

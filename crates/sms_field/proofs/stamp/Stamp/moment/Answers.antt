@@ -1,5 +1,5 @@
 use Rattle.std.proofs.Common.{arith, refl}
-use Rattle.sms_field.proofs.MomentLaws.{IsOffset, IsLocal, moment_is, offset_of, local_of}
+use Rattle.sms_field.proofs.MomentLaws.{IsLocal, moment_is, offset_of, local_of}
 use Rattle.sms_field.proofs.stamp.Stamp.moment.Goals as goal
 use Rattle.sms_field.proofs.stamp.Stamp.moment.Goals.{After-seconds_of_day-time}
 
