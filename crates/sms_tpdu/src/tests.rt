@@ -1,7 +1,7 @@
 //! Units whose octets are known from the standard's tables.
 
 use crate::{Body, Concat, Deliver, Refusal, Submit, Unit, UnitFault, Width, reread};
-use sms_field::{FieldFault, Stamp, Validity};
+use sms_field::{FieldFault, Stamp, Symbols, Validity};
 use std::test::Fail;
 
 /// A delivery of `hellohello`.
@@ -112,7 +112,7 @@ fn reads_and_writes_headers(rt: HostRuntime) -> Result<(), Fail> {
             body: &[0x04, 0x36],
         },
     ];
-    for row in rows {
+    for row in &rows {
         let (deliver, used) = Deliver::read(rt.alloc(), row.octets)?;
         let user = deliver.user.copy(rt.alloc())?;
         let body = match &user.body {
@@ -282,7 +282,7 @@ fn reads_and_writes_submissions(rt: HostRuntime) -> Result<(), Fail> {
             septets: &[],
         },
     ];
-    for row in rows {
+    for row in &rows {
         let (submit, used) = Submit::read(rt.alloc(), row.octets)?;
         assert_eq!(rt; used, row.octets.len());
         assert_eq!(rt; (submit.reject, submit.report, submit.reply), row.flags);
@@ -294,7 +294,10 @@ fn reads_and_writes_submissions(rt: HostRuntime) -> Result<(), Fail> {
             (submit.target.type_of_number, submit.target.plan),
             row.number
         );
-        assert_eq!(rt; submit.target.digits.as_slice(), row.digits);
+        match &submit.target.symbols {
+            Symbols::Digits(digits) => assert_eq!(rt; digits.as_slice(), row.digits),
+            Symbols::Name(_) => assert!(rt; false, "digits are wanted"),
+        }
         match &submit.user.body {
             Body::Septets(septets) => assert_eq!(rt; septets.as_slice(), row.septets),
             Body::Octets(_) => assert!(rt; false, "septets are wanted"),
