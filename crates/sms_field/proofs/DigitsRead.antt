@@ -7,7 +7,7 @@ use Rattle.sms_field.specs.Field.{Outcome, found, refused, Field, octet_at, foun
 use Rattle.sms_field.specs.declared.fault.FieldFault.{FieldFault}
 use Rattle.sms_field.specs.declared.fault.FieldFault.TheVariants.{Short, BadDigit}
 use Rattle.sms_field.specs.Digits.{AreDigits}
-use Rattle.sms_field.specs.Address.{low_digit, both_digits, digits}
+use Rattle.sms_field.specs.DigitOctets.{low_digit, both_digits, digits}
 
 -- a test that chose a value passed
 chosen : {A W : Type 0} (b : Bool) (x y : A) (why : W) → cond b (Ok x) (Err why) ≡ Ok y → (b ≡ true) × (x ≡ y)

@@ -12,10 +12,14 @@ pub mod Answer
 pub mod Optional
 pub mod OptionalLaws
 pub mod Digits
+pub mod DigitOctets
+pub mod DigitLaws
 pub mod DigitText
+pub mod Name
 pub mod AddressValue
 pub mod Address
 pub mod AddressText
+pub mod NameSpelling
 pub mod AddressLaws
 pub mod AddressSpelling
 pub mod Coding

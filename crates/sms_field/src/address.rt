@@ -1,31 +1,30 @@
-//! Addresses: a type of number, a plan and digits.
+//! Addresses of the transfer layer (3GPP TS 23.040, 9.1.2.5).
 
-ghost use Rattle.std.specs.Prelude.{◌≡◌, ◌≢◌, ◌<◌, ℕ, List, ◌++◌, Ok, Err, IfOk, IfErr, OnOk, None, MatchOption, ◌∷◌};
-ghost use Rattle.std.specs.Str.{chars};
-ghost use Rattle.std.specs.String.{string_bytes};
+ghost use Rattle.std.specs.Prelude.{◌≡◌, ◌<◌, ◌≤◌, ◌/◌, ◌%◌, ◌==◌, ℕ, List, ◌++◌, IfOk, IfErr, OnOk};
 ghost use Rattle.sms_field.specs.Field.{IsLawful};
-ghost use Rattle.sms_field.specs.AddressValue.{AddressValue, HasSpelling};
-ghost use Rattle.sms_field.specs.Address.{address, address_octets};
-ghost use Rattle.sms_field.specs.AddressText.{plus, address_text, number_of, address_of_text};
-ghost use Rattle.sms_field.specs.DigitText.{digits_of_text};
+ghost use Rattle.sms_field.specs.AddressValue.{AddressValue, HasSpelling, AreSymbolsOf, alphanumeric};
+ghost use Rattle.sms_field.specs.Address.{symbols_by, address, address_octets};
 ghost use Rattle.sms_field.specs.declared.fault.FieldFault.TheVariants.{Short};
-ghost use Rattle.sms_field.specs.declared.address.AddressFault.TheVariants.{Memory};
 ghost use Rattle.sms_field.specs.Reading.{Reads, IsRefused};
 ghost use Rattle.sms_field.specs.Answer.{Gives};
 
 use crate::cursor::Cursor;
-use crate::digits::{Digits, digits_at, digits_of, push_digits, put_digits};
+use crate::digits::{Digits, digits_at};
 use crate::fault::FieldFault;
+use crate::name::{Name, name_at};
 use crate::refusal::Refusal;
+use crate::symbols::Symbols;
 use std::alloc::{AllocError, Global};
 use std::marker::Model;
 
-/// An address with digits.
-#[derive(Drop)]
+/// An address with up to 20 digits, or with a name where the type of number is 5.
+#[derive(Debug, PartialEq, Eq, Hash, Drop)]
 pub struct Address {
+    /// 0 to 7; 1 is international, 5 alphanumeric.
     pub type_of_number: u8,
+    /// The numbering plan, 0 to 15; 1 is that of telephones.
     pub plan: u8,
-    pub digits: Digits,
+    pub symbols: Symbols,
 }
 
 impl Model for Address {
@@ -33,9 +32,35 @@ impl Model for Address {
 
     ghost Value = { AddressValue };
 
-    ghost view = { λ a. record { kind = a.type_of_number; plan = a.plan; digits = a.digits } };
+    ghost view = { λ a. record { kind = a.type_of_number; plan = a.plan; symbols = a.symbols } };
 
-    ghost invariant = { λ a. HasSpelling (record { kind = a.type_of_number; plan = a.plan; digits = a.digits }) };
+    ghost inverse = { λ v. record { type_of_number = v.kind; plan = v.plan; symbols = v.symbols } };
+
+    ghost invariant = { λ a. HasSpelling (record { kind = a.type_of_number; plan = a.plan; symbols = a.symbols }) };
+}
+
+/// The type of number of names.
+const ALPHANUMERIC: u8 = 5;
+
+/// The symbols in so many semi-octets.
+#[tactic(auto, unfolding(crate::specs::Address::symbols_by))]
+fn symbols_at(
+    alloc: Global,
+    input: &mut Cursor,
+    type_of_number: u8,
+    count: u8,
+) -> Result<Symbols, Refusal<FieldFault>>
+    requires { count ≤ 20 }
+    ensures answer { Gives (λ s. s) result input.new.place input.new.rest.now ((symbols_by (type_of_number == alphanumeric) count).read input.old.place input.old.rest.now) }
+    ensures fits { IfOk result (λ s. AreSymbolsOf type_of_number s) }
+{
+    if type_of_number == ALPHANUMERIC {
+        let septets = name_at(alloc, input, count)?;
+        Ok(Symbols::Name(Name::new(septets)))
+    } else {
+        let values = digits_at(alloc, input, count)?;
+        Ok(Symbols::Digits(Digits::new(values)))
+    }
 }
 
 /// Does nothing: its contract says that an address is a lawful field, and that what is written is read back.
@@ -45,76 +70,19 @@ pub fn address_laws()
     ensures read_back { (value : AddressValue) (rest : List ℕ) → HasSpelling value → address.reads value (address_octets value) rest }
 {}
 
-/// Why a text is no address.
-#[derive(Clone, Copy, Debug, PartialEq, Eq)]
-pub enum AddressFault {
-    /// Memory ran out.
-    Memory,
-    /// A character stands where only digits may.
-    BadDigit,
-    /// There are more than 20 digits.
-    TooLong,
-}
-
-impl From<AllocError> for AddressFault {
-    ghost from_gives = { λ _ e. e ≡ Memory };
-
-    fn from(_e: AllocError) -> AddressFault {
-        AddressFault::Memory
-    }
-}
-
-/// What stands behind a `+` at the front of a text.
-fn international(text: &str) -> Option<&str>
-    ensures { MatchOption result ((rest : List ℕ) → chars text.now ≢ plus ∷ rest) (λ rest. chars text.now ≡ plus ∷ chars rest.now) }
-{
-    text.strip_prefix('+')
-}
-
-/// An address with digits in plan 1, telephone numbers.
-fn number(alloc: Global, type_of_number: u8, text: &str) -> Result<Address, AddressFault>
-    requires { type_of_number < 2 }
-    ensures { result ≢ Err Memory → result ≡ number_of type_of_number (digits_of_text (chars text.now)) }
-{
-    let Some(values) = digits_of(alloc, text)? else {
-        return Err(AddressFault::BadDigit);
-    };
-    if values.len() > 20 {
-        return Err(AddressFault::TooLong);
-    }
-    Ok(Address {
-        type_of_number,
-        plan: 1,
-        digits: Digits::new(values),
-    })
-}
-
 impl Address {
-    /// The address that a text says: `+` and digits are a number of type 1, digits alone one of type 0,
-    /// both in plan 1. Digits are `0` to `9`, `*`, `#`, `a`, `b` and `c`. A bad digit is found before too many.
-    pub fn from_text(alloc: Global, text: &str) -> Result<Address, AddressFault>
-        ensures { result ≢ Err Memory → result ≡ address_of_text (chars text.now) }
+    /// The same address.
+    pub fn copy(&self, alloc: Global) -> Result<Address, AllocError>
+        ensures { IfOk result (λ copy. copy ≡ self.now) }
     {
-        match international(text) {
-            Some(digits) => number(alloc, 1, digits),
-            None => number(alloc, 0, text),
-        }
+        Ok(Address {
+            type_of_number: self.type_of_number,
+            plan: self.plan,
+            symbols: self.symbols.copy(alloc)?,
+        })
     }
 
-    /// The text of the address: its digits, behind a `+` where the type of number is 1.
-    #[tactic(auto, unfolding(crate::specs::AddressText::address_text))]
-    pub fn to_text(&self, alloc: Global) -> Result<String, AllocError>
-        ensures { IfOk result (λ text. chars (string_bytes text) ≡ address_text self.now) }
-    {
-        let mut text = String::new(alloc);
-        if self.type_of_number == 1 {
-            text.push('+')?;
-        }
-        push_digits(&mut text, self.digits.as_slice())?;
-        Ok(text)
-    }
-
-    /// The octets of the address: the number of digits, the type octet with bit 7 set, and the digits.
+    /// The octets of the address: the number of semi-octets, the type octet with bit 7 set, and the symbols.
     pub fn write(&self, alloc: Global) -> Result<Vec<u8>, AllocError>
         ensures { IfOk result (λ octets. octets.items ≡ address_octets self.now) }
     {
@@ -128,10 +96,9 @@ impl Address {
     pub fn write_to(&self, out: &mut Vec<u8>) -> Result<(), AllocError>
         ensures { OnOk result (out.new.items ≡ out.old.items ++ address_octets self.now) }
     {
-        let digits = &self.digits;
-        out.push(digits.as_slice().len() as u8)?;
+        out.push(self.symbols.length())?;
         out.push(128 + 16 * self.type_of_number + self.plan)?;
-        put_digits(out, digits.as_slice())
+        self.symbols.write_to(out)
     }
 
     /// Reads an address at the front of the octets, and says how many it takes.
@@ -157,20 +124,13 @@ impl Address {
                 why: FieldFault::AddressTooLong,
             });
         }
-        let place = input.place;
         let kind = input.octet()?;
         let type_of_number = kind / 16 % 8;
-        if type_of_number == 5 {
-            return Err(Refusal::At {
-                place,
-                why: FieldFault::NotYet,
-            });
-        }
-        let values = digits_at(alloc, input, count)?;
+        let symbols = symbols_at(alloc, input, type_of_number, count)?;
         Ok(Address {
             type_of_number,
             plan: kind % 16,
-            digits: Digits::new(values),
+            symbols,
         })
     }
 }

@@ -1,24 +1,30 @@
 //! The digits of an address: in octets, two an octet, and in texts.
 
-ghost use Rattle.std.specs.Prelude.{◌≡◌, ℕ, ◌+◌, ◌*◌, ◌<◌, List, ◌∷◌, ◌++◌, length, Some, None, IfOk, IfSome, MatchOption, OnOk, All, position, ◌==◌};
+ghost use Rattle.std.specs.Prelude.{◌≡◌, ℕ, ◌+◌, ◌*◌, ◌<◌, ◌≤◌, List, ◌∷◌, ◌++◌, length, Some, None, IfOk, IfSome, MatchOption, OnOk, All, position, ◌==◌};
 ghost use Rattle.std.specs.List.{AllByRecursion};
 ghost use Rattle.std.specs.Str.{chars};
 ghost use Rattle.std.specs.String.{string_bytes};
 ghost use Rattle.sms_field.specs.Field.{octet_by};
 ghost use Rattle.sms_field.specs.Digits.{AreDigits};
 ghost use Rattle.sms_field.specs.DigitText.{digit_characters, digit_of_character, character_of_digit, digits_of_text, text_of_digits};
-ghost use Rattle.sms_field.specs.Address.{low_digit, both_digits, digits, digit_octets};
+ghost use Rattle.sms_field.specs.DigitOctets.{low_digit, both_digits, digits, digit_octets};
 ghost use Rattle.sms_field.specs.declared.fault.FieldFault.TheVariants.{Short};
+ghost use Rattle.std.specs.Prelude.{nat_eq};
+ghost use Rattle.std.specs.Cmp.Lexicographic.{pointwise};
+ghost use Rattle.std.specs.Cmp.Rules.{comparing, hashing};
+ghost use Rattle.std.specs.Hash as fed;
+ghost use Rattle.std.proofs.Common.{rules};
 ghost use Rattle.sms_field.specs.Answer.{Gives};
 
 use crate::cursor::Cursor;
 use crate::fault::FieldFault;
 use crate::refusal::Refusal;
 use std::alloc::{AllocError, Global};
+use std::hash::{Hash, Hasher};
 use std::marker::Model;
 
 /// Up to 20 digits, each 0 to 14.
-#[derive(Drop)]
+#[derive(Debug, Drop)]
 pub struct Digits {
     values: Vec<u8>,
 }
@@ -35,6 +41,30 @@ impl Model for Digits {
     ghost invariant = { λ d. AreDigits d.values.items };
 }
 
+impl PartialEq for Digits {
+    ghost eq = { λ a b. pointwise nat_eq a b };
+
+    ghost laws = { Prim.search (comparing, rules) };
+
+    fn eq(&self, other: &Digits) -> bool {
+        self.values.as_slice() == other.values.as_slice()
+    }
+}
+
+impl Eq for Digits {
+    ghost laws = { Prim.search (comparing, rules) };
+}
+
+impl Hash for Digits {
+    ghost hash_input = { λ a. fed.slice fed.u8 a };
+
+    ghost respects_eq = { Prim.search (hashing, rules) };
+
+    fn hash<H: Hasher>(&self, state: &mut H) {
+        self.values.hash(state);
+    }
+}
+
 impl Digits {
     /// These digits.
     pub fn new(values: Vec<u8>) -> Digits
@@ -46,9 +76,19 @@ impl Digits {
 
     /// The digits, each 0 to 14.
     pub fn as_slice(&self) -> &[u8]
-        ensures { result.now ≡ self.now }
+        ensures value { result.now ≡ self.now }
+        ensures few { length result.now ≤ 20 }
+        ensures each { All (λ digit. digit < 15) result.now }
     {
         &self.values
+    }
+
+    /// The same digits.
+    pub fn copy(&self, alloc: Global) -> Result<Digits, AllocError>
+        ensures { IfOk result (λ copy. copy ≡ self.now) }
+    {
+        let values = Vec::from_slice(alloc, &self.values)?;
+        Ok(Digits { values })
     }
 }
 

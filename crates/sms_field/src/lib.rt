@@ -2,6 +2,7 @@
 #![tactic(auto)]
 
 mod address;
+mod address_text;
 mod bit;
 mod calendar;
 mod coding;
@@ -9,17 +10,21 @@ mod cursor;
 mod digits;
 mod fault;
 mod moment;
+mod name;
 mod refusal;
 mod stamp;
+mod symbols;
 mod validity;
 
-pub use address::{Address, AddressFault, address_laws};
+pub use address::{Address, address_laws};
 pub use bit::has_bit;
 pub use coding::{Alphabet, alphabet_of};
 pub use cursor::Cursor;
 pub use digits::Digits;
-pub use fault::FieldFault;
+pub use fault::{AddressFault, FieldFault};
 pub use moment::moment_of_stamp_at;
+pub use name::Name;
 pub use refusal::{Reason, Refusal};
 pub use stamp::{Stamp, StampDate};
+pub use symbols::Symbols;
 pub use validity::{Validity, ValidityFault};
