@@ -7,5 +7,6 @@ use Rattle.sms_field.specs.Field.{Field, octets_of}
 abbrev pub stamp : {W : Type 0} → W → Field (List ℕ) W
 stamp short = octets_of short 7
 
+-- seven octets, of any values
 abbrev pub IsStamp : List ℕ → Type 0
 IsStamp octets = (length octets ≡ 7) × IsOctets octets
