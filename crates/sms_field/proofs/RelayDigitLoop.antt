@@ -1,6 +1,6 @@
 -- Reading the digits of a relay address octet by octet.
-use Rattle.std.proofs.Common.{◌≡◌, ℕ, zero, suc, ◌-◌, ◌+◌, ◌*◌, ◌/◌, ◌%◌, ◌<◌, ◌≤◌, Bool, true, false, cond, ltb, List, [], ◌∷◌, ◌++◌, length, Result, Ok, Err, refl, sym, ap, subst, ◌∙◌, append_assoc, arith}
-use Rattle.std.specs.Prelude.{◌&&◌, nat_lt, if◌then◌else◌}
+use Rattle.std.proofs.Common.{◌≡◌, ℕ, zero, suc, ◌-◌, ◌+◌, ◌*◌, ◌/◌, ◌%◌, ◌<◌, ◌≤◌, Bool, true, false, cond, ltb, List, [], ◌∷◌, ◌++◌, length, refl, sym, ap, subst, ◌∙◌, arith}
+use Rattle.std.specs.Prelude.{◌&&◌}
 use Rattle.std.specs.List.{AllByRecursion}
 use Rattle.std.proofs.lemmas.Bool.{ltb-true}
 use Rattle.std.proofs.lemmas.List.{append-nil}
@@ -8,13 +8,13 @@ use Rattle.sms_field.specs.declared.refusal.Refusal.{Refusal}
 use Rattle.sms_field.specs.declared.refusal.Refusal.TheVariants.{Memory, At}
 use Rattle.sms_field.specs.declared.fault.FieldFault.{FieldFault}
 use Rattle.sms_field.specs.declared.fault.FieldFault.TheVariants.{Short, BadDigit}
-use Rattle.sms_field.specs.Field.{Outcome, found, refused, Field, octet_at, octet_by, judged, always, read_then, ◌>>=◌}
+use Rattle.sms_field.specs.Field.{Outcome, found, refused, octet_at, octet_by, judged, always, ◌>>=◌}
 use Rattle.sms_field.specs.Answer.{Refuses}
 use Rattle.sms_field.specs.Digits.{AreDigits}
 use Rattle.sms_field.specs.DigitOctets.{both_digits}
 use Rattle.sms_field.specs.RelayAddress.{last_digits, relay_digits}
 use Rattle.sms_field.proofs.DigitLoop.{with_front, two_at, regroup}
-use Rattle.sms_field.proofs.DigitsRead.{IsDigit, given, chosen, then_found, judged_found, both, same_value}
+use Rattle.sms_field.proofs.DigitsRead.{IsDigit, chosen, then_found, judged_found, both, same_value}
 
 abbrev last_at : ℕ → List ℕ → Outcome (List ℕ) FieldFault
 last_at at input = (octet_by Short last_digits).read at input

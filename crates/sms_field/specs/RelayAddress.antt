@@ -1,5 +1,5 @@
 -- Addresses of the relay layer in octets (3GPP TS 24.011, 8.2.5.1 and 8.2.5.2).
-use Rattle.std.specs.Prelude.{ℕ, zero, suc, ◌+◌, ◌-◌, ◌*◌, ◌/◌, ◌%◌, Bool, true, false, List, [], ◌∷◌, ◌++◌, length, Option, Some, None, Result, Ok, Err, ◌==◌, nat_lt, if◌then◌else◌}
+use Rattle.std.specs.Prelude.{ℕ, zero, suc, ◌+◌, ◌-◌, ◌*◌, ◌/◌, ◌%◌, Bool, true, false, List, [], ◌∷◌, length, Option, Some, None, Result, Ok, Err, ◌==◌, nat_lt, if◌then◌else◌}
 use Rattle.sms_field.specs.Field.{Field, ◌>>=◌, always, octet, octet_by, up_to}
 use Rattle.sms_field.specs.DigitOctets.{both_digits, digit_octets}
 use Rattle.sms_field.specs.RelayAddressValue.{RelayAddressValue}

@@ -1,11 +1,11 @@
 -- A relay address, or none, is a lawful field, and what is written is read.
 use Rattle.std.proofs.Common.{◌≡◌, ℕ, zero, suc, ◌+◌, ◌-◌, ◌*◌, ◌/◌, ◌%◌, ◌<◌, ◌≤◌, Bool, true, false, ltb, leb, List, [], ◌∷◌, length, Option, Some, None, Ok, Err, refl, sym, ap, subst, arith, lit<}
-use Rattle.std.specs.Prelude.{◌&&◌, ◌==◌, if◌then◌else◌, nat_lt}
+use Rattle.std.specs.Prelude.{◌==◌, if◌then◌else◌, nat_lt}
 use Rattle.std.specs.List.{AllByRecursion}
 use Rattle.std.proofs.lemmas.Bool.{lt-ltb, le-leb, ne_eqb}
 use Rattle.std.proofs.lemmas.List.{append-nil}
 use Rattle.sms_text.specs.Octets.{IsOctets}
-use Rattle.sms_field.specs.Field.{IsLawful, IsSelfContained, octet, octet_by, always, ◌>>=◌, up_to}
+use Rattle.sms_field.specs.Field.{IsLawful, IsSelfContained, octet_by, always, ◌>>=◌, up_to}
 use Rattle.sms_field.specs.declared.fault.FieldFault.{FieldFault}
 use Rattle.sms_field.specs.declared.fault.FieldFault.TheVariants.{Short, AddressTooLong, BadDigit}
 use Rattle.sms_field.specs.DigitOctets.{both_digits, digit_octets}

@@ -1,4 +1,4 @@
-use Rattle.std.proofs.Common.{◌≡◌, ◌∙◌, sym}
+use Rattle.std.proofs.Common.{◌∙◌, sym}
 use Rattle.std.specs.Str.{chars}
 use Rattle.sms_field.specs.DigitText.{digits_of_text}
 use Rattle.sms_field.specs.AddressText.{few_digits}
