@@ -1,5 +1,5 @@
 -- What an address is (3GPP TS 23.040, 9.1.2.5).
-use Rattle.std.specs.Prelude.{◌≡◌, ◌≢◌, ℕ, ◌<◌, List}
+use Rattle.std.specs.Prelude.{◌≢◌, ℕ, ◌<◌, List}
 use Rattle.sms_field.specs.Digits.{AreDigits}
 
 -- the type of number, the plan and the digits

@@ -1,5 +1,5 @@
 -- A part that is there exactly where the next octet is its tag.
-use Rattle.std.specs.Prelude.{◌≡◌, ◌≢◌, ℕ, ◌+◌, ◌⊎◌, List, [], ◌∷◌, Option, Some, None, ◌==◌, if◌then◌else◌}
+use Rattle.std.specs.Prelude.{◌≡◌, ◌≢◌, ℕ, ◌+◌, List, [], ◌∷◌, Option, Some, None, ◌==◌, if◌then◌else◌}
 use Rattle.sms_field.specs.Field.{Field, Outcome, found, refused}
 
 -- nothing follows, or another octet than the tag

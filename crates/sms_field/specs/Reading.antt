@@ -1,5 +1,5 @@
 -- What it means to read: for a relation `reads value input used`, by which the first octets of an input, `used` of them, are read as a value.
-use Rattle.std.specs.Prelude.{◌≡◌, ℕ, ◌+◌, ◌<◌, ◌⊎◌, List, ◌++◌, length, take, slice_index}
+use Rattle.std.specs.Prelude.{◌≡◌, ℕ, ◌+◌, ◌<◌, List, ◌++◌, length, take, slice_index}
 use Rattle.sms_field.specs.declared.refusal.Refusal.{Refusal}
 use Rattle.sms_field.specs.declared.refusal.Refusal.TheVariants.{Memory, At}
 use Rattle.sms_text.specs.Octets.{IsOctets}
@@ -19,7 +19,8 @@ pub record IsReadable {V : Type 0} (reads : V → List ℕ → ℕ → Type 0) (
   pub used : ℕ
   pub read : reads value input used
 
--- some continuation has one
+-- Some continuation has one. It consists of octets, since only octets can follow: a continuation by other numbers would be none.
+-- Of the front nothing is asked, here and where an input has a reading: inputs consist of octets already.
 pub record IsViable {V : Type 0} (reads : V → List ℕ → ℕ → Type 0) (front : List ℕ) : Type 0 where
   pub more : List ℕ
   pub are_octets : IsOctets more

@@ -1,7 +1,9 @@
 //! Addresses: a type of number, a plan and digits.
 
 ghost use Rattle.std.specs.Prelude.{◌≡◌, ℕ, ◌+◌, ◌*◌, ◌^◌, ◌<◌, ◌≤◌, length, IfOk, IfErr, OnOk, All, ◌++◌};
-ghost use Rattle.sms_field.specs.Field.{octet_by};
+ghost use Rattle.std.specs.Prelude.{List};
+ghost use Rattle.sms_field.specs.Field.{IsLawful, octet_by};
+ghost use Rattle.sms_field.specs.AddressValue.{AddressValue, HasSpelling};
 ghost use Rattle.sms_field.specs.Address.{low_digit, both_digits, digits, address, digit_octets, address_octets};
 ghost use Rattle.sms_field.specs.declared.fault.FieldFault.TheVariants.{Short, BadDigit};
 ghost use Rattle.sms_field.specs.Reading.{Reads, IsRefused};
@@ -115,6 +117,22 @@ fn put_digits(out: &mut Vec<u8>, digits: &[u8]) -> Result<(), AllocError>
     Ok(())
 }
 
+impl Digits {
+    /// The digits, each 0 to 14.
+    pub fn as_slice(&self) -> &[u8]
+        ensures { result.now ≡ self.now }
+    {
+        &self.values
+    }
+}
+
+/// Does nothing: its contract says that an address is a lawful field, and that what is written is read back.
+#[tactic(auto, using(crate::specs::AddressLaws::address_lawful, crate::specs::AddressSpelling::address_again))]
+pub fn address_laws()
+    ensures lawful { IsLawful Short address }
+    ensures read_back { (value : AddressValue) (rest : List ℕ) → HasSpelling value → address.reads value (address_octets value) rest }
+{}
+
 impl Address {
     /// Adds the octets of the address.
     #[tactic(auto, unfolding(crate::specs::Address::address_octets))]
@@ -167,3 +185,6 @@ impl Address {
         })
     }
 }
+
+#[cfg(test)]
+mod tests;

@@ -3,16 +3,17 @@
 
 mod address;
 mod bit;
+mod calendar;
 mod coding;
 mod cursor;
 mod fault;
 mod refusal;
-mod view;
+mod stamp;
 
-pub use address::{Address, Digits};
+pub use address::{Address, Digits, address_laws};
 pub use bit::has_bit;
 pub use coding::{Alphabet, alphabet_of};
 pub use cursor::Cursor;
 pub use fault::FieldFault;
 pub use refusal::{Reason, Refusal};
-pub use view::AddressView;
+pub use stamp::{Stamp, StampDate};

@@ -1,11 +1,11 @@
 -- What has a reading is refused only for want of memory.
-use Rattle.std.proofs.Common.{◌≡◌, ℕ, ◌+◌, ◌<◌, ◌≤◌, ◌⊎◌, List, [], ◌∷◌, ◌++◌, length, take, drop, refl, sym, ap, subst, ◌∙◌, inl, inr, arith}
+use Rattle.std.proofs.Common.{◌≡◌, ℕ, ◌+◌, List, ◌++◌, take, drop, refl, sym, subst, ◌∙◌}
 use Rattle.std.proofs.lemmas.List.{take-append-drop}
 use Rattle.sms_field.specs.declared.refusal.Refusal.{Refusal}
 use Rattle.sms_field.specs.declared.refusal.Refusal.TheVariants.{Memory, At}
 use Rattle.sms_text.specs.Octets.{IsOctets}
-use Rattle.sms_field.specs.Reading.{IsReadable, IsViable, EndsTooSoon, BreaksAt, IsRefused}
-use Rattle.sms_field.proofs.Join.{octets_back}
+use Rattle.sms_field.specs.Reading.{IsRefused}
+use Rattle.sms_field.specs.OctetLists.{octets_back}
 
 pub only_memory : {V W : Type 0} (reads : V → List ℕ → ℕ → Type 0) (reason : List ℕ → ℕ → W → Type 0) (short : W) (octets input : List ℕ) (v : V) (used : ℕ) → IsOctets octets → input ≡ octets → reads v octets used → (e : Refusal W) → IsRefused reads reason short input e → e ≡ Memory
 only_memory reads reason short octets input v used fits same read Memory h = refl

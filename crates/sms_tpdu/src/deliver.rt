@@ -1,25 +1,41 @@
 //! SMS-DELIVER.
 
+ghost use Rattle.sms_field.specs.Field.{octet_by};
+ghost use Rattle.sms_field.specs.Answer.{Gives};
+ghost use Rattle.sms_tpdu.specs.DeliverFlags.{deliver_flags};
+ghost use Rattle.sms_tpdu.specs.Deliver.{deliver};
+ghost use Rattle.sms_tpdu.specs.declared.fault.UnitFault.TheVariants.{Short};
+
+use crate::data::{put_user_data, user_data_at};
 use crate::fault::UnitFault;
-use crate::reading::deliver_at;
+use crate::fields::{address_at, stamp_at};
+use crate::flags::DeliverFlags;
 use crate::unit::Unit;
 use crate::user::UserData;
-use crate::writing::{put_body, weight_of};
-use sms_field::{Address, Cursor, Refusal};
+use sms_field::{Address, Cursor, Refusal, alphabet_of};
 use std::alloc::{AllocError, Global};
 use std::marker::Model;
 
-/// A message on its way to a phone.
+/// A message on its way to a phone (TS 23.040, 9.2.2.1).
 #[derive(Drop)]
 pub struct Deliver {
+    /// More messages wait in the service centre.
     pub more: bool,
+    /// The message was forwarded, to keep it from going round.
     pub looped: bool,
+    /// A status report will go to the sender.
     pub report: bool,
+    /// A reply goes by the same service centre.
     pub reply: bool,
+    /// The sender.
     pub origin: Address,
+    /// The protocol identifier.
     pub pid: u8,
+    /// The data coding scheme.
     pub dcs: u8,
+    /// When the service centre took the message, as it came.
     pub stamp: [u8; 7],
+    /// Septets exactly where the data coding scheme says the 7-bit alphabet.
     pub user: UserData,
 }
 
@@ -31,6 +47,42 @@ impl Model for Deliver {
     ghost view = { λ d. record { more = d.more; looped = d.looped; report = d.report; reply = d.reply; origin = d.origin; pid = d.pid; dcs = d.dcs; stamp = d.stamp; user = d.user } };
 
     ghost invariant = { λ d. IsDeliverable (record { more = d.more; looped = d.looped; report = d.report; reply = d.reply; origin = d.origin; pid = d.pid; dcs = d.dcs; stamp = d.stamp; user = d.user }) };
+}
+
+/// The first octet of a delivery.
+fn flags_at(input: &mut Cursor) -> Result<DeliverFlags, Refusal<UnitFault>>
+    ensures { Gives (λ f. f) result input.new.place input.new.rest.now ((octet_by Short deliver_flags).read input.old.place input.old.rest.now) }
+{
+    let place = input.place;
+    let octet = input.octet()?;
+    match DeliverFlags::from_octet(octet) {
+        Ok(flags) => Ok(flags),
+        Err(why) => Err(Refusal::At { place, why }),
+    }
+}
+
+/// A delivery.
+#[tactic(auto, unfolding(crate::specs::Deliver::deliver))]
+fn deliver_at(alloc: Global, input: &mut Cursor) -> Result<Deliver, Refusal<UnitFault>>
+    ensures { Gives (λ d. d) result input.new.place input.new.rest.now (deliver.read input.old.place input.old.rest.now) }
+{
+    let flags = flags_at(input)?;
+    let origin = address_at(alloc, input)?;
+    let pid = input.octet()?;
+    let dcs = input.octet()?;
+    let stamp = stamp_at(input)?;
+    let user = user_data_at(alloc, input, alphabet_of(dcs))?;
+    Ok(Deliver {
+        more: flags.more,
+        looped: flags.looped,
+        report: flags.report,
+        reply: flags.reply,
+        origin,
+        pid,
+        dcs,
+        stamp,
+        user,
+    })
 }
 
 impl Unit for Deliver {
@@ -55,18 +107,19 @@ impl Unit for Deliver {
     }
 
     fn write(&self, alloc: Global) -> Result<Vec<u8>, AllocError> {
+        let flags = DeliverFlags {
+            more: self.more,
+            looped: self.looped,
+            report: self.report,
+            reply: self.reply,
+        };
         let mut out = Vec::new(alloc);
-        out.push(
-            weight_of(!self.more, 4)
-                + weight_of(self.looped, 8)
-                + weight_of(self.report, 32)
-                + weight_of(self.reply, 128),
-        )?;
+        out.push(flags.to_octet())?;
         self.origin.write_to(&mut out)?;
         out.push(self.pid)?;
         out.push(self.dcs)?;
         out.extend_from_slice(&self.stamp)?;
-        put_body(alloc, &mut out, &self.user.body)?;
+        put_user_data(alloc, &mut out, &self.user)?;
         Ok(out)
     }
 

@@ -1,7 +1,6 @@
-use Rattle.std.proofs.Common.{◌≡◌, ◌++◌, ℕ, List, [], length, sym, ap, subst, ◌∙◌}
+use Rattle.std.proofs.Common.{[], length}
 use Rattle.std.proofs.lemmas.List.{append-nil}
 use Rattle.std.proofs.lemmas.Result.{err_from_is_err_and}
-use Rattle.sms_field.specs.declared.refusal.Refusal.TheVariants.{Memory, At}
 use Rattle.sms_tpdu.proofs.Laws.{only_memory}
 use Rattle.sms_tpdu.proofs.unit.reread.Goals as goal
 

@@ -1,5 +1,5 @@
 use Rattle.std.proofs.Common.{arith}
-use Rattle.sms_field.proofs.AddressLaws.{fits_few}
+use Rattle.sms_field.proofs.DigitsRead.{fits_few}
 use Rattle.sms_field.proofs.address.Address.read_at.Goals as goal
 
 pub invariant_of-result : goal.invariant_of-result

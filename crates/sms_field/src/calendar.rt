@@ -1,0 +1,20 @@
+//! Days of 2000 to 2099 by their numbers.
+
+ghost use Rattle.std.specs.Prelude.{◌≡◌, ◌↔◌, ◌<◌, IsSome, IfSome};
+ghost use Rattle.sms_field.specs.Days.{IsDay, days_before};
+
+use jiff::civil::Date;
+
+/// The days from 2000-01-01 to a date of 2000 to 2099; none where the date does not exist.
+pub fn days_since_2000(year: u16, month: u8, day: u8) -> Option<u64>
+    ensures found { IsSome result ↔ IsDay year month day }
+    ensures value { IfSome result (λ n. n ≡ days_before year month day) }
+{
+    if year < 2000 || year > 2099 || month > 12 || day > 31 {
+        return None;
+    }
+    match Date::new(year as i16, month as i8, day as i8) {
+        Ok(date) => Some((date.to_plain().days_since_min() - 4_382_544) as u64),
+        Err(_) => None,
+    }
+}

@@ -1,0 +1,138 @@
+//! Time stamps of a service centre (3GPP TS 23.040, 9.2.3.11).
+
+ghost use Rattle.std.specs.Prelude.{◌≡◌, ◌↔◌, ◌<◌, ◌/◌, IsSome, IfSome, IfOk, IfErr};
+ghost use Rattle.sms_field.specs.Field.{IsLawful};
+ghost use Rattle.sms_field.specs.declared.fault.FieldFault.TheVariants.{Short};
+ghost use Rattle.sms_field.specs.Reading.{Reads, IsRefused};
+ghost use Rattle.sms_field.specs.Answer.{Gives};
+ghost use Rattle.sms_field.specs.Stamp.{stamp};
+ghost use Rattle.sms_field.specs.StampDate.{HasTwoDigits, number_in, quarters_in, date_in, IsDate};
+
+use crate::bit::has_bit;
+use crate::calendar::days_since_2000;
+use crate::cursor::Cursor;
+use crate::fault::FieldFault;
+use crate::refusal::{Reason, Refusal};
+use std::marker::Model;
+
+/// A time stamp: seven octets, kept as they came.
+#[derive(Clone, Copy, Debug, PartialEq, Eq, Hash)]
+pub struct Stamp {
+    octets: [u8; 7],
+}
+
+impl Model for Stamp {
+    ghost use Rattle.std.specs.Prelude.{List, ℕ};
+
+    ghost Value = { List ℕ };
+
+    ghost view = { λ s. s.octets };
+
+    ghost inverse = { λ octets. record { octets = octets } };
+}
+
+/// A date and time of day where it was local, and the distance of its zone.
+#[derive(Clone, Copy, Debug, PartialEq, Eq)]
+pub struct StampDate {
+    /// 2000 to 2099.
+    pub year: u16,
+    pub month: u8,
+    pub day: u8,
+    pub hour: u8,
+    pub minute: u8,
+    pub second: u8,
+    /// Local time less UTC, in quarters of an hour.
+    pub quarters: i8,
+}
+
+/// The number of two decimal digits, the tens in the low half.
+fn two_digits(octet: u8) -> Option<u8>
+    ensures found { IsSome result ↔ HasTwoDigits octet }
+    ensures value { IfSome result (λ n. n ≡ number_in octet) }
+{
+    let (tens, units) = (octet % 16, octet / 16);
+    if tens < 10 && units < 10 {
+        Some(tens * 10 + units)
+    } else {
+        None
+    }
+}
+
+/// The zone, in quarters of an hour.
+fn quarters_of(zone: u8) -> Option<i8>
+    ensures found { IsSome result ↔ (zone / 16 < 10) }
+    ensures value { IfSome result (λ q. q ≡ quarters_in zone) }
+{
+    let units = zone / 16;
+    if units > 9 {
+        return None;
+    }
+    let quarters = (zone % 8 * 10 + units) as i8;
+    if has_bit(zone, 3) {
+        Some(-quarters)
+    } else {
+        Some(quarters)
+    }
+}
+
+impl Stamp {
+    /// The stamp of seven octets, which need not be a date.
+    pub fn new(octets: [u8; 7]) -> Stamp
+        ensures { result ≡ octets }
+    {
+        Stamp { octets }
+    }
+
+    /// The seven octets of the stamp.
+    pub fn octets(&self) -> [u8; 7]
+        ensures { result ≡ self.now }
+    {
+        self.octets
+    }
+
+    /// The date that the octets say; none where they are no date.
+    pub fn date(&self) -> Option<StampDate>
+        ensures found { IsSome result ↔ IsDate self.now }
+        ensures value { IfSome result (λ d. d ≡ date_in self.now) }
+    {
+        let [year, month, day, hour, minute, second, zone] = self.octets;
+        let date = StampDate {
+            year: 2000 + u16::from(two_digits(year)?),
+            month: two_digits(month)?,
+            day: two_digits(day)?,
+            hour: two_digits(hour)?,
+            minute: two_digits(minute)?,
+            second: two_digits(second)?,
+            quarters: quarters_of(zone)?,
+        };
+        days_since_2000(date.year, date.month, date.day)?;
+        if date.hour < 24 && date.minute < 60 && date.second < 60 {
+            Some(date)
+        } else {
+            None
+        }
+    }
+
+    /// Reads a stamp at the front of the octets, and says how many it takes.
+    pub fn read(input: &[u8]) -> Result<(Stamp, usize), Refusal<FieldFault>>
+        ensures found { IfOk result (λ x. Reads (stamp Short) x.0 input.now x.1) }
+        ensures refused { IfErr result (IsRefused (Reads (stamp Short)) (stamp Short).reason Short input.now) }
+        ensures lawful { IsLawful Short (stamp Short) }
+    {
+        let mut cursor = Cursor::new(input);
+        let stamp = Stamp::read_at(&mut cursor)?;
+        Ok((stamp, cursor.place))
+    }
+
+    /// Reads a stamp at a cursor.
+    pub fn read_at<W: Reason>(input: &mut Cursor) -> Result<Stamp, Refusal<W>>
+        ensures { Gives (λ s. s) result input.new.place input.new.rest.now ((stamp W.short).read input.old.place input.old.rest.now) }
+    {
+        let mut octets = [0; 7];
+        octets.copy_from_slice(input.octets(7)?);
+        Ok(Stamp { octets })
+    }
+}
+
+#[cfg(test)]
+mod tests;

@@ -1,0 +1,13 @@
+-- The user data length, TP-UDL (3GPP TS 23.040, 9.2.3.16): it counts septets under the 7-bit alphabet, else octets.
+use Rattle.std.specs.Prelude.{ℕ, ◌+◌, ◌*◌, ◌/◌}
+use Rattle.sms_field.specs.declared.coding.Alphabet.{Alphabet}
+use Rattle.sms_field.specs.declared.coding.Alphabet.TheVariants.{Gsm7}
+
+abbrev pub greatest_length : Alphabet → ℕ
+greatest_length Gsm7 = 160
+greatest_length _ = 140
+
+-- how many octets hold so many septets, or octets
+abbrev pub octets_of_length : Alphabet → ℕ → ℕ
+octets_of_length Gsm7 count = (7 * count + 7) / 8
+octets_of_length _ count = count
