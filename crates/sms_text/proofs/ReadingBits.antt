@@ -158,12 +158,6 @@ pub enough : (fill : ℕ) (septets octets : List ℕ) → Packed fill septets oc
 enough fill septets octets p =
     omega (arith, p.filled, ap length p.parts, length-octet_bits octets, length-append (p.front ++ septet_bits septets) p.back, length-append p.front (septet_bits septets), length-septet_bits septets)
 
-pub undone : {E : Type 0} (r : Result (Option (Vec ℕ)) E) (fill count : ℕ) (octets septets : List ℕ) → AreSeptets septets → length septets ≡ count → Packed fill septets octets
-    → IfOk r (λ found. MatchOption found (8 * length octets < fill + 7 * count) (λ again. (again.items ≡ unpacked fill count octets) × (fill + 7 * count ≤ 8 * length octets))) → IfOk r (λ found. IsSomeAnd found (λ again. again.items ≡ septets))
-undone (Ok (Some v)) fill count octets septets fits len p h = h.0 ∙ ap (λ (n : ℕ). unpacked fill n octets) (sym len) ∙ unpacked-packed fill septets octets fits p
-undone (Ok None) fill count octets septets fits len p h = absurd (omega (arith, h, len, enough fill septets octets p))
-undone (Err e) fill count octets septets fits len p h = tt
-
 -- spare bits that are 0 are spare bits
 pub plain_is_packed : (fill : ℕ) (septets octets : List ℕ) → PackedPlain fill septets octets → Packed fill septets octets
 plain_is_packed fill septets octets p = record { front = replicate fill 0; back = replicate p.spare 0; filled = length-replicate {A = ℕ} fill 0; few = omega (arith, p.few, length-replicate {A = ℕ} p.spare 0); parts = p.parts }

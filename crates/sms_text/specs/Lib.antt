@@ -1,3 +1,5 @@
 pub mod Octets
 pub mod Bits
-pub mod Alphabet
+pub mod Tables
+pub mod SeptetsOfText
+pub mod TextOfSeptets

@@ -1,0 +1,12 @@
+use Rattle.std.proofs.Common.{arith}
+use Rattle.sms_text.proofs.Fronts.{last_escape, escape_first, plain_first, shorter}
+use Rattle.sms_text.proofs.alphabet.first_character.Goals as goal
+
+pub returns-in-len1-up : goal.returns-in-len1-up
+returns-in-len1-up c = (rw c.plain.ensures (plain_first c.args.septets.now (omega arith) c.if-code-ne-ESCAPE.true), shorter 1 c.args.septets.now (omega arith) (omega arith))
+
+pub returns-in-len1 : goal.returns-in-len1
+returns-in-len1 c = (last_escape c.args.septets.now (omega arith) (omega arith) c.if-code-ne-ESCAPE.false, omega arith)
+
+pub returns-in-len2-up : goal.returns-in-len2-up
+returns-in-len2-up c = (rw c.escaped.ensures (escape_first c.args.septets.now (omega arith) c.if-code-ne-ESCAPE.false), shorter 2 c.args.septets.now (omega arith) (omega arith))
