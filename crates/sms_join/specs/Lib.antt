@@ -1,0 +1,3 @@
+pub mod UnitsOfText
+pub mod Cut
+pub mod Reading

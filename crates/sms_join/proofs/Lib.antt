@@ -1,0 +1,4 @@
+pub mod CutLaws
+pub mod GroupLaws
+pub mod OneCut
+pub mod ReadingLaws
