@@ -13,5 +13,5 @@ returns-in_ok-extend_from_slice-in-Septets c =
     let e : c.extend_from_slice.new.self.items ≡ old ++ (length septets ∷ packed) = rw (c.in_ok-extend_from_slice-in-Septets.ensures.items, c.deref.ensures.value, c.in_ok-push-in-Septets.ensures.items) (append_assoc old (length septets ∷ []) packed) in
     let all : IsOctets c.extend_from_slice.new.self.items = recursion_from_All (λ (o : ℕ). o < 256) c.extend_from_slice.new.self.items (λ k d lt. omega (arith, c.type_inv.out k d lt)) in
     let fits : IsOctets packed = (octets_back old (length septets ∷ packed) (subst IsOctets e all)).1 in
-    let user : SpellsUserData c.args.user.now (length septets ∷ packed) = rw c.in-Septets.is (record { written = packed; spells_body = (rw c.as_slice-septets.ensures.same at c.in_ok-packed-in-Septets.ensures, fits); parts = ap (λ (l : List ℕ). length l ∷ packed) c.as_slice-septets.ensures.same }) in
+    let user : SpellsUserData c.args.user.now (length septets ∷ packed) = rw c.in-Septets.is (record { written = packed; spells_body = (rw c.as_slice-septets.ensures.same at c.in_ok-packed-in-Septets.ensures.packed, fits); parts = ap (λ (l : List ℕ). length l ∷ packed) c.as_slice-septets.ensures.same }) in
     (length septets ∷ packed, user, e)
