@@ -1,10 +1,9 @@
 -- Bits that are read one by one.
-use Rattle.std.proofs.Common.{◌≡◌, ℕ, zero, suc, ◌+◌, ◌-◌, ◌*◌, ◌/◌, ◌%◌, ◌^◌, ◌<◌, ◌≤◌, Bool, true, false, List, [], ◌∷◌, ◌++◌, length, take, drop, replicate, get_or, Option, Some, None, Result, Ok, Err, refl, sym, ap, subst, ◌∙◌, append_assoc, arith, length-append, length-drop}
+use Rattle.std.proofs.Common.{◌≡◌, ℕ, zero, suc, ◌+◌, ◌-◌, ◌*◌, ◌/◌, ◌%◌, ◌^◌, ◌<◌, ◌≤◌, List, [], ◌∷◌, ◌++◌, length, take, drop, replicate, get_or, refl, sym, ap, subst, ◌∙◌, append_assoc, arith, length-append, length-drop}
 use Rattle.std.proofs.Math.Nat.{pow-succ', div-div-eq-div-mul, pow-le-pow_right}
-use Rattle.std.proofs.lemmas.List.{append-nil, take_at, drop_at, take_all, take_more, take-append-drop, length-take, length-replicate}
-use Rattle.std.proofs.lemmas.Nat.{one_shl, and_mask, pow_below}
-use Rattle.std.specs.Prelude.{bit_and, IfOk, IsSomeAnd, MatchOption}
-use Rattle.std.specs.Global.{Vec}
+use Rattle.std.proofs.lemmas.List.{append-nil, take_at, drop_at, take_all, take-append-drop, length-take, length-replicate}
+use Rattle.std.proofs.lemmas.Nat.{one_shl, and_mask}
+use Rattle.std.specs.Prelude.{bit_and}
 use Rattle.std.specs.List.{AllByRecursion}
 use Rattle.sms_text.specs.Bits.{bits, number, octet_bits, septet_bits, septets_of, unpacked, Packed, PackedPlain, AreSeptets}
 

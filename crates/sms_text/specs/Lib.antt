@@ -3,3 +3,4 @@ pub mod Bits
 pub mod Tables
 pub mod SeptetsOfText
 pub mod TextOfSeptets
+pub mod Utf16

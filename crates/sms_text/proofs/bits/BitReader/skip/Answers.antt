@@ -1,4 +1,4 @@
-use Rattle.std.proofs.Common.{◌≡◌, ◌∙◌, drop, length, ap, sym, refl, arith, length-drop}
+use Rattle.std.proofs.Common.{◌∙◌, length, ap, sym, arith, length-drop}
 use Rattle.sms_text.proofs.ReadingBits.{one_more}
 use Rattle.sms_text.proofs.bits.BitReader.skip.Goals as goal
 
