@@ -19,7 +19,7 @@ short-append own (x ∷ xs) ys (c ∷ text) e s =
     ((subst (λ n. IsShort own n) same s.0, r.0), r.1)
 
 -- the units of a front are those before it and one character's more
-units-cons : (own : ℕ → List ℕ) (c : ℕ) (text : List ℕ) → length (flat_map own (c ∷ text)) ≡ length (own c) + length (flat_map own text)
+pub units-cons : (own : ℕ → List ℕ) (c : ℕ) (text : List ℕ) → length (flat_map own (c ∷ text)) ≡ length (own c) + length (flat_map own text)
 units-cons own c text = length-append (own c) (flat_map own text)
 
 -- of two fronts of a text, the one with more units goes on behind the other
@@ -56,7 +56,7 @@ Steps own room text (piece ∷ pieces) = (s : Step own room text piece) × Steps
 
 -- ---- a cut is a list of such steps
 
-units-parts : (own : ℕ → List ℕ) (before after text : List ℕ) → before ++ after ≡ text → flat_map own text ≡ flat_map own before ++ flat_map own after
+pub units-parts : (own : ℕ → List ℕ) (before after text : List ℕ) → before ++ after ≡ text → flat_map own text ≡ flat_map own before ++ flat_map own after
 units-parts own before after text e = ap (flat_map own) (sym e) ∙ flat_map-append own before after
 
 rest_of_cut : (own : ℕ → List ℕ) (room : ℕ) (text : List ℕ) (piece : List ℕ) (pieces : List (List ℕ)) (before after : List ℕ) → AllByRecursion (IsShort own) text → before ++ after ≡ text → piece ≡ flat_map own before
@@ -200,7 +200,7 @@ same_steps own room (p ∷ ps) (q ∷ qs) text short s t =
 -- ---- there is one
 
 -- as much of a text as there is room for
-record Front (own : ℕ → List ℕ) (room : ℕ) (text : List ℕ) : Type 0 where
+pub record Front (own : ℕ → List ℕ) (room : ℕ) (text : List ℕ) : Type 0 where
   pub before : List ℕ
   pub after : List ℕ
   pub parts : before ++ after ≡ text
@@ -211,7 +211,7 @@ more_room : (own : ℕ → List ℕ) (room more n : ℕ) (after : List ℕ) → 
 more_room own room more n [] le s = tt
 more_room own room more n (next ∷ after) le s = omega arith
 
-front_of : (own : ℕ → List ℕ) (room : ℕ) (text : List ℕ) → Front own room text
+pub front_of : (own : ℕ → List ℕ) (room : ℕ) (text : List ℕ) → Front own room text
 front_of own room [] = record { before = []; after = []; parts = refl; fits = omega arith; stops = tt }
 front_of own room (c ∷ text) = go (cases_lt room (length (own c))) (λ le. front_of own (room - length (own c)) text)
   where

@@ -5,13 +5,13 @@ use Rattle.std.specs.List.{flat_map, AllByRecursion}
 use Rattle.sms_tpdu.specs.declared.concat.Width.{Width}
 use Rattle.sms_tpdu.specs.declared.concat.Width.TheVariants.{Eight, Sixteen}
 use Rattle.sms_join.specs.declared.units.Units.{Units}
-use Rattle.sms_join.specs.UnitsOfText.{IsText, Alphabet, Default, Wide, alphabet_of, units_of_character, units_of_text, units_in, numbers}
+use Rattle.sms_join.specs.UnitsOfText.{begins_pair, IsText, Alphabet, Default, Wide, alphabet_of, units_of_character, units_of_text, units_in, numbers}
 use Rattle.sms_join.specs.Cut.{room_alone, room_beside, IsCutBy, IsParted, IsCut}
 use Rattle.sms_join.proofs.CutLaws.{IsShort, Steps, steps_of, cut_of_steps, same_steps, steps_exist}
-use Rattle.sms_join.proofs.GroupLaws.{opens_pair, text_groups, short_groups}
+use Rattle.sms_join.proofs.GroupLaws.{text_groups, short_groups}
 
 pub short_text : (text : List ℕ) → IsText text → AllByRecursion (IsShort (units_of_character (alphabet_of text))) text
-short_text text is = short_groups (opens_pair (alphabet_of text)) (units_of_character (alphabet_of text)) text (text_groups text is)
+short_text text is = short_groups (begins_pair (alphabet_of text)) (units_of_character (alphabet_of text)) text (text_groups text is)
 
 pub room_enough : (width : Width) (alphabet : Alphabet) → 2 ≤ room_beside width alphabet
 room_enough Eight Default = omega arith

@@ -1,8 +1,10 @@
 -- The units of a text: septets of the 7-bit default alphabet or 16-bit units (3GPP TS 23.038, 6.2.1 and 6.2.3).
-use Rattle.std.specs.Prelude.{ℕ, List, [], Option, Some, None, unwrap_or}
+use Rattle.std.specs.Prelude.{ℕ, Bool, List, [], Option, Some, None, ◌==◌, unwrap_or}
 use Rattle.std.specs.List.{flat_map, AllByRecursion}
 use Rattle.std.specs.Char.{IsScalar}
 use Rattle.std.specs.Char.Escape.{encode_utf16}
+use Rattle.std.specs.Char.Utf16.{is_high_surrogate}
+use Rattle.sms_text.specs.Tables.{escape}
 use Rattle.sms_text.specs.SeptetsOfText.{septets_of_character, septets_of_text}
 use Rattle.sms_join.specs.declared.units.Units.{Units}
 use Rattle.sms_join.specs.declared.units.Units.TheVariants.{Gsm, Ucs2}
@@ -29,6 +31,11 @@ alphabet_of text = alphabet_by (septets_of_text text)
 abbrev pub units_of_character : Alphabet → ℕ → List ℕ
 units_of_character Default c = unwrap_or (septets_of_character c) []
 units_of_character Wide c = encode_utf16 c
+
+-- the unit begins such a pair
+abbrev pub begins_pair : Alphabet → ℕ → Bool
+begins_pair Default unit = unit == escape
+begins_pair Wide unit = is_high_surrogate unit
 
 -- these numbers as units of the alphabet, and units as numbers
 abbrev pub units_in : Alphabet → List ℕ → Units
