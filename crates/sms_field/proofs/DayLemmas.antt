@@ -11,7 +11,7 @@ use Rattle.jiff_core.proofs.MarchLemmas.{day_count-early, day_count-late}
 use Rattle.jiff_core.proofs.CalendarLemmas.{day_count-day_of_year, day_count-lt_year, day_count-later_year, day_of_year_bound, days_from_civil-day_count}
 use Rattle.jiff_core.specs.declared.civil.date.Date.{Date}
 use Rattle.jiff_core.specs.Date.{IsYmd, epoch_day}
-use Rattle.jiff_core.proofs.DateLemmas.{civil, epoch_day_injective}
+use Rattle.jiff_core.proofs.DateLemmas.{civil}
 use Rattle.sms_field.specs.Days.{IsDay, days_before}
 
 pub day_count-2000 : day_count (pos 2000) 1 1 ≡ 4_382_910
@@ -103,24 +103,14 @@ parts_of date n low high e =
     let read = days_before-parts date y date.month date.day n from to (year, refl, refl) e in
     record { year = year; is_day = ((from, to), date.month_in, in_month); number = sym read.1 }
 
--- a day of these years as a date of jiff
-abbrev date_with : (y m d : ℕ) → IsDay y m d → Date
-date_with y m d h =
-    let c = civil_of_day y m d h in
-    record { year = pos y; month = m; day = d; year_in = c.0; month_in = c.1; day_in = c.2 }
-
--- two days with one number are one day
-pub days_before_injective : (y m d y₂ m₂ d₂ : ℕ) → IsDay y m d → IsDay y₂ m₂ d₂ → days_before y m d ≡ days_before y₂ m₂ d₂ → (y ≡ y₂) × (m ≡ m₂) × (d ≡ d₂)
-days_before_injective y m d y₂ m₂ d₂ h k e =
-    let one = days_from_civil-day_count (pos y) m d in
-    let two = days_from_civil-day_count (pos y₂) m₂ d₂ in
-    let low = (day_count-day y m d h).0 in
-    let low₂ = (day_count-day y₂ m₂ d₂ k).0 in
-    let count : day_count (pos y) m d ≡ day_count (pos y₂) m₂ d₂ = omega (arith, day_count-2000) in
-    let number : days_from_civil (pos y) m d ≡ days_from_civil (pos y₂) m₂ d₂ = omega (arith, signed_arith) in
-    let same = epoch_day_injective (date_with y m d h) (date_with y₂ m₂ d₂ k) number in
-    (omega (arith, signed_arith, same.0), same.1, same.2)
-
 -- a number of these years is below 36,525
 pub days_before_bound : (y m d : ℕ) → IsDay y m d → days_before y m d < 36_525
 days_before_bound y m d h = omega (arith, day_count-day y m d h, day_count-2000)
+
+-- the year of a date that was read is as it was cast to an unsigned number
+pub year_cast : (date : Date) (y n : ℕ) → IsRead date y n → to_z w16 (of_z w16 date.year) ≡ pos y
+year_cast date y n read = read_back date.year y read.year (omega (arith, read.is_day.0.1))
+
+-- the date of a day of these years
+pub read_day : (date : Date) (days : ℕ) → days < 36_525 → epoch_day date +ℤ pos 4_371_587 ≡ pos (days + 4_382_544) → IsRead date (up date.year - down date.year) (days + 4_382_544)
+read_day date days few e = parts_of date (days + 4_382_544) (omega arith) (omega (arith, few)) e

@@ -7,19 +7,19 @@ use Rattle.sms_field.specs.Field.{Outcome, found, refused, Field, octet_at, foun
 use Rattle.sms_field.specs.declared.fault.FieldFault.{FieldFault}
 use Rattle.sms_field.specs.declared.fault.FieldFault.TheVariants.{Short, BadDigit}
 use Rattle.sms_field.specs.Digits.{AreDigits}
-use Rattle.sms_field.specs.Address.{low_digit, both_digits, digits}
+use Rattle.sms_field.specs.DigitOctets.{low_digit, both_digits, digits}
 
 -- a test that chose a value passed
-chosen : {A W : Type 0} (b : Bool) (x y : A) (why : W) → cond b (Ok x) (Err why) ≡ Ok y → (b ≡ true) × (x ≡ y)
+pub chosen : {A W : Type 0} (b : Bool) (x y : A) (why : W) → cond b (Ok x) (Err why) ≡ Ok y → (b ≡ true) × (x ≡ y)
 chosen true x y why e = (refl, cc)
 chosen false x y why e = absurd cc
 
 -- the reading of a field that gave a value
-then_found : {A B W : Type 0} (o : Outcome A W) (second : A → Field B W) (v : B) (after : ℕ) (rest : List ℕ) → read_then o second ≡ found v after rest → (a : A) × (at : ℕ) × (left : List ℕ) × (o ≡ found a at left) × ((second a).read at left ≡ found v after rest)
+pub then_found : {A B W : Type 0} (o : Outcome A W) (second : A → Field B W) (v : B) (after : ℕ) (rest : List ℕ) → read_then o second ≡ found v after rest → (a : A) × (at : ℕ) × (left : List ℕ) × (o ≡ found a at left) × ((second a).read at left ≡ found v after rest)
 then_found (found a at left) second v after rest e = (a, at, left, refl, e)
 then_found (refused p w) second v after rest e = absurd cc
 
-judged_found : {V W : Type 0} (meaning : ℕ → Result V W) (at : ℕ) (o : Outcome ℕ W) (v : V) (after : ℕ) (rest : List ℕ) → judged meaning at o ≡ found v after rest → (n : ℕ) × (meaning n ≡ Ok v)
+pub judged_found : {V W : Type 0} (meaning : ℕ → Result V W) (at : ℕ) (o : Outcome ℕ W) (v : V) (after : ℕ) (rest : List ℕ) → judged meaning at o ≡ found v after rest → (n : ℕ) × (meaning n ≡ Ok v)
 judged_found {V} {W} meaning at (found n p l) v after rest e = go (meaning n) refl e
   where
     go : (m : Result V W) → meaning n ≡ m → found_if m at p l ≡ found v after rest → (k : ℕ) × (meaning k ≡ Ok v)
@@ -27,18 +27,18 @@ judged_found {V} {W} meaning at (found n p l) v after rest e = go (meaning n) re
     go (Ok w) is f = let same : w ≡ v = cc in (n, is ∙ ap {B = Result V W} Ok same)
 judged_found meaning at (refused p w) v after rest e = absurd cc
 
-both : (a b : Bool) → (a && b) ≡ true → (a ≡ true) × (b ≡ true)
+pub both : (a b : Bool) → (a && b) ≡ true → (a ≡ true) × (b ≡ true)
 both true true e = (refl, refl)
 both true false e = absurd cc
 both false b e = absurd cc
 
-abbrev IsDigit : ℕ → Type 0
+abbrev pub IsDigit : ℕ → Type 0
 IsDigit d = d < 15
 
-abbrev given : List ℕ → ℕ → List ℕ → Outcome (List ℕ) FieldFault
+abbrev pub given : List ℕ → ℕ → List ℕ → Outcome (List ℕ) FieldFault
 given v at rest = found v at rest
 
-same_value : (v w : List ℕ) (p q : ℕ) (l m : List ℕ) → given v p l ≡ given w q m → v ≡ w
+pub same_value : (v w : List ℕ) (p q : ℕ) (l m : List ℕ) → given v p l ≡ given w q m → v ≡ w
 same_value v w p q l m e = cc
 
 pub digits_fit : (n at : ℕ) (input v : List ℕ) (after : ℕ) (rest : List ℕ) → (digits n).read at input ≡ found v after rest → (length v ≡ n) × AllByRecursion IsDigit v

@@ -1,55 +1,41 @@
 -- Addresses (3GPP TS 23.040, 9.1.2.5).
-use Rattle.std.specs.Prelude.{ℕ, zero, suc, ◌+◌, ◌*◌, ◌/◌, ◌%◌, List, [], ◌∷◌, length, Result, Ok, Err, ◌==◌, ◌&&◌, nat_le, nat_lt, if◌then◌else◌}
-use Rattle.sms_field.specs.Field.{Field, ◌>>=◌, always, octet_by}
-use Rattle.sms_field.specs.AddressValue.{AddressValue}
+use Rattle.std.specs.Prelude.{ℕ, ◌+◌, ◌*◌, ◌/◌, ◌%◌, Bool, true, false, List, ◌∷◌, length, ◌==◌}
+use Rattle.sms_field.specs.Field.{Field, ◌>>=◌, always, octet, octet_by}
+use Rattle.sms_field.specs.DigitOctets.{digits, digit_octets}
+use Rattle.sms_field.specs.Name.{name, name_octets, name_length}
+use Rattle.sms_field.specs.AddressValue.{AddressValue, alphanumeric}
+use Rattle.sms_field.specs.declared.symbols.Symbols.{Symbols}
+use Rattle.sms_field.specs.declared.symbols.Symbols.TheVariants.{Digits, Name}
 use Rattle.sms_field.specs.declared.fault.FieldFault.{FieldFault}
-use Rattle.sms_field.specs.declared.fault.FieldFault.TheVariants.{Short, AddressTooLong, BadDigit, NotYet}
+use Rattle.sms_field.specs.declared.fault.FieldFault.TheVariants.{Short, AddressTooLong}
+pub use Rattle.sms_field.specs.SingleFields.{up_to}
 
--- the digit in the low half of an octet, where the high half is not used
-abbrev pub low_digit : ℕ → Result ℕ FieldFault
-low_digit octet = if nat_lt (octet % 16) 15 then Ok (octet % 16) else Err BadDigit
+-- so many semi-octets: a name, or digits
+unfoldable pub symbols_by : Bool → ℕ → Field Symbols FieldFault
+symbols_by true count = do
+  septets ← name count
+  always (Name septets)
+symbols_by false count = do
+  values ← digits count
+  always (Digits values)
 
--- the digits in both halves, the low half first
-abbrev pub both_digits : ℕ → Result (ℕ × ℕ) FieldFault
-both_digits octet = if nat_lt (octet % 16) 15 && nat_lt (octet / 16) 15 then Ok (octet % 16, octet / 16) else Err BadDigit
-
--- so many digits, two an octet
-unfoldable pub digits : ℕ → Field (List ℕ) FieldFault
-digits zero = always []
-digits (suc zero) = do
-  -- BadDigit: the low half is 15
-  digit ← octet_by Short low_digit
-  always (digit ∷ [])
-digits (suc (suc n)) = do
-  -- BadDigit: one of the halves is 15
-  two ← octet_by Short both_digits
-  others ← digits n
-  always (two.0 ∷ two.1 ∷ others)
-
--- a number up to a limit
-abbrev pub up_to : {W : Type 0} → ℕ → W → ℕ → Result ℕ W
-up_to limit why n = if nat_le n limit then Ok n else Err why
-
--- bit 7 is ignored, bits 6 to 4 are the type of number, bits 3 to 0 the plan; type 5 is not read yet
-abbrev pub type_of_address : ℕ → Result (ℕ × ℕ) FieldFault
-type_of_address octet = if octet / 16 % 8 == 5 then Err NotYet else Ok (octet / 16 % 8, octet % 16)
-
--- the number of digits, the type, and the digits
+-- the number of semi-octets; the type octet, of which bits 6 to 4 are the type of number and bits 3 to 0 the plan; the symbols
 unfoldable pub address : Field AddressValue FieldFault
 address = do
   -- AddressTooLong: the number is above 20
   count ← octet_by Short (up_to 20 AddressTooLong)
-  -- NotYet: the type of number is 5
-  kind ← octet_by Short type_of_address
-  values ← digits count
-  always (record { kind = kind.0; plan = kind.1; digits = values })
+  kind ← octet Short
+  symbols ← symbols_by (kind / 16 % 8 == alphanumeric) count
+  always (record { kind = kind / 16 % 8; plan = kind % 16; symbols = symbols })
 
--- two digits an octet, the first in the low half; behind an odd last one the high half is 15
-unfoldable pub digit_octets : List ℕ → List ℕ
-digit_octets [] = []
-digit_octets (digit ∷ []) = (240 + digit) ∷ []
-digit_octets (low ∷ high ∷ others) = (16 * high + low) ∷ digit_octets others
+abbrev pub symbols_length : Symbols → ℕ
+symbols_length (Digits values) = length values
+symbols_length (Name septets) = name_length septets
 
--- how an address is written: the number of digits, the type with bit 7 set, the digits
+abbrev pub symbols_octets : Symbols → List ℕ
+symbols_octets (Digits values) = digit_octets values
+symbols_octets (Name septets) = name_octets septets
+
+-- how an address is written: the number of semi-octets, the type octet with bit 7 set, the symbols
 unfoldable pub address_octets : AddressValue → List ℕ
-address_octets n = length n.digits ∷ (128 + 16 * n.kind + n.plan) ∷ digit_octets n.digits
+address_octets n = symbols_length n.symbols ∷ (128 + 16 * n.kind + n.plan) ∷ symbols_octets n.symbols

@@ -1,80 +1,69 @@
 -- An address that is written is read.
-use Rattle.std.proofs.Common.{◌≡◌, ◌≢◌, ℕ, ◌+◌, ◌*◌, ◌/◌, ◌%◌, ◌<◌, Bool, true, false, cond, ltb, leb, List, [], ◌∷◌, length, Ok, Err, refl, sym, arith}
-use Rattle.std.specs.List.{AllByRecursion}
-use Rattle.std.proofs.lemmas.Bool.{lt-ltb, le-leb, ne_eqb}
+use Rattle.std.proofs.Common.{◌≡◌, ℕ, ◌+◌, ◌*◌, ◌/◌, ◌%◌, ◌≤◌, Bool, true, false, eqb, List, [], ◌∷◌, Ok, refl, sym, arith}
+use Rattle.std.specs.Prelude.{◌==◌}
+use Rattle.std.proofs.lemmas.Bool.{le-leb, eqb-true, eqb-false}
 use Rattle.std.proofs.lemmas.List.{append-nil}
 use Rattle.sms_text.specs.Octets.{IsOctets}
-use Rattle.sms_field.specs.declared.fault.FieldFault.TheVariants.{AddressTooLong, BadDigit}
-use Rattle.sms_field.specs.AddressValue.{AddressValue, HasSpelling}
-use Rattle.sms_field.specs.Address.{low_digit, both_digits, digits, type_of_address, address, digit_octets, address_octets}
+use Rattle.sms_field.specs.declared.fault.FieldFault.TheVariants.{AddressTooLong}
+use Rattle.sms_field.specs.declared.symbols.Symbols.{Symbols}
+use Rattle.sms_field.specs.declared.symbols.Symbols.TheVariants.{Digits, Name}
+use Rattle.sms_field.specs.AddressValue.{AddressValue, HasSpelling, AreSymbolsOf, alphanumeric}
+use Rattle.sms_field.specs.DigitOctets.{digit_octets}
+use Rattle.sms_field.specs.Name.{name_octets}
+use Rattle.sms_field.specs.Address.{up_to, symbols_by, symbols_length, symbols_octets, address, address_octets}
+use Rattle.sms_field.specs.DigitLaws.{digits_again, digits_are_octets}
+use Rattle.sms_field.specs.NameSpelling.{name_again, name_octets_are}
 
-chooses : {A W : Type 0} (b : Bool) (x : A) (why : W) → b ≡ true → cond b (Ok x) (Err why) ≡ Ok x
-chooses b x why e = rw e refl
+length_fits : (kind : ℕ) (symbols : Symbols) → AreSymbolsOf kind symbols → symbols_length symbols ≤ 20
+length_fits kind (Digits values) fits = fits.1.few
+length_fits kind (Name septets) fits = omega (arith, fits.1.few)
 
-refuses_not : {A W : Type 0} (b : Bool) (x : A) (why : W) → b ≡ false → cond b (Err why) (Ok x) ≡ Ok x
-refuses_not b x why e = rw e refl
+count_again : (count : ℕ) → count ≤ 20 → up_to 20 AddressTooLong count ≡ Ok count
+count_again count le = rw (le-leb count 20 le) refl
 
-one_digit : (d : ℕ) → d < 15 → low_digit (240 + d) ≡ Ok d
-one_digit d h =
-    let low : (240 + d) % 16 ≡ d = omega arith in
-    rw low (chooses (ltb d 15) d BadDigit (lt-ltb d 15 h))
+named_as : (kind : ℕ) (named : Bool) (symbols : Symbols) (rest : List ℕ) → eqb kind 5 ≡ named → AreSymbolsOf kind symbols → (symbols_by named (symbols_length symbols)).reads symbols (symbols_octets symbols) rest
+unfolding symbols_by
+named_as kind true (Digits values) rest is fits = absurd (fits.0 (eqb-true kind 5 is))
+named_as kind false (Digits values) rest is fits = record { choice = values; front = digit_octets values; back = []; parts = sym (append-nil (digit_octets values)); of_first = digits_again values rest fits.1.each; of_second = (refl, refl) }
+named_as kind true (Name septets) rest is fits = record { choice = septets; front = name_octets septets; back = []; parts = sym (append-nil (name_octets septets)); of_first = name_again septets rest fits.1; of_second = (refl, refl) }
+named_as kind false (Name septets) rest is fits = absurd (eqb-false kind 5 is fits.0)
 
-two_digits : (d e : ℕ) → d < 15 → e < 15 → both_digits (16 * e + d) ≡ Ok (d, e)
-two_digits d e h k =
-    let low : (16 * e + d) % 16 ≡ d = omega arith in
-    let high : (16 * e + d) / 16 ≡ e = omega arith in
-    rw (low, high, lt-ltb d 15 h, lt-ltb e 15 k) refl
+symbols_again : (kind : ℕ) (symbols : Symbols) (rest : List ℕ) → AreSymbolsOf kind symbols → (symbols_by (kind == alphanumeric) (symbols_length symbols)).reads symbols (symbols_octets symbols) rest
+symbols_again kind symbols rest fits = named_as kind (eqb kind 5) symbols rest refl fits
 
-pub digits_again : (v rest : List ℕ) → AllByRecursion (λ d. d < 15) v → (digits (length v)).reads v (digit_octets v) rest
-unfolding digits digit_octets
-digits_again [] rest fits = (refl, refl)
-digits_again (d ∷ []) rest fits = record {
-  choice = d;
-  front = (240 + d) ∷ [];
-  back = [];
-  parts = refl;
-  of_first = (240 + d, refl, one_digit d fits.0);
-  of_second = (refl, refl);
-}
-digits_again (d ∷ e ∷ v) rest fits = record {
-  choice = (d, e);
-  front = (16 * e + d) ∷ [];
-  back = digit_octets v;
-  parts = refl;
-  of_first = (16 * e + d, refl, two_digits d e fits.0 fits.1.0);
-  of_second = record { choice = v; front = digit_octets v; back = []; parts = sym (append-nil _); of_first = digits_again v rest fits.1.1; of_second = (refl, refl) };
-}
-
-type_again : (kind plan : ℕ) → kind < 8 → kind ≢ 5 → plan < 16 → type_of_address (128 + 16 * kind + plan) ≡ Ok (kind, plan)
-type_again kind plan small number less =
-    let is_kind : (128 + 16 * kind + plan) / 16 % 8 ≡ kind = omega arith in
-    let is_plan : (128 + 16 * kind + plan) % 16 ≡ plan = omega arith in
-    rw (is_kind, is_plan, ne_eqb kind 5 number) refl
-
-digits_are_octets : (v : List ℕ) → AllByRecursion (λ d. d < 15) v → IsOctets (digit_octets v)
-unfolding digit_octets
-digits_are_octets [] fits = tt
-digits_are_octets (d ∷ []) fits = (omega (arith, fits.0), tt)
-digits_are_octets (d ∷ e ∷ v) fits = (omega (arith, fits.0, fits.1.0), digits_are_octets v fits.1.1)
+symbols_are_octets : (kind : ℕ) (symbols : Symbols) → AreSymbolsOf kind symbols → IsOctets (symbols_octets symbols)
+symbols_are_octets kind (Digits values) fits = digits_are_octets values fits.1.each
+symbols_are_octets kind (Name septets) fits = name_octets_are septets
 
 pub address_again : (n : AddressValue) (rest : List ℕ) → HasSpelling n → address.reads n (address_octets n) rest
 unfolding address address_octets
-address_again n rest fits = record {
-  choice = length n.digits;
-  front = length n.digits ∷ [];
-  back = (128 + 16 * n.kind + n.plan) ∷ digit_octets n.digits;
-  parts = refl;
-  of_first = (length n.digits, refl, chooses (leb (length n.digits) 20) (length n.digits) AddressTooLong (le-leb _ _ fits.digits.few));
-  of_second = record {
-    choice = (n.kind, n.plan);
-    front = (128 + 16 * n.kind + n.plan) ∷ [];
-    back = digit_octets n.digits;
-    parts = refl;
-    of_first = (128 + 16 * n.kind + n.plan, refl, type_again n.kind n.plan fits.kind fits.is_number fits.plan);
-    of_second = record { choice = n.digits; front = digit_octets n.digits; back = []; parts = sym (append-nil _); of_first = digits_again n.digits rest fits.digits.each; of_second = (refl, refl) };
-  };
-}
+address_again n rest fits =
+    let octet : ℕ = 128 + 16 * n.kind + n.plan in
+    let kind : octet / 16 % 8 ≡ n.kind = omega (arith, fits.kind, fits.plan) in
+    let plan : octet % 16 ≡ n.plan = omega (arith, fits.plan) in
+    record {
+      choice = symbols_length n.symbols;
+      front = symbols_length n.symbols ∷ [];
+      back = octet ∷ symbols_octets n.symbols;
+      parts = refl;
+      of_first = (symbols_length n.symbols, refl, count_again (symbols_length n.symbols) (length_fits n.kind n.symbols fits.symbols));
+      of_second = record {
+        choice = octet;
+        front = octet ∷ [];
+        back = symbols_octets n.symbols;
+        parts = refl;
+        of_first = refl;
+        of_second = record {
+          choice = n.symbols;
+          front = symbols_octets n.symbols;
+          back = [];
+          parts = sym (append-nil (symbols_octets n.symbols));
+          of_first = rw kind (symbols_again n.kind n.symbols rest fits.symbols);
+          of_second = (rw (kind, plan) refl, refl);
+        };
+      };
+    }
 
 pub address_are_octets : (n : AddressValue) → HasSpelling n → IsOctets (address_octets n)
 unfolding address_octets
-address_are_octets n fits = (omega (arith, fits.digits.few), (omega (arith, fits.kind, fits.plan), digits_are_octets n.digits fits.digits.each))
+address_are_octets n fits = (omega (arith, length_fits n.kind n.symbols fits.symbols), (omega (arith, fits.kind, fits.plan), symbols_are_octets n.kind n.symbols fits.symbols))

@@ -1,5 +1,5 @@
 -- The fields that others are joined from.
-use Rattle.std.specs.Prelude.{◌≡◌, ℕ, ◌+◌, List, [], ◌∷◌, length, take, drop, Result, Ok, Err, nat_lt, if◌then◌else◌}
+use Rattle.std.specs.Prelude.{◌≡◌, ℕ, ◌+◌, List, [], ◌∷◌, length, take, drop, Result, Ok, Err, nat_le, nat_lt, if◌then◌else◌}
 use Rattle.sms_field.specs.LawfulField.{Outcome, found, refused, Field}
 
 -- no octet, and always this value
@@ -57,3 +57,7 @@ renamed {V} {W} name f = record {
   reason = λ front octet other. (why : W) × (f.reason front octet why) × (other ≡ name why);
   read = λ at input. renamed_outcome name (f.read at input);
 }
+
+-- the meaning of an octet that is a number up to a limit
+abbrev pub up_to : {W : Type 0} → ℕ → W → ℕ → Result ℕ W
+up_to limit why n = if nat_le n limit then Ok n else Err why

@@ -1,44 +1,30 @@
-//! Addresses: a type of number, a plan and digits.
+//! Addresses of the transfer layer (3GPP TS 23.040, 9.1.2.5).
 
-ghost use Rattle.std.specs.Prelude.{◌≡◌, ℕ, ◌+◌, ◌*◌, ◌^◌, ◌<◌, ◌≤◌, length, IfOk, IfErr, OnOk, All, ◌++◌};
-ghost use Rattle.std.specs.Prelude.{List};
-ghost use Rattle.sms_field.specs.Field.{IsLawful, octet_by};
-ghost use Rattle.sms_field.specs.AddressValue.{AddressValue, HasSpelling};
-ghost use Rattle.sms_field.specs.Address.{low_digit, both_digits, digits, address, digit_octets, address_octets};
-ghost use Rattle.sms_field.specs.declared.fault.FieldFault.TheVariants.{Short, BadDigit};
+ghost use Rattle.std.specs.Prelude.{◌≡◌, ◌<◌, ◌≤◌, ◌/◌, ◌%◌, ◌==◌, ℕ, List, ◌++◌, IfOk, IfErr, OnOk};
+ghost use Rattle.sms_field.specs.Field.{IsLawful};
+ghost use Rattle.sms_field.specs.AddressValue.{AddressValue, HasSpelling, AreSymbolsOf, alphanumeric};
+ghost use Rattle.sms_field.specs.Address.{symbols_by, address, address_octets};
+ghost use Rattle.sms_field.specs.declared.fault.FieldFault.TheVariants.{Short};
 ghost use Rattle.sms_field.specs.Reading.{Reads, IsRefused};
 ghost use Rattle.sms_field.specs.Answer.{Gives};
 
 use crate::cursor::Cursor;
+use crate::digits::{Digits, digits_at};
 use crate::fault::FieldFault;
+use crate::name::{Name, name_at};
 use crate::refusal::Refusal;
+use crate::symbols::Symbols;
 use std::alloc::{AllocError, Global};
 use std::marker::Model;
 
-/// Up to 20 digits, each 0 to 14.
-#[derive(Drop)]
-pub struct Digits {
-    values: Vec<u8>,
-}
-
-impl Model for Digits {
-    ghost use Rattle.std.specs.Prelude.{ℕ, List};
-
-    ghost Value = { List ℕ };
-
-    ghost use Rattle.sms_field.specs.Digits.{AreDigits};
-
-    ghost view = { λ d. d.values.items };
-
-    ghost invariant = { λ d. AreDigits d.values.items };
-}
-
-/// An address with digits.
-#[derive(Drop)]
+/// An address with up to 20 digits, or with a name where the type of number is 5.
+#[derive(Debug, PartialEq, Eq, Hash, Drop)]
 pub struct Address {
+    /// 0 to 7; 1 is international, 5 alphanumeric.
     pub type_of_number: u8,
+    /// The numbering plan, 0 to 15; 1 is that of telephones.
     pub plan: u8,
-    pub digits: Digits,
+    pub symbols: Symbols,
 }
 
 impl Model for Address {
@@ -46,83 +32,34 @@ impl Model for Address {
 
     ghost Value = { AddressValue };
 
-    ghost view = { λ a. record { kind = a.type_of_number; plan = a.plan; digits = a.digits } };
+    ghost view = { λ a. record { kind = a.type_of_number; plan = a.plan; symbols = a.symbols } };
 
-    ghost invariant = { λ a. HasSpelling (record { kind = a.type_of_number; plan = a.plan; digits = a.digits }) };
+    ghost inverse = { λ v. record { type_of_number = v.kind; plan = v.plan; symbols = v.symbols } };
+
+    ghost invariant = { λ a. HasSpelling (record { kind = a.type_of_number; plan = a.plan; symbols = a.symbols }) };
 }
 
-/// A digit in the low half of an octet.
-fn low_digit_at(input: &mut Cursor) -> Result<u8, Refusal<FieldFault>>
-    ensures { Gives (λ d. d) result input.new.place input.new.rest.now ((octet_by Short low_digit).read input.old.place input.old.rest.now) }
+/// The type of number of names.
+const ALPHANUMERIC: u8 = 5;
+
+/// The symbols in so many semi-octets.
+#[tactic(auto, unfolding(crate::specs::Address::symbols_by))]
+fn symbols_at(
+    alloc: Global,
+    input: &mut Cursor,
+    type_of_number: u8,
+    count: u8,
+) -> Result<Symbols, Refusal<FieldFault>>
+    requires { count ≤ 20 }
+    ensures answer { Gives (λ s. s) result input.new.place input.new.rest.now ((symbols_by (type_of_number == alphanumeric) count).read input.old.place input.old.rest.now) }
+    ensures fits { IfOk result (λ s. AreSymbolsOf type_of_number s) }
 {
-    let place = input.place;
-    let octet = input.octet()?;
-    let low = octet % 16;
-    if low < 15 {
-        Ok(low)
+    if type_of_number == ALPHANUMERIC {
+        let septets = name_at(alloc, input, count)?;
+        Ok(Symbols::Name(Name::new(septets)))
     } else {
-        Err(Refusal::At {
-            place,
-            why: FieldFault::BadDigit,
-        })
-    }
-}
-
-/// Two digits in an octet, the one in the low half first.
-fn both_digits_at(input: &mut Cursor) -> Result<(u8, u8), Refusal<FieldFault>>
-    ensures { Gives (λ d. d) result input.new.place input.new.rest.now ((octet_by Short both_digits).read input.old.place input.old.rest.now) }
-{
-    let place = input.place;
-    let octet = input.octet()?;
-    let (low, high) = (octet % 16, octet / 16);
-    if low < 15 && high < 15 {
-        Ok((low, high))
-    } else {
-        Err(Refusal::At {
-            place,
-            why: FieldFault::BadDigit,
-        })
-    }
-}
-
-/// The digits of an address, two an octet.
-fn digits_at(alloc: Global, input: &mut Cursor, count: u8) -> Result<Vec<u8>, Refusal<FieldFault>>
-    ensures { Gives (λ v. v.items) result input.new.place input.new.rest.now ((digits count).read input.old.place input.old.rest.now) }
-{
-    let mut digits = Vec::new(alloc);
-    for _ in 0..count / 2 {
-        let (low, high) = both_digits_at(input)?;
-        digits.push(low)?;
-        digits.push(high)?;
-    }
-    if count % 2 == 1 {
-        digits.push(low_digit_at(input)?)?;
-    }
-    Ok(digits)
-}
-
-/// Writes digits, two an octet.
-fn put_digits(out: &mut Vec<u8>, digits: &[u8]) -> Result<(), AllocError>
-    requires { All (λ digit. digit < 15) digits.now }
-    ensures { OnOk result (out.new.items ≡ out.old.items ++ digit_octets digits.now) }
-{
-    let mut rest = digits;
-    while let [low, high, others @ ..] = rest {
-        out.push(16 * *high + *low)?;
-        rest = others;
-    }
-    if rest.len() == 1 {
-        out.push(240 + rest[0])?;
-    }
-    Ok(())
-}
-
-impl Digits {
-    /// The digits, each 0 to 14.
-    pub fn as_slice(&self) -> &[u8]
-        ensures { result.now ≡ self.now }
-    {
-        &self.values
+        let values = digits_at(alloc, input, count)?;
+        Ok(Symbols::Digits(Digits::new(values)))
     }
 }
 
@@ -134,15 +71,34 @@ pub fn address_laws()
 {}
 
 impl Address {
+    /// The same address.
+    pub fn copy(&self, alloc: Global) -> Result<Address, AllocError>
+        ensures { IfOk result (λ copy. copy ≡ self.now) }
+    {
+        Ok(Address {
+            type_of_number: self.type_of_number,
+            plan: self.plan,
+            symbols: self.symbols.copy(alloc)?,
+        })
+    }
+
+    /// The octets of the address: the number of semi-octets, the type octet with bit 7 set, and the symbols.
+    pub fn write(&self, alloc: Global) -> Result<Vec<u8>, AllocError>
+        ensures { IfOk result (λ octets. octets.items ≡ address_octets self.now) }
+    {
+        let mut octets = Vec::new(alloc);
+        self.write_to(&mut octets)?;
+        Ok(octets)
+    }
+
     /// Adds the octets of the address.
     #[tactic(auto, unfolding(crate::specs::Address::address_octets))]
     pub fn write_to(&self, out: &mut Vec<u8>) -> Result<(), AllocError>
         ensures { OnOk result (out.new.items ≡ out.old.items ++ address_octets self.now) }
     {
-        let digits = &self.digits;
-        out.push(digits.values.len() as u8)?;
+        out.push(self.symbols.length())?;
         out.push(128 + 16 * self.type_of_number + self.plan)?;
-        put_digits(out, &digits.values)
+        self.symbols.write_to(out)
     }
 
     /// Reads an address at the front of the octets, and says how many it takes.
@@ -168,20 +124,13 @@ impl Address {
                 why: FieldFault::AddressTooLong,
             });
         }
-        let place = input.place;
         let kind = input.octet()?;
         let type_of_number = kind / 16 % 8;
-        if type_of_number == 5 {
-            return Err(Refusal::At {
-                place,
-                why: FieldFault::NotYet,
-            });
-        }
-        let values = digits_at(alloc, input, count)?;
+        let symbols = symbols_at(alloc, input, type_of_number, count)?;
         Ok(Address {
             type_of_number,
             plan: kind % 16,
-            digits: Digits { values },
+            symbols,
         })
     }
 }

@@ -18,3 +18,13 @@ pub fn days_since_2000(year: u16, month: u8, day: u8) -> Option<u64>
         Err(_) => None,
     }
 }
+
+/// The date of a day that lies that many days after 2000-01-01.
+pub fn date_of(days: u64) -> (u16, u8, u8)
+    requires { days < 36_525 }
+    ensures date { IsDay result.0 result.1 result.2 }
+    ensures value { days_before result.0 result.1 result.2 ≡ days }
+{
+    let plain = jiff_core::civil::Date::from_days_since_min(days as u32 + 4_382_544);
+    (plain.year as u16, plain.month, plain.day)
+}

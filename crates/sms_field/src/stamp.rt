@@ -5,7 +5,7 @@ ghost use Rattle.sms_field.specs.Field.{IsLawful};
 ghost use Rattle.sms_field.specs.declared.fault.FieldFault.TheVariants.{Short};
 ghost use Rattle.sms_field.specs.Reading.{Reads, IsRefused};
 ghost use Rattle.sms_field.specs.Answer.{Gives};
-ghost use Rattle.sms_field.specs.Stamp.{stamp};
+ghost use Rattle.sms_field.specs.Stamp.{stamp, IsStamp};
 ghost use Rattle.sms_field.specs.StampDate.{HasTwoDigits, number_in, quarters_in, date_in, IsDate};
 
 use crate::bit::has_bit;
@@ -23,12 +23,15 @@ pub struct Stamp {
 
 impl Model for Stamp {
     ghost use Rattle.std.specs.Prelude.{List, ℕ};
+    ghost use Rattle.sms_field.specs.Stamp.{IsStamp};
 
     ghost Value = { List ℕ };
 
     ghost view = { λ s. s.octets };
 
     ghost inverse = { λ octets. record { octets = octets } };
+
+    ghost invariant = { λ s. IsStamp s.octets };
 }
 
 /// A date and time of day where it was local, and the distance of its zone.
@@ -36,12 +39,17 @@ impl Model for Stamp {
 pub struct StampDate {
     /// 2000 to 2099.
     pub year: u16,
+    /// 1 to 12.
     pub month: u8,
+    /// 1 to the last day of the month.
     pub day: u8,
+    /// 0 to 23.
     pub hour: u8,
+    /// 0 to 59.
     pub minute: u8,
+    /// 0 to 59.
     pub second: u8,
-    /// Local time less UTC, in quarters of an hour.
+    /// Local time less UTC, in quarters of an hour: -79 to 79.
     pub quarters: i8,
 }
 
@@ -78,14 +86,19 @@ fn quarters_of(zone: u8) -> Option<i8>
 impl Stamp {
     /// The stamp of seven octets, which need not be a date.
     pub fn new(octets: [u8; 7]) -> Stamp
-        ensures { result ≡ octets }
+        ensures is { result ≡ octets }
+        ensures in_range { IsStamp result }
     {
-        Stamp { octets }
+        let [year, month, day, hour, minute, second, zone] = octets;
+        Stamp {
+            octets: [year, month, day, hour, minute, second, zone],
+        }
     }
 
     /// The seven octets of the stamp.
     pub fn octets(&self) -> [u8; 7]
-        ensures { result ≡ self.now }
+        ensures are { result ≡ self.now }
+        ensures in_range { IsStamp self.now }
     {
         self.octets
     }
@@ -126,11 +139,12 @@ impl Stamp {
 
     /// Reads a stamp at a cursor.
     pub fn read_at<W: Reason>(input: &mut Cursor) -> Result<Stamp, Refusal<W>>
-        ensures { Gives (λ s. s) result input.new.place input.new.rest.now ((stamp W.short).read input.old.place input.old.rest.now) }
+        ensures in_range { IfOk result IsStamp }
+        ensures read { Gives (λ s. s) result input.new.place input.new.rest.now ((stamp W.short).read input.old.place input.old.rest.now) }
     {
         let mut octets = [0; 7];
         octets.copy_from_slice(input.octets(7)?);
-        Ok(Stamp { octets })
+        Ok(Stamp::new(octets))
     }
 }
 

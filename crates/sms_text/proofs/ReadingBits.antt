@@ -85,12 +85,9 @@ no_octets : length (octet_bits []) ≡ 8 * 0
 unfolding octet_bits
 no_octets = refl
 
-length-octet_bits-go : (xs : List ℕ) → length (octet_bits xs) ≡ 8 * length xs
-length-octet_bits-go [] = no_octets
-length-octet_bits-go (x ∷ xs) = ap length (octet_bits-cons x xs) ∙ length-append (bits 8 x) (octet_bits xs) ∙ omega (arith, length-bits 8 x, length-octet_bits-go xs)
-
 pub length-octet_bits : (xs : List ℕ) → length (octet_bits xs) ≡ 8 * length xs
-length-octet_bits xs = length-octet_bits-go xs
+length-octet_bits [] = no_octets
+length-octet_bits (x ∷ xs) = ap length (octet_bits-cons x xs) ∙ length-append (bits 8 x) (octet_bits xs) ∙ omega (arith, length-bits 8 x, length-octet_bits xs)
 
 pub number-bits : (w n : ℕ) → n < 2 ^ w → number (bits w n) ≡ n
 unfolding number bits

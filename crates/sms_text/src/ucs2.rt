@@ -5,7 +5,7 @@ ghost use Rattle.std.specs.Str.{chars};
 ghost use Rattle.std.specs.String.{string_bytes};
 ghost use Rattle.std.specs.Char.Utf16.{utf16_lossy_chars};
 ghost use Rattle.sms_text.specs.Octets.{IsOctets};
-ghost use Rattle.sms_text.specs.Utf16.{AreUnits, utf16_units, octets_high_first, units_high_first};
+ghost use Rattle.sms_text.specs.Utf16.{utf16_units, octets_high_first, units_high_first};
 
 use std::alloc::{AllocError, Global};
 

@@ -1,8 +1,8 @@
 -- What an SMS-DELIVER is (3GPP TS 23.040, 9.2.2.1).
-use Rattle.std.specs.Prelude.{◌≡◌, ℕ, ◌<◌, Bool, List, length}
-use Rattle.sms_text.specs.Octets.{IsOctets}
+use Rattle.std.specs.Prelude.{ℕ, ◌<◌, Bool, List}
 use Rattle.sms_field.specs.AddressValue.{AddressValue, HasSpelling}
 use Rattle.sms_field.specs.Coding.{alphabet_at}
+use Rattle.sms_field.specs.Stamp.{IsStamp}
 use Rattle.sms_tpdu.specs.UserData.{FitsAlphabet}
 use Rattle.sms_tpdu.specs.declared.user.UserData.{UserData}
 
@@ -22,5 +22,5 @@ pub record IsDeliverable (d : Delivery) : Type 0 where
   pub origin : HasSpelling d.origin
   pub pid : d.pid < 256
   pub dcs : d.dcs < 256
-  pub stamp : (length d.stamp ≡ 7) × IsOctets d.stamp
-  pub user : FitsAlphabet (alphabet_at d.dcs) d.user.body
+  pub stamp : IsStamp d.stamp
+  pub user : FitsAlphabet (alphabet_at d.dcs) d.user

@@ -8,4 +8,3 @@ pub fault_apart : (why : FieldFault) → unit_fault fields.Short ≡ unit_fault 
 fault_apart fields.Short e = refl
 fault_apart fields.AddressTooLong e = absurd cc
 fault_apart fields.BadDigit e = absurd cc
-fault_apart fields.NotYet e = absurd cc

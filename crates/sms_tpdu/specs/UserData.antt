@@ -1,52 +1,82 @@
--- User data, without a header (3GPP TS 23.040, 9.2.3.16 and 9.2.3.24).
-use Rattle.std.specs.Prelude.{◌≡◌, ℕ, ◌≤◌, List, ◌∷◌, length}
+-- User data (3GPP TS 23.040, 9.2.3.16 and 9.2.3.24): a length, a header where the first octet says so, and a body.
+use Rattle.std.specs.Prelude.{◌≡◌, ℕ, ◌+◌, ◌-◌, ◌≤◌, Bool, true, false, List, [], ◌∷◌, ◌++◌, length, Option, Some, None, is_some, Result, Ok, Err, nat_le, if◌then◌else◌}
 use Rattle.sms_text.specs.Bits.{unpacked, PackedPlain, AreSeptets}
 use Rattle.sms_text.specs.Octets.{IsOctets}
 use Rattle.sms_field.specs.Field.{Field, ◌>>=◌, always, octet_by, octets_of}
 use Rattle.sms_field.specs.Address.{up_to}
 use Rattle.sms_field.specs.declared.coding.Alphabet.{Alphabet}
 use Rattle.sms_field.specs.declared.coding.Alphabet.TheVariants.{Gsm7}
-use Rattle.sms_tpdu.specs.DataLength.{greatest_length, octets_of_length}
+use Rattle.sms_tpdu.specs.DataLength.{greatest_length, octets_of_length, length_of_header, fill_bits}
 use Rattle.sms_tpdu.specs.declared.fault.UnitFault.{UnitFault}
-use Rattle.sms_tpdu.specs.declared.fault.UnitFault.TheVariants.{Short, DataTooLong}
+use Rattle.sms_tpdu.specs.declared.fault.UnitFault.TheVariants.{Short, DataTooLong, HeaderTooLong}
 use Rattle.sms_tpdu.specs.declared.user.Body.{Body}
 use Rattle.sms_tpdu.specs.declared.user.Body.TheVariants as body
 use Rattle.sms_tpdu.specs.declared.user.UserData.{UserData}
 
--- the user data go with a coding scheme: septets exactly under the 7-bit alphabet, and not too many
-abbrev pub FitsAlphabet : Alphabet → Body → Type 0
-FitsAlphabet Gsm7 (body.Septets septets) = (length septets ≤ 160) × AreSeptets septets
-FitsAlphabet Gsm7 (body.Octets octets) = ⊥
-FitsAlphabet _ (body.Septets septets) = ⊥
-FitsAlphabet _ (body.Octets octets) = (length octets ≤ 140) × IsOctets octets
+-- the octets of a header, its length octet first; none where there is no header
+abbrev pub header_octets : Option (List ℕ) → List ℕ
+header_octets None = []
+header_octets (Some header) = length header ∷ header
+
+-- ---- the user data go with a coding scheme: septets exactly under the 7-bit alphabet, and header and body not too long
+
+abbrev pub BodyFits : Alphabet → ℕ → Body → Type 0
+BodyFits Gsm7 taken (body.Septets septets) = (length_of_header Gsm7 taken + length septets ≤ 160) × AreSeptets septets
+BodyFits Gsm7 taken (body.Octets octets) = ⊥
+BodyFits _ taken (body.Septets septets) = ⊥
+BodyFits _ taken (body.Octets octets) = (taken + length octets ≤ 140) × IsOctets octets
+
+abbrev pub FitsAlphabet : Alphabet → UserData → Type 0
+FitsAlphabet alphabet user = IsOctets (header_octets user.header) × BodyFits alphabet (length (header_octets user.header)) user.body
 
 -- ---- as they are read
 
--- so many septets, spare bits left out; or the octets as they are
-abbrev pub body_of : Alphabet → ℕ → List ℕ → Body
-body_of Gsm7 count octets = body.Septets (unpacked 0 count octets)
-body_of _ count octets = body.Octets octets
+-- the body behind so many octets of header: fill bits and spare bits are left out
+abbrev pub body_of : Alphabet → ℕ → ℕ → List ℕ → Body
+body_of Gsm7 taken count octets = body.Septets (unpacked (fill_bits taken) (count - length_of_header Gsm7 taken) octets)
+body_of _ taken count octets = body.Octets octets
 
-unfoldable pub user_data : Alphabet → Field UserData UnitFault
-user_data alphabet = do
+-- a length that has room for the shortest header
+abbrev pub length_with_header : Alphabet → ℕ → Result ℕ UnitFault
+length_with_header alphabet count = if nat_le count (greatest_length alphabet) then (if nat_le (length_of_header alphabet 1) count then Ok count else Err HeaderTooLong) else Err DataTooLong
+
+-- a header's length that the data have room for
+abbrev pub header_length : Alphabet → ℕ → ℕ → Result ℕ UnitFault
+header_length alphabet count size = if nat_le (length_of_header alphabet (size + 1)) count then Ok size else Err HeaderTooLong
+
+-- without a header, and with one
+unfoldable pub user_data : Bool → Alphabet → Field UserData UnitFault
+user_data false alphabet = do
   -- above 160 septets or 140 octets: DataTooLong
   count ← octet_by Short (up_to (greatest_length alphabet) DataTooLong)
   octets ← octets_of Short (octets_of_length alphabet count)
-  always (record { body = body_of alphabet count octets })
+  always (record { header = None; body = body_of alphabet 0 count octets })
+user_data true alphabet = do
+  -- above 160 septets or 140 octets: DataTooLong; without room for a header: HeaderTooLong
+  count ← octet_by Short (length_with_header alphabet)
+  -- longer than the data: HeaderTooLong
+  size ← octet_by Short (header_length alphabet count)
+  header ← octets_of Short size
+  octets ← octets_of Short (octets_of_length alphabet count - (size + 1))
+  always (record { header = Some header; body = body_of alphabet (size + 1) count octets })
 
 -- ---- as they are written
 
-abbrev pub body_length : Body → ℕ
-body_length (body.Septets septets) = length septets
-body_length (body.Octets octets) = length octets
+abbrev pub has_header : UserData → Bool
+has_header user = is_some user.header
 
--- the septets packed, spare bits 0; or the octets as they are
-abbrev pub SpellsBody : Body → List ℕ → Type 0
-SpellsBody (body.Septets septets) packed = PackedPlain 0 septets packed × IsOctets packed
-SpellsBody (body.Octets octets) written = written ≡ octets
+-- the length of header and body
+abbrev pub data_length : ℕ → Body → ℕ
+data_length taken (body.Septets septets) = length_of_header Gsm7 taken + length septets
+data_length taken (body.Octets octets) = taken + length octets
 
--- the length, and the body
+-- the septets packed, fill bits and spare bits 0; or the octets as they are
+abbrev pub SpellsBody : ℕ → Body → List ℕ → Type 0
+SpellsBody taken (body.Septets septets) packed = PackedPlain (fill_bits taken) septets packed × IsOctets packed
+SpellsBody taken (body.Octets octets) written = written ≡ octets
+
+-- the length, the header, the body
 pub record SpellsUserData (user : UserData) (octets : List ℕ) : Type 0 where
   pub written : List ℕ
-  pub spells_body : SpellsBody user.body written
-  pub parts : octets ≡ body_length user.body ∷ written
+  pub spells_body : SpellsBody (length (header_octets user.header)) user.body written
+  pub parts : octets ≡ data_length (length (header_octets user.header)) user.body ∷ (header_octets user.header ++ written)

@@ -6,13 +6,13 @@ ghost use Rattle.sms_tpdu.specs.DeliverFlags.{deliver_flags};
 ghost use Rattle.sms_tpdu.specs.Deliver.{deliver};
 ghost use Rattle.sms_tpdu.specs.declared.fault.UnitFault.TheVariants.{Short};
 
+use crate::address::address_at;
 use crate::data::{put_user_data, user_data_at};
+use crate::deliver_flags::DeliverFlags;
 use crate::fault::UnitFault;
-use crate::fields::{address_at, stamp_at};
-use crate::flags::DeliverFlags;
 use crate::unit::Unit;
 use crate::user::UserData;
-use sms_field::{Address, Cursor, Refusal, alphabet_of};
+use sms_field::{Address, Cursor, Refusal, Stamp, alphabet_of};
 use std::alloc::{AllocError, Global};
 use std::marker::Model;
 
@@ -33,8 +33,8 @@ pub struct Deliver {
     pub pid: u8,
     /// The data coding scheme.
     pub dcs: u8,
-    /// When the service centre took the message, as it came.
-    pub stamp: [u8; 7],
+    /// When the service centre took the message.
+    pub stamp: Stamp,
     /// Septets exactly where the data coding scheme says the 7-bit alphabet.
     pub user: UserData,
 }
@@ -70,8 +70,8 @@ fn deliver_at(alloc: Global, input: &mut Cursor) -> Result<Deliver, Refusal<Unit
     let origin = address_at(alloc, input)?;
     let pid = input.octet()?;
     let dcs = input.octet()?;
-    let stamp = stamp_at(input)?;
-    let user = user_data_at(alloc, input, alphabet_of(dcs))?;
+    let stamp = Stamp::read_at(input)?;
+    let user = user_data_at(alloc, input, flags.header, alphabet_of(dcs))?;
     Ok(Deliver {
         more: flags.more,
         looped: flags.looped,
@@ -111,6 +111,7 @@ impl Unit for Deliver {
             more: self.more,
             looped: self.looped,
             report: self.report,
+            header: self.user.header.is_some(),
             reply: self.reply,
         };
         let mut out = Vec::new(alloc);
@@ -118,7 +119,7 @@ impl Unit for Deliver {
         self.origin.write_to(&mut out)?;
         out.push(self.pid)?;
         out.push(self.dcs)?;
-        out.extend_from_slice(&self.stamp)?;
+        out.extend_from_slice(&self.stamp.octets())?;
         put_user_data(alloc, &mut out, &self.user)?;
         Ok(out)
     }

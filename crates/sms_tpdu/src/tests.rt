@@ -1,7 +1,7 @@
 //! Units whose octets are known from the standard's tables.
 
-use crate::{Body, Deliver, Refusal, Unit, UnitFault};
-use sms_field::FieldFault;
+use crate::{Body, Concat, Deliver, Refusal, Submit, Unit, UnitFault, Width, reread};
+use sms_field::{FieldFault, Stamp, Symbols, Validity};
 use std::test::Fail;
 
 /// A delivery of `hellohello`.
@@ -16,6 +16,123 @@ const TOO_LONG: [u8; 19] = [
     0x95, 0x80, 0xA1,
 ];
 
+/// A delivery of two septets, with a header of two octets.
+const HEADER_LONGER_THAN_DATA: [u8; 16] = [
+    0x44, 0x04, 0x91, 0x01, 0x10, 0x00, 0x00, 0x00, 0x10, 0x10, 0x00, 0x00, 0x00, 0x00, 0x02, 0x02,
+];
+
+/// A delivery of one septet, with a header.
+const NO_ROOM_FOR_A_HEADER: [u8; 15] = [
+    0x44, 0x04, 0x91, 0x01, 0x10, 0x00, 0x00, 0x00, 0x10, 0x10, 0x00, 0x00, 0x00, 0x00, 0x01,
+];
+
+/// A delivery, its header if it has one, the place of a segment that the header tells, and its body.
+#[derive(Drop)]
+struct Headed<'a> {
+    octets: &'a [u8],
+    header: Option<&'a [u8]>,
+    concat: Option<Concat>,
+    body: &'a [u8],
+}
+
+#[test]
+fn reads_and_writes_headers(rt: HostRuntime) -> Result<(), Fail> {
+    let rows = [
+        // the sequence is 3 of 2
+        Headed {
+            octets: &[
+                0x44, 0x04, 0x91, 0x01, 0x10, 0x00, 0x00, 0x00, 0x10, 0x10, 0x00, 0x00, 0x00, 0x00,
+                0x09, 0x05, 0x00, 0x03, 0x0A, 0x02, 0x03, 0xD0, 0x69,
+            ],
+            header: Some(&[0x00, 0x03, 0x0A, 0x02, 0x03]),
+            concat: None,
+            body: b"hi",
+        },
+        // the element is cut
+        Headed {
+            octets: &[
+                0x44, 0x04, 0x91, 0x01, 0x10, 0x00, 0x00, 0x00, 0x10, 0x10, 0x00, 0x00, 0x00, 0x00,
+                0x08, 0x04, 0x00, 0x03, 0x0A, 0x02, 0xA0, 0xD3,
+            ],
+            header: Some(&[0x00, 0x03, 0x0A, 0x02]),
+            concat: None,
+            body: b"hi",
+        },
+        // an empty header fills the data
+        Headed {
+            octets: &[
+                0x44, 0x04, 0x91, 0x01, 0x10, 0x00, 0x00, 0x00, 0x10, 0x10, 0x00, 0x00, 0x00, 0x00,
+                0x02, 0x00, 0x00,
+            ],
+            header: Some(&[]),
+            concat: None,
+            body: b"",
+        },
+        // a reference of sixteen bits
+        Headed {
+            octets: &[
+                0x44, 0x04, 0x91, 0x01, 0x10, 0x00, 0x00, 0x00, 0x10, 0x10, 0x00, 0x00, 0x00, 0x00,
+                0x0A, 0x06, 0x08, 0x04, 0x01, 0x02, 0x02, 0x01, 0xE8, 0x34,
+            ],
+            header: Some(&[0x08, 0x04, 0x01, 0x02, 0x02, 0x01]),
+            concat: Some(Concat {
+                width: Width::Sixteen,
+                reference: 258,
+                maximum: 2,
+                sequence: 1,
+            }),
+            body: b"hi",
+        },
+        // of two elements the last counts
+        Headed {
+            octets: &[
+                0x44, 0x04, 0x91, 0x01, 0x10, 0x00, 0x00, 0x00, 0x10, 0x10, 0x00, 0x00, 0x00, 0x00,
+                0x10, 0x0B, 0x00, 0x03, 0x0A, 0x02, 0x01, 0x08, 0x04, 0x01, 0x02, 0x02, 0x02, 0xA0,
+                0xD3,
+            ],
+            header: Some(&[
+                0x00, 0x03, 0x0A, 0x02, 0x01, 0x08, 0x04, 0x01, 0x02, 0x02, 0x02,
+            ]),
+            concat: Some(Concat {
+                width: Width::Sixteen,
+                reference: 258,
+                maximum: 2,
+                sequence: 2,
+            }),
+            body: b"hi",
+        },
+        // one letter in UCS-2
+        Headed {
+            octets: &[
+                0x04, 0x04, 0x91, 0x01, 0x10, 0x00, 0x08, 0x00, 0x10, 0x10, 0x00, 0x00, 0x00, 0x00,
+                0x02, 0x04, 0x36,
+            ],
+            header: None,
+            concat: None,
+            body: &[0x04, 0x36],
+        },
+    ];
+    for row in &rows {
+        let (deliver, used) = Deliver::read(rt.alloc(), row.octets)?;
+        let user = deliver.user.copy(rt.alloc())?;
+        let body = match &user.body {
+            Body::Septets(septets) => septets.as_slice(),
+            Body::Octets(octets) => octets.as_slice(),
+        };
+        assert_eq!(rt; body, row.body);
+        match (&user.header, row.header) {
+            (Some(header), Some(wanted)) => {
+                assert_eq!(rt; header.as_slice(), wanted);
+                assert_eq!(rt; header.concat(), row.concat);
+            }
+            (header, wanted) => assert_eq!(rt; header.is_some(), wanted.is_some()),
+        }
+        let written = deliver.write(rt.alloc())?;
+        assert_eq!(rt; (used, written.as_slice()), (row.octets.len(), row.octets));
+    }
+    Ok(())
+}
+
 #[test]
 fn reads_and_writes_a_delivery(rt: HostRuntime) -> Result<(), Fail> {
     let (deliver, used) = Deliver::read(rt.alloc(), &HELLO)?;
@@ -27,14 +144,18 @@ fn reads_and_writes_a_delivery(rt: HostRuntime) -> Result<(), Fail> {
         (4, 8)
     );
     assert_eq!(rt; (deliver.pid, deliver.dcs), (0, 0));
-    assert_eq!(rt; deliver.stamp, [0x99, 0x30, 0x92, 0x51, 0x61, 0x95, 0x80]);
+    assert_eq!(rt;
+        deliver.stamp.octets(),
+        [0x99, 0x30, 0x92, 0x51, 0x61, 0x95, 0x80]
+    );
     match &deliver.user.body {
         Body::Septets(septets) => {
             assert_eq!(rt; septets.as_slice(), b"hellohello".as_slice());
         }
         Body::Octets(_) => assert!(rt; false, "septets are wanted"),
     }
-    let written = deliver.write(rt.alloc())?;
+    let again = reread(rt.alloc(), &deliver)?;
+    let written = again.write(rt.alloc())?;
     assert_eq!(rt; written.as_slice(), HELLO.as_slice());
     Ok(())
 }
@@ -52,11 +173,12 @@ fn refuses_a_delivery(rt: HostRuntime) -> Result<(), Fail> {
             "cut after {n}"
         );
     }
-    let cases: [(&[u8], usize, UnitFault); 6] = [
+    let cases: [(&[u8], usize, UnitFault); 7] = [
         (&[0x05], 0, UnitFault::WrongType),
         (&[0x06], 0, UnitFault::WrongType),
         (&[0x45], 0, UnitFault::WrongType),
-        (&[0x44], 0, UnitFault::NotYet),
+        (&HEADER_LONGER_THAN_DATA, 15, UnitFault::HeaderTooLong),
+        (&NO_ROOM_FOR_A_HEADER, 14, UnitFault::HeaderTooLong),
         (
             &[0x04, 0x15],
             1,
@@ -71,6 +193,118 @@ fn refuses_a_delivery(rt: HostRuntime) -> Result<(), Fail> {
             Some(Refusal::At { place, why }),
             "{octets:?}"
         );
+    }
+    Ok(())
+}
+
+/// A submission as its octets, and what they say.
+#[derive(Drop)]
+struct Row<'a> {
+    octets: &'a [u8],
+    flags: (bool, bool, bool),
+    reference: u8,
+    validity: Validity,
+    number: (u8, u8),
+    digits: &'a [u8],
+    septets: &'a [u8],
+}
+
+#[test]
+fn reads_and_writes_submissions(rt: HostRuntime) -> Result<(), Fail> {
+    let rows = [
+        Row {
+            octets: &[
+                0x11, 0x00, 0x0B, 0x91, 0x64, 0x07, 0x28, 0x15, 0x53, 0xF8, 0x00, 0x00, 0xAA, 0x0A,
+                0xE8, 0x32, 0x9B, 0xFD, 0x46, 0x97, 0xD9, 0xEC, 0x37,
+            ],
+            flags: (false, false, false),
+            reference: 0,
+            validity: Validity::Relative(170),
+            number: (1, 1),
+            digits: &[4, 6, 7, 0, 8, 2, 5, 1, 3, 5, 8],
+            septets: b"hellohello",
+        },
+        // ESC, and the code of the euro sign in the extension table
+        Row {
+            octets: &[
+                0x01, 0x00, 0x04, 0x91, 0x01, 0x20, 0x00, 0x00, 0x02, 0x9B, 0x32,
+            ],
+            flags: (false, false, false),
+            reference: 0,
+            validity: Validity::Absent,
+            number: (1, 1),
+            digits: &[1, 0, 0, 2],
+            septets: &[0x1B, 0x65],
+        },
+        // a repeat is to be rejected
+        Row {
+            octets: &[0x05, 0xFF, 0x04, 0x81, 0x01, 0x20, 0x00, 0x00, 0x01, 0x61],
+            flags: (true, false, false),
+            reference: 255,
+            validity: Validity::Absent,
+            number: (0, 1),
+            digits: &[1, 0, 0, 2],
+            septets: b"a",
+        },
+        // a number with an odd number of digits; the first letter of the alphabet has the code 0
+        Row {
+            octets: &[0x01, 0x00, 0x03, 0x91, 0x21, 0xF3, 0x00, 0x00, 0x01, 0x00],
+            flags: (false, false, false),
+            reference: 0,
+            validity: Validity::Absent,
+            number: (1, 1),
+            digits: &[1, 2, 3],
+            septets: &[0x00],
+        },
+        // the enhanced format, a report wanted
+        Row {
+            octets: &[
+                0x29, 0x01, 0x02, 0x81, 0x21, 0x00, 0x00, 1, 2, 3, 4, 5, 6, 7, 0x00,
+            ],
+            flags: (false, true, false),
+            reference: 1,
+            validity: Validity::Enhanced([1, 2, 3, 4, 5, 6, 7]),
+            number: (0, 1),
+            digits: &[1, 2],
+            septets: &[],
+        },
+        // a stamp, a reply by the same service centre
+        Row {
+            octets: &[
+                0x99, 0x02, 0x02, 0x81, 0x21, 0x00, 0x00, 0x99, 0x30, 0x92, 0x51, 0x61, 0x95, 0x80,
+                0x00,
+            ],
+            flags: (false, false, true),
+            reference: 2,
+            validity: Validity::Absolute(Stamp::new([0x99, 0x30, 0x92, 0x51, 0x61, 0x95, 0x80])),
+            number: (0, 1),
+            digits: &[1, 2],
+            septets: &[],
+        },
+    ];
+    for row in &rows {
+        let (submit, used) = Submit::read(rt.alloc(), row.octets)?;
+        assert_eq!(rt; used, row.octets.len());
+        assert_eq!(rt; (submit.reject, submit.report, submit.reply), row.flags);
+        assert_eq!(rt;
+            (submit.reference, submit.validity),
+            (row.reference, row.validity)
+        );
+        assert_eq!(rt;
+            (submit.target.type_of_number, submit.target.plan),
+            row.number
+        );
+        match &submit.target.symbols {
+            Symbols::Digits(digits) => assert_eq!(rt; digits.as_slice(), row.digits),
+            Symbols::Name(_) => assert!(rt; false, "digits are wanted"),
+        }
+        match &submit.user.body {
+            Body::Septets(septets) => assert_eq!(rt; septets.as_slice(), row.septets),
+            Body::Octets(_) => assert!(rt; false, "septets are wanted"),
+        }
+        let again = reread(rt.alloc(), &submit)?;
+        let written = again.write(rt.alloc())?;
+        assert_eq!(rt; written.as_slice(), row.octets);
     }
     Ok(())
 }

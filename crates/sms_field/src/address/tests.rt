@@ -1,4 +1,5 @@
 use super::*;
+use crate::fault::AddressFault;
 use std::test::Fail;
 
 const NINETEEN: &[u8] = b"\x13\x81\x21\x43\x65\x87\x09\x21\x43\x65\x87\xF9";
@@ -36,7 +37,14 @@ fn addresses_read_or_refused(rt: HostRuntime) -> Result<(), Fail> {
             Ok((address, count)) => {
                 assert_eq!(rt; address.type_of_number, type_of_number, "{octets:?}");
                 assert_eq!(rt; address.plan, plan, "{octets:?}");
-                assert_eq!(rt; address.digits.as_slice(), digits, "{octets:?}");
+                match &address.symbols {
+                    Symbols::Digits(found) => assert_eq!(rt;
+                        found.as_slice(),
+                        digits,
+                        "{octets:?}"
+                    ),
+                    Symbols::Name(_) => assert!(rt; false, "{octets:?}"),
+                }
                 assert_eq!(rt; count, used, "{octets:?}");
             }
             Err(refusal) => assert!(rt; false, "{octets:?}: {refusal:?}"),
@@ -57,8 +65,8 @@ fn addresses_read_or_refused(rt: HostRuntime) -> Result<(), Fail> {
         (b"\x03\x81\x21\xFF", 3, FieldFault::BadDigit),
         (b"\x04\x81\x21\xF3", 3, FieldFault::BadDigit),
         (b"\x04\x81\xF1", 2, FieldFault::BadDigit),
-        (b"\x02\xD0", 1, FieldFault::NotYet),
-        (b"\x02\x50\x21", 1, FieldFault::NotYet),
+        (b"\x15\xD0", 0, FieldFault::AddressTooLong),
+        (b"\x0D\xD0\xE8\x32\x9B\xFD\x46\x97", 8, FieldFault::Short),
     ];
     for (octets, place, why) in refused {
         match Address::read(rt.alloc(), octets) {
@@ -82,6 +90,69 @@ fn addresses_written(rt: HostRuntime) -> Result<(), Fail> {
         let mut out = Vec::new(rt.alloc());
         address.write_to(&mut out)?;
         assert_eq!(rt; out.as_slice(), want);
+    }
+    Ok(())
+}
+
+#[test]
+fn addresses_from_texts(rt: HostRuntime) -> Result<(), Fail> {
+    let good: [(&str, &[u8]); 12] = [
+        ("", b"\x00\x81"),
+        ("+", b"\x00\x91"),
+        ("7", b"\x01\x81\xF7"),
+        ("+1002", b"\x04\x91\x01\x20"),
+        ("*#abc", b"\x05\x81\xBA\xDC\xFE"),
+        ("+*#abc0", b"\x06\x91\xBA\xDC\x0E"),
+        ("1234567890123456789", NINETEEN),
+        ("12345678901234567890", TWENTY),
+        ("hellohe", b"\x0D\xD0\xE8\x32\x9B\xFD\x46\x97\x01"),
+        ("A", b"\x02\xD0\x41"),
+        ("1x", b"\x04\xD0\x31\x3C"),
+        (
+            "hellohelloh",
+            b"\x14\xD0\xE8\x32\x9B\xFD\x46\x97\xD9\xEC\x37\x1A",
+        ),
+    ];
+    for (text, octets) in good {
+        let address = Address::from_text(rt.alloc(), text)?;
+        assert_eq!(rt; address.write(rt.alloc())?.as_slice(), octets, "{text}");
+        assert_eq!(rt; address.to_text(rt.alloc())?.as_str(), text);
+    }
+    let bad: [(&str, AddressFault); 11] = [
+        ("+12x", AddressFault::BadDigit),
+        ("++1", AddressFault::BadDigit),
+        ("+A", AddressFault::BadDigit),
+        ("1\u{3B1}", AddressFault::BadDigit),
+        ("hellohellohello\u{3B1}", AddressFault::BadDigit),
+        ("hellohellohe", AddressFault::TooLong),
+        ("euros 12 \u{20AC}x", AddressFault::TooLong),
+        ("12345678901234567890x", AddressFault::TooLong),
+        ("+123456789012345678901x", AddressFault::BadDigit),
+        ("123456789012345678901", AddressFault::TooLong),
+        ("+123456789012345678901", AddressFault::TooLong),
+    ];
+    for (text, fault) in bad {
+        match Address::from_text(rt.alloc(), text) {
+            Ok(_) => assert!(rt; false, "{text}"),
+            Err(why) => assert_eq!(rt; why, fault, "{text}"),
+        }
+    }
+    Ok(())
+}
+
+#[test]
+fn names_read(rt: HostRuntime) -> Result<(), Fail> {
+    let names: [(&[u8], &str); 4] = [
+        (b"\x0D\xD0\xE8\x32\x9B\xFD\x46\x97\x01", "hellohe"),
+        (b"\x0E\xD0\xE8\x32\x9B\xFD\x46\x97\x01", "hellohe@"),
+        (b"\x00\x50", ""),
+        (b"\x01\xDF\xFF", ""),
+    ];
+    for (octets, text) in names {
+        let (address, used) = Address::read(rt.alloc(), octets)?;
+        assert_eq!(rt; used, octets.len(), "{text}");
+        assert_eq!(rt; address.to_text(rt.alloc())?.as_str(), text);
+        assert!(rt; address.copy(rt.alloc())? == address, "{text}");
     }
     Ok(())
 }

@@ -9,6 +9,6 @@ invariant_of-result c = record {
   origin = subst HasSpelling c.origin.view_is c.origin.invariant;
   pid = omega arith;
   dcs = omega arith;
-  stamp = c.in_ok-stamp.ensures.fits;
-  user = subst (λ (a : Alphabet). FitsAlphabet a c.in_ok-user.user.body) c.alphabet_of.ensures c.in_ok-user.ensures.fits;
+  stamp = c.in_ok-stamp.ensures.in_range;
+  user = subst (λ (a : Alphabet). FitsAlphabet a c.in_ok-user.user) c.alphabet_of.ensures c.in_ok-user.ensures.fits;
 }

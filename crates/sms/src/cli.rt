@@ -1,0 +1,76 @@
+//! The command over any reader and writer.
+
+ghost use Rattle.std.specs.Prelude.{◌≤◌};
+
+use crate::fault::Fault;
+use crate::lines::Lines;
+use crate::show::show_deliver;
+use crate::words::{Request, parse_words};
+use clap::error::ErrorKind;
+use hex::FromHexError;
+use std::alloc::Global;
+use std::convert::AsStr;
+use std::io::{Read, Write};
+
+/// The octets that a word names in hexadecimal. No octets are the empty word or `-`.
+fn octets_of(alloc: Global, word: &str) -> Result<Vec<u8>, Fault> {
+    if word == "-" {
+        return Ok(Vec::new(alloc));
+    }
+    hex::decode(alloc, word).map_err(|error| match error {
+        FromHexError::OutOfMemory => Fault::Memory,
+        _ => Fault::BadHex,
+    })
+}
+
+fn answer<W: Write>(alloc: Global, request: Request<'_>, output: &mut W) -> Result<(), Fault> {
+    match request {
+        Request::Show { octets } => {
+            let octets = octets_of(alloc, octets)?;
+            show_deliver(alloc, &octets, &mut Lines::new(output))
+        }
+    }
+}
+
+/// Writes a fault's line where the output still takes it, and gives its status.
+fn refuse<W: Write>(fault: &Fault, output: &mut W) -> u8
+    ensures { result ≤ 3 }
+{
+    let _ = writeln!(output, "{fault}");
+    fault.status()
+}
+
+/// Writes what `clap` says of the words, and gives its status: 0 for help, else 2.
+fn explain<W: Write>(error: &clap::Error, output: &mut W) -> u8
+    ensures { result ≤ 3 }
+{
+    if error.kind() == ErrorKind::OutOfMemory {
+        return refuse(&Fault::Memory, output);
+    }
+    if let Err(error) = write!(output, "{error}") {
+        return refuse(&Fault::from(error), output);
+    }
+    if error.exit_code() == 0 { 0 } else { 2 }
+}
+
+/// Does what the words ask, the program's name first, and answers the exit status: 0 done, 1 refused
+/// input, 2 wrong words, 3 memory or a device. Nothing reads the input yet.
+pub fn command<S: AsStr, R: Read, W: Write>(
+    alloc: Global,
+    words: &[S],
+    _input: &mut R,
+    output: &mut W,
+) -> u8
+    ensures { result ≤ 3 }
+{
+    match parse_words(alloc, words) {
+        Ok(request) => match answer(alloc, request, output) {
+            Ok(()) => 0,
+            Err(fault) => refuse(&fault, output),
+        },
+        Err(error) => explain(&error, output),
+    }
+}
+
+#[cfg(test)]
+mod tests;

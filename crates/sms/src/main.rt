@@ -1,0 +1,37 @@
+//! The command line of the short message tools.
+#![tactic(auto)]
+
+mod cli;
+mod fault;
+mod lines;
+mod printed;
+mod show;
+mod words;
+
+use std::env;
+use std::io::{self, BufReader, BufWriter, ErrorKind, Write};
+use std::process::ExitCode;
+
+/// The status where the words are wrong.
+const WRONG_WORDS: u8 = 2;
+
+/// The status where memory or a device fails.
+const NO_DEVICE: u8 = 3;
+
+fn run(rt: &HostRuntime) -> io::Result<u8> {
+    let alloc = rt.alloc();
+    let words: Vec<String> = env::args(rt)?.collect(alloc)?;
+    let mut input = BufReader::new(alloc, rt.reader())?;
+    let mut output = BufWriter::new(alloc, io::writer(rt))?;
+    let status = cli::command(alloc, words.as_slice(), &mut input, &mut output);
+    output.flush()?;
+    Ok(status)
+}
+
+fn main(rt: HostRuntime) -> ExitCode {
+    match run(&rt) {
+        Ok(status) => ExitCode::from(status),
+        Err(error) if error.kind() == ErrorKind::InvalidData => ExitCode::from(WRONG_WORDS),
+        Err(_) => ExitCode::from(NO_DEVICE),
+    }
+}

@@ -1,0 +1,100 @@
+//! How values are printed.
+
+use sms_field::{Address, Stamp, StampDate};
+use std::fmt;
+
+/// A bit, as `yes` or `no`.
+#[derive(Clone, Copy, Debug)]
+pub struct Answer(pub bool);
+
+impl fmt::Display for Answer {
+    fn fmt<W: fmt::Write>(&self, f: &mut fmt::Formatter<W>) -> fmt::Result {
+        write!(f, "{}", if self.0 { "yes" } else { "no" })
+    }
+}
+
+/// Octets in upper case hexadecimal, none as `-`.
+#[derive(Clone, Copy, Debug)]
+pub struct Hexadecimal<'a>(pub &'a [u8]);
+
+impl fmt::Display for Hexadecimal<'_> {
+    fn fmt<W: fmt::Write>(&self, f: &mut fmt::Formatter<W>) -> fmt::Result {
+        if self.0.is_empty() {
+            return write!(f, "-");
+        }
+        for octet in self.0 {
+            write!(f, "{octet:02X}")?;
+        }
+        Ok(())
+    }
+}
+
+/// A text in one line: what would break the line stands as an escape.
+#[derive(Clone, Copy, Debug)]
+pub struct Escaped<'a>(pub &'a str);
+
+impl fmt::Display for Escaped<'_> {
+    fn fmt<W: fmt::Write>(&self, f: &mut fmt::Formatter<W>) -> fmt::Result {
+        for character in self.0.chars() {
+            match character {
+                '\\' => write!(f, "\\\\")?,
+                '\n' => write!(f, "\\n")?,
+                '\r' => write!(f, "\\r")?,
+                '\u{c}' => write!(f, "\\f")?,
+                '\0'..='\u{1f}' | '\u{7f}' => write!(f, "\\x{:02x}", character as u32)?,
+                _ => write!(f, "{character}")?,
+            }
+        }
+        Ok(())
+    }
+}
+
+/// What kind of number an address holds: its type and its plan.
+#[derive(Clone, Copy, Debug)]
+pub struct Numbering {
+    type_of_number: u8,
+    plan: u8,
+}
+
+impl Numbering {
+    pub fn of(address: &Address) -> Numbering {
+        Numbering {
+            type_of_number: address.type_of_number,
+            plan: address.plan,
+        }
+    }
+}
+
+impl fmt::Display for Numbering {
+    fn fmt<W: fmt::Write>(&self, f: &mut fmt::Formatter<W>) -> fmt::Result {
+        write!(f, "{} {}", self.type_of_number, self.plan)
+    }
+}
+
+/// A stamp as its date, time of day and zone, or as its octets where it is no date.
+#[derive(Clone, Copy, Debug)]
+pub struct StampText(pub Stamp);
+
+impl fmt::Display for StampText {
+    fn fmt<W: fmt::Write>(&self, f: &mut fmt::Formatter<W>) -> fmt::Result {
+        match self.0.date() {
+            Some(date) => write!(f, "{}", DateText(date)),
+            None => write!(f, "raw {}", Hexadecimal(&self.0.octets())),
+        }
+    }
+}
+
+/// The date, the time of day and the zone of a stamp.
+#[derive(Clone, Copy, Debug)]
+struct DateText(StampDate);
+
+impl fmt::Display for DateText {
+    fn fmt<W: fmt::Write>(&self, f: &mut fmt::Formatter<W>) -> fmt::Result {
+        let date = self.0;
+        let sign = if date.quarters < 0 { '-' } else { '+' };
+        let quarters = date.quarters.unsigned_abs();
+        write!(f, "{:04}-{:02}-{:02} ", date.year, date.month, date.day)?;
+        write!(f, "{:02}:{:02}:{:02} ", date.hour, date.minute, date.second)?;
+        write!(f, "{sign}{:02}:{:02}", quarters / 4, quarters % 4 * 15)
+    }
+}

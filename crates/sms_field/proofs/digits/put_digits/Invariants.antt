@@ -1,0 +1,12 @@
+use Rattle.std.proofs.Common.{◌≡◌, ◌<◌, ◌++◌, length, All}
+use Rattle.sms_field.specs.DigitOctets.{digit_octets}
+use Rattle.sms_field.proofs.digits.put_digits.Given as goal
+
+abbrev pub invariant-loop-rest : goal.invariant-loop-rest
+invariant-loop-rest l = record {
+  written : l.out.items ++ digit_octets l.rest ≡ l.fn.out.items ++ digit_octets l.digits;
+  digits : All (λ digit. digit < 15) l.rest;
+}
+
+abbrev pub decreases-loop-rest : goal.decreases-loop-rest
+decreases-loop-rest l = length l.rest

@@ -1,0 +1,45 @@
+-- Addresses of the relay layer in octets (3GPP TS 24.011, 8.2.5.1 and 8.2.5.2).
+use Rattle.std.specs.Prelude.{ℕ, zero, suc, ◌+◌, ◌-◌, ◌*◌, ◌/◌, ◌%◌, Bool, true, false, List, [], ◌∷◌, ◌++◌, length, Option, Some, None, Result, Ok, Err, ◌==◌, nat_lt, if◌then◌else◌}
+use Rattle.sms_field.specs.Field.{Field, ◌>>=◌, always, octet, octet_by, up_to}
+use Rattle.sms_field.specs.DigitOctets.{both_digits, digit_octets}
+use Rattle.sms_field.specs.RelayAddressValue.{RelayAddressValue}
+use Rattle.sms_field.specs.declared.fault.FieldFault.{FieldFault}
+use Rattle.sms_field.specs.declared.fault.FieldFault.TheVariants.{Short, AddressTooLong, BadDigit}
+
+-- the digits in the last octet: a high half of 15 marks an odd number
+abbrev pub last_digits : ℕ → Result (List ℕ) FieldFault
+last_digits octet = if nat_lt (octet % 16) 15 then Ok (if nat_lt (octet / 16) 15 then octet % 16 ∷ octet / 16 ∷ [] else octet % 16 ∷ []) else Err BadDigit
+
+-- the digits in so many octets
+unfoldable pub relay_digits : ℕ → Field (List ℕ) FieldFault
+relay_digits zero = always []
+-- BadDigit: the low half is 15
+relay_digits (suc zero) = octet_by Short last_digits
+relay_digits (suc (suc n)) = do
+  -- BadDigit: one of the halves is 15
+  two ← octet_by Short both_digits
+  others ← relay_digits (suc n)
+  always (two.0 ∷ two.1 ∷ others)
+
+-- no address; or the type octet, of which bits 6 to 4 are the type of number and bits 3 to 0 the plan, and digits
+unfoldable pub relay_part : Bool → ℕ → Field (Option RelayAddressValue) FieldFault
+relay_part true count = always None
+relay_part false count = do
+  kind ← octet Short
+  values ← relay_digits count
+  always (Some (record { kind = kind / 16 % 8; plan = kind % 16; digits = values }))
+
+-- the number of octets that follow: 0 is no address
+unfoldable pub relay_address : Field (Option RelayAddressValue) FieldFault
+relay_address = do
+  -- AddressTooLong: the number is above 11
+  count ← octet_by Short (up_to 11 AddressTooLong)
+  relay_part (count == 0) (count - 1)
+
+-- how an address is written: the number of octets, the type octet with bit 7 set, the digits
+unfoldable pub relay_address_octets : RelayAddressValue → List ℕ
+relay_address_octets a = ((length a.digits + 1) / 2 + 1) ∷ (128 + 16 * a.kind + a.plan) ∷ digit_octets a.digits
+
+abbrev pub optional_address_octets : Option RelayAddressValue → List ℕ
+optional_address_octets None = 0 ∷ []
+optional_address_octets (Some a) = relay_address_octets a

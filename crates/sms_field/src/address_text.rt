@@ -1,0 +1,129 @@
+//! The text of an address.
+
+ghost use Rattle.std.specs.Prelude.{◌≡◌, ◌≢◌, ◌<◌, ℕ, List, ◌∷◌, ◌++◌, Ok, Err, IfOk, MatchOption};
+ghost use Rattle.std.specs.Str.{chars};
+ghost use Rattle.std.specs.String.{string_bytes};
+ghost use Rattle.sms_text.specs.SeptetsOfText.{septets_of_text};
+ghost use Rattle.sms_field.specs.DigitText.{digits_of_text, text_of_digits};
+ghost use Rattle.sms_field.specs.AddressText.{plus, sign, address_text, few_digits, number as number_with, number_of, name_of, without_plus, address_of_text};
+ghost use Rattle.sms_field.specs.declared.fault.AddressFault.TheVariants.{Memory};
+
+use crate::address::Address;
+use crate::digits::{Digits, digits_of, push_digits};
+use crate::fault::AddressFault;
+use crate::name::Name;
+use crate::symbols::Symbols;
+use sms_text::{gsm_of, text_of_gsm};
+use std::alloc::{AllocError, Global};
+
+/// What stands behind a `+` at the front of a text.
+pub fn international(text: &str) -> Option<&str>
+    ensures { MatchOption result ((rest : List ℕ) → chars text.now ≢ plus ∷ rest) (λ rest. chars text.now ≡ plus ∷ chars rest.now) }
+{
+    text.strip_prefix('+')
+}
+
+/// The digits of a text, up to 20.
+pub fn digits_of_number(alloc: Global, text: &str) -> Result<Digits, AddressFault>
+    ensures { result ≢ Err Memory → result ≡ few_digits (digits_of_text (chars text.now)) }
+{
+    let Some(values) = digits_of(alloc, text)? else {
+        return Err(AddressFault::BadDigit);
+    };
+    if values.len() > 20 {
+        return Err(AddressFault::TooLong);
+    }
+    Ok(Digits::new(values))
+}
+
+/// The text of digits, behind a `+` where the type of number is 1.
+pub fn text_of_number(
+    alloc: Global,
+    type_of_number: u8,
+    digits: &Digits,
+) -> Result<String, AllocError>
+    ensures { IfOk result (λ text. chars (string_bytes text) ≡ sign type_of_number ++ text_of_digits digits.now) }
+{
+    let mut text = String::new(alloc);
+    if type_of_number == 1 {
+        text.push('+')?;
+    }
+    push_digits(&mut text, digits.as_slice())?;
+    Ok(text)
+}
+
+/// A telephone number.
+fn number(type_of_number: u8, digits: Digits) -> Address
+    requires { type_of_number < 2 }
+    ensures { result ≡ number_with type_of_number digits }
+{
+    Address {
+        type_of_number,
+        plan: 1,
+        symbols: Symbols::Digits(digits),
+    }
+}
+
+/// An international number of these digits.
+fn international_number(digits: Result<Digits, AddressFault>) -> Result<Address, AddressFault>
+    ensures { result ≡ number_of 1 digits }
+{
+    match digits {
+        Ok(digits) => Ok(number(1, digits)),
+        Err(why) => Err(why),
+    }
+}
+
+/// A name.
+fn name(alloc: Global, text: &str) -> Result<Address, AddressFault>
+    ensures { result ≢ Err Memory → result ≡ name_of (septets_of_text (chars text.now)) }
+{
+    let Some(septets) = gsm_of(alloc, text)? else {
+        return Err(AddressFault::BadDigit);
+    };
+    if septets.len() > 11 {
+        return Err(AddressFault::TooLong);
+    }
+    Ok(Address {
+        type_of_number: 5,
+        plan: 0,
+        symbols: Symbols::Name(Name::new(septets)),
+    })
+}
+
+/// A number of unknown type, or a name where the text has another character than digits.
+fn number_or_name(alloc: Global, text: &str) -> Result<Address, AddressFault>
+    ensures { result ≢ Err Memory → result ≡ without_plus (chars text.now) }
+{
+    match digits_of_number(alloc, text) {
+        Ok(digits) => Ok(number(0, digits)),
+        Err(AddressFault::BadDigit) => name(alloc, text),
+        Err(AddressFault::TooLong) => Err(AddressFault::TooLong),
+        Err(AddressFault::Memory) => Err(AddressFault::Memory),
+    }
+}
+
+impl Address {
+    /// The address that a text says: `+` and digits are a number of type 1, digits alone one of type 0,
+    /// both in plan 1; another text that does not begin with `+` is a name, of type 5 in plan 0.
+    /// Digits are `0` to `9`, `*`, `#`, `a`, `b` and `c`. A bad character is found before too many.
+    pub fn from_text(alloc: Global, text: &str) -> Result<Address, AddressFault>
+        ensures { result ≢ Err Memory → result ≡ address_of_text (chars text.now) }
+    {
+        match international(text) {
+            Some(digits) => international_number(digits_of_number(alloc, digits)),
+            None => number_or_name(alloc, text),
+        }
+    }
+
+    /// The text of the address: its name, or its digits, behind a `+` where the type of number is 1.
+    #[tactic(auto, unfolding(crate::specs::AddressText::address_text))]
+    pub fn to_text(&self, alloc: Global) -> Result<String, AllocError>
+        ensures { IfOk result (λ text. chars (string_bytes text) ≡ address_text self.now) }
+    {
+        match &self.symbols {
+            Symbols::Digits(digits) => text_of_number(alloc, self.type_of_number, digits),
+            Symbols::Name(name) => text_of_gsm(alloc, name.as_slice()),
+        }
+    }
+}

@@ -1,0 +1,220 @@
+//! The digits of an address: in octets, two an octet, and in texts.
+
+ghost use Rattle.std.specs.Prelude.{◌≡◌, ℕ, ◌+◌, ◌*◌, ◌<◌, ◌≤◌, List, ◌∷◌, ◌++◌, length, Some, None, IfOk, IfSome, MatchOption, OnOk, All, position, ◌==◌};
+ghost use Rattle.std.specs.List.{AllByRecursion};
+ghost use Rattle.std.specs.Str.{chars};
+ghost use Rattle.std.specs.String.{string_bytes};
+ghost use Rattle.sms_field.specs.Field.{octet_by};
+ghost use Rattle.sms_field.specs.Digits.{AreDigits};
+ghost use Rattle.sms_field.specs.DigitText.{digit_characters, digit_of_character, character_of_digit, digits_of_text, text_of_digits};
+ghost use Rattle.sms_field.specs.DigitOctets.{low_digit, both_digits, digits, digit_octets};
+ghost use Rattle.sms_field.specs.declared.fault.FieldFault.TheVariants.{Short};
+ghost use Rattle.std.specs.Prelude.{nat_eq};
+ghost use Rattle.std.specs.Cmp.Lexicographic.{pointwise};
+ghost use Rattle.std.specs.Cmp.Rules.{comparing, hashing};
+ghost use Rattle.std.specs.Hash as fed;
+ghost use Rattle.std.proofs.Common.{rules};
+ghost use Rattle.sms_field.specs.Answer.{Gives};
+
+use crate::cursor::Cursor;
+use crate::fault::FieldFault;
+use crate::refusal::Refusal;
+use std::alloc::{AllocError, Global};
+use std::hash::{Hash, Hasher};
+use std::marker::Model;
+
+/// Up to 20 digits, each 0 to 14.
+#[derive(Debug, Drop)]
+pub struct Digits {
+    values: Vec<u8>,
+}
+
+impl Model for Digits {
+    ghost use Rattle.std.specs.Prelude.{ℕ, List};
+
+    ghost Value = { List ℕ };
+
+    ghost use Rattle.sms_field.specs.Digits.{AreDigits};
+
+    ghost view = { λ d. d.values.items };
+
+    ghost invariant = { λ d. AreDigits d.values.items };
+}
+
+impl PartialEq for Digits {
+    ghost eq = { λ a b. pointwise nat_eq a b };
+
+    ghost laws = { Prim.search (comparing, rules) };
+
+    fn eq(&self, other: &Digits) -> bool {
+        self.values.as_slice() == other.values.as_slice()
+    }
+}
+
+impl Eq for Digits {
+    ghost laws = { Prim.search (comparing, rules) };
+}
+
+impl Hash for Digits {
+    ghost hash_input = { λ a. fed.slice fed.u8 a };
+
+    ghost respects_eq = { Prim.search (hashing, rules) };
+
+    fn hash<H: Hasher>(&self, state: &mut H) {
+        self.values.hash(state);
+    }
+}
+
+impl Digits {
+    /// These digits.
+    pub fn new(values: Vec<u8>) -> Digits
+        requires { AreDigits values.items }
+        ensures { result ≡ values.items }
+    {
+        Digits { values }
+    }
+
+    /// The digits, each 0 to 14.
+    pub fn as_slice(&self) -> &[u8]
+        ensures value { result.now ≡ self.now }
+        ensures few { length result.now ≤ 20 }
+        ensures each { All (λ digit. digit < 15) result.now }
+    {
+        &self.values
+    }
+
+    /// The same digits.
+    pub fn copy(&self, alloc: Global) -> Result<Digits, AllocError>
+        ensures { IfOk result (λ copy. copy ≡ self.now) }
+    {
+        let values = Vec::from_slice(alloc, &self.values)?;
+        Ok(Digits { values })
+    }
+}
+
+/// A digit in the low half of an octet.
+fn low_digit_at(input: &mut Cursor) -> Result<u8, Refusal<FieldFault>>
+    ensures { Gives (λ d. d) result input.new.place input.new.rest.now ((octet_by Short low_digit).read input.old.place input.old.rest.now) }
+{
+    let place = input.place;
+    let octet = input.octet()?;
+    let low = octet % 16;
+    if low < 15 {
+        Ok(low)
+    } else {
+        Err(Refusal::At {
+            place,
+            why: FieldFault::BadDigit,
+        })
+    }
+}
+
+/// Two digits in an octet, the one in the low half first.
+pub fn both_digits_at(input: &mut Cursor) -> Result<(u8, u8), Refusal<FieldFault>>
+    ensures { Gives (λ d. d) result input.new.place input.new.rest.now ((octet_by Short both_digits).read input.old.place input.old.rest.now) }
+{
+    let place = input.place;
+    let octet = input.octet()?;
+    let (low, high) = (octet % 16, octet / 16);
+    if low < 15 && high < 15 {
+        Ok((low, high))
+    } else {
+        Err(Refusal::At {
+            place,
+            why: FieldFault::BadDigit,
+        })
+    }
+}
+
+/// The digits of an address, two an octet.
+pub fn digits_at(
+    alloc: Global,
+    input: &mut Cursor,
+    count: u8,
+) -> Result<Vec<u8>, Refusal<FieldFault>>
+    ensures { Gives (λ v. v.items) result input.new.place input.new.rest.now ((digits count).read input.old.place input.old.rest.now) }
+{
+    let mut digits = Vec::new(alloc);
+    for _ in 0..count / 2 {
+        let (low, high) = both_digits_at(input)?;
+        digits.push(low)?;
+        digits.push(high)?;
+    }
+    if count % 2 == 1 {
+        digits.push(low_digit_at(input)?)?;
+    }
+    Ok(digits)
+}
+
+/// Writes digits, two an octet.
+pub fn put_digits(out: &mut Vec<u8>, digits: &[u8]) -> Result<(), AllocError>
+    requires { All (λ digit. digit < 15) digits.now }
+    ensures { OnOk result (out.new.items ≡ out.old.items ++ digit_octets digits.now) }
+{
+    let mut rest = digits;
+    while let [low, high, others @ ..] = rest {
+        out.push(16 * *high + *low)?;
+        rest = others;
+    }
+    if rest.len() == 1 {
+        out.push(240 + rest[0])?;
+    }
+    Ok(())
+}
+
+/// The characters of the digits 0 to 14.
+const CHARACTERS: [char; 15] = [
+    '0', '1', '2', '3', '4', '5', '6', '7', '8', '9', '*', '#', 'a', 'b', 'c',
+];
+
+/// Where a character stands among those of the digits.
+fn place_of(c: char) -> Option<usize>
+    ensures place { result ≡ position (λ known. known == c) digit_characters }
+    ensures bound { IfSome result (λ place. place < 15) }
+{
+    CHARACTERS.iter().position(|known| *known == c)
+}
+
+/// The digit that a character stands for.
+#[tactic(auto, unfolding(crate::specs::DigitText::digit_of_character))]
+fn digit_of(c: char) -> Option<u8>
+    ensures { result ≡ digit_of_character c }
+{
+    let place = place_of(c)?;
+    Some(place as u8)
+}
+
+/// The character of a digit.
+#[tactic(auto, unfolding(crate::specs::DigitText::character_of_digit))]
+fn character_of(digit: u8) -> char
+    requires { digit < 15 }
+    ensures { result ≡ character_of_digit digit }
+{
+    CHARACTERS[digit as usize]
+}
+
+/// The digits of a text, or `None` where one of its characters is no digit.
+pub fn digits_of(alloc: Global, text: &str) -> Result<Option<Vec<u8>>, AllocError>
+    ensures exact { IfOk result (λ found. MatchOption found (digits_of_text (chars text.now) ≡ None) (λ digits. digits_of_text (chars text.now) ≡ Some digits.items)) }
+    ensures digits { IfOk result (λ found. IfSome found (λ digits. AllByRecursion (λ digit. digit < 15) digits.items)) }
+{
+    let mut digits = Vec::new(alloc);
+    for c in text.chars() {
+        let Some(digit) = digit_of(c) else {
+            return Ok(None);
+        };
+        digits.push(digit)?;
+    }
+    Ok(Some(digits))
+}
+
+/// Adds the characters of digits to a text.
+pub fn push_digits(text: &mut String, digits: &[u8]) -> Result<(), AllocError>
+    requires { All (λ digit. digit < 15) digits.now }
+    ensures { OnOk result (chars (string_bytes text.new) ≡ chars (string_bytes text.old) ++ text_of_digits digits.now) }
+{
+    for digit in digits {
+        text.push(character_of(*digit))?;
+    }
+    Ok(())
+}

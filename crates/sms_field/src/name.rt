@@ -1,0 +1,118 @@
+//! The name in an alphanumeric address.
+
+ghost use Rattle.std.specs.Prelude.{◌≡◌, ℕ, ◌≤◌, ◌++◌, length, IfOk, OnOk};
+ghost use Rattle.sms_text.specs.Bits.{AreSeptets};
+ghost use Rattle.sms_field.specs.Name.{IsName, name, name_octets};
+ghost use Rattle.std.specs.Prelude.{nat_eq};
+ghost use Rattle.std.specs.Cmp.Lexicographic.{pointwise};
+ghost use Rattle.std.specs.Cmp.Rules.{comparing, hashing};
+ghost use Rattle.std.specs.Hash as fed;
+ghost use Rattle.std.proofs.Common.{rules};
+ghost use Rattle.sms_field.specs.Answer.{Gives};
+
+use crate::cursor::Cursor;
+use crate::fault::FieldFault;
+use crate::refusal::Refusal;
+use sms_text::{pack, unpack};
+use std::alloc::{AllocError, Global};
+use std::hash::{Hash, Hasher};
+use std::marker::Model;
+
+/// A name: up to 11 septets of the 7-bit default alphabet.
+#[derive(Debug, Drop)]
+pub struct Name {
+    septets: Vec<u8>,
+}
+
+impl Model for Name {
+    ghost use Rattle.std.specs.Prelude.{ℕ, List};
+
+    ghost Value = { List ℕ };
+
+    ghost use Rattle.sms_field.specs.Name.{IsName};
+
+    ghost view = { λ n. n.septets.items };
+
+    ghost invariant = { λ n. IsName n.septets.items };
+}
+
+impl PartialEq for Name {
+    ghost eq = { λ a b. pointwise nat_eq a b };
+
+    ghost laws = { Prim.search (comparing, rules) };
+
+    fn eq(&self, other: &Name) -> bool {
+        self.septets.as_slice() == other.septets.as_slice()
+    }
+}
+
+impl Eq for Name {
+    ghost laws = { Prim.search (comparing, rules) };
+}
+
+impl Hash for Name {
+    ghost hash_input = { λ a. fed.slice fed.u8 a };
+
+    ghost respects_eq = { Prim.search (hashing, rules) };
+
+    fn hash<H: Hasher>(&self, state: &mut H) {
+        self.septets.hash(state);
+    }
+}
+
+impl Name {
+    /// The name of these septets.
+    pub fn new(septets: Vec<u8>) -> Name
+        requires { IsName septets.items }
+        ensures { result ≡ septets.items }
+    {
+        Name { septets }
+    }
+
+    /// The septets, each below 128.
+    pub fn as_slice(&self) -> &[u8]
+        ensures value { result.now ≡ self.now }
+        ensures few { length result.now ≤ 11 }
+        ensures each { AreSeptets result.now }
+    {
+        &self.septets
+    }
+
+    /// The same name.
+    pub fn copy(&self, alloc: Global) -> Result<Name, AllocError>
+        ensures { IfOk result (λ copy. copy ≡ self.now) }
+    {
+        let septets = Vec::from_slice(alloc, &self.septets)?;
+        Ok(Name { septets })
+    }
+}
+
+/// The septets of a name that lie whole in so many semi-octets.
+#[tactic(auto, unfolding(crate::specs::Name::name))]
+pub fn name_at(alloc: Global, input: &mut Cursor, count: u8) -> Result<Vec<u8>, Refusal<FieldFault>>
+    requires { count ≤ 20 }
+    ensures name { IfOk result (λ septets. IsName septets.items) }
+    ensures answer { Gives (λ septets. septets.items) result input.new.place input.new.rest.now ((name count).read input.old.place input.old.rest.now) }
+{
+    let octets = input.octets(usize::from(count).div_ceil(2))?;
+    match unpack(alloc, octets, 0, usize::from(4 * count / 7))? {
+        Some(septets) => Ok(septets),
+        None => unreachable!(),
+    }
+}
+
+/// The octets of a name.
+fn octets_of_name(alloc: Global, name: &Name) -> Result<Vec<u8>, AllocError>
+    ensures { IfOk result (λ octets. octets.items ≡ name_octets name.now) }
+{
+    let octets = pack(alloc, name.as_slice(), 0)?;
+    Ok(octets)
+}
+
+/// Adds the octets of a name.
+pub fn put_name(alloc: Global, out: &mut Vec<u8>, name: &Name) -> Result<(), AllocError>
+    ensures { OnOk result (out.new.items ≡ out.old.items ++ name_octets name.now) }
+{
+    let octets = octets_of_name(alloc, name)?;
+    out.extend_from_slice(&octets)
+}

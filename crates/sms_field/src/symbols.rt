@@ -1,0 +1,47 @@
+//! What stands in an address: digits or a name.
+
+ghost use Rattle.std.specs.Prelude.{◌≡◌, ◌++◌, IfOk, OnOk};
+ghost use Rattle.sms_field.specs.Address.{symbols_length, symbols_octets};
+
+use crate::digits::{Digits, put_digits};
+use crate::name::{Name, put_name};
+use std::alloc::{AllocError, Global};
+
+/// The digits of an address, or the name where its type of number is 5, alphanumeric.
+#[derive(Debug, PartialEq, Eq, Hash, Drop)]
+pub enum Symbols {
+    Digits(Digits),
+    Name(Name),
+}
+
+impl Symbols {
+    /// How many semi-octets the symbols take.
+    pub(crate) fn length(&self) -> u8
+        ensures { result ≡ symbols_length self.now }
+    {
+        match self {
+            Symbols::Digits(digits) => digits.as_slice().len() as u8,
+            Symbols::Name(name) => (7 * name.as_slice().len() as u8).div_ceil(4),
+        }
+    }
+
+    /// Adds the octets of the symbols.
+    pub(crate) fn write_to(&self, out: &mut Vec<u8>) -> Result<(), AllocError>
+        ensures { OnOk result (out.new.items ≡ out.old.items ++ symbols_octets self.now) }
+    {
+        match self {
+            Symbols::Digits(digits) => put_digits(out, digits.as_slice()),
+            Symbols::Name(name) => put_name(*out.allocator(), out, name),
+        }
+    }
+
+    /// The same symbols.
+    pub fn copy(&self, alloc: Global) -> Result<Symbols, AllocError>
+        ensures { IfOk result (λ copy. copy ≡ self.now) }
+    {
+        match self {
+            Symbols::Digits(digits) => Ok(Symbols::Digits(digits.copy(alloc)?)),
+            Symbols::Name(name) => Ok(Symbols::Name(name.copy(alloc)?)),
+        }
+    }
+}
