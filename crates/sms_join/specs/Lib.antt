@@ -1,0 +1,4 @@
+pub mod UnitsOfText
+pub mod Cut
+pub mod Reading
+pub mod Segments

@@ -1,0 +1,120 @@
+//! Texts cut into segments.
+
+ghost use Rattle.std.specs.Prelude.{◌≡◌, ◌<◌, ◌≤◌, ◌↔◌, ℕ, List, length, IfOk};
+ghost use Rattle.std.specs.Str.{chars};
+ghost use Rattle.sms_join.specs.declared.units.Units.{Units as TheUnits};
+ghost use Rattle.sms_join.specs.declared.cut.SplitFault.TheVariants.{TooManySegments, Memory};
+ghost use Rattle.sms_join.specs.UnitsOfText.{IsText, units_of_text};
+ghost use Rattle.sms_join.specs.Cut.{IsParted, IsCut, HasOneCut};
+ghost use Rattle.sms_join.specs.Segments.{AreNumbered, AreSegments};
+
+use crate::segment::Segment;
+use crate::units::{Units, WideUnits};
+use sms_text::{gsm_of, ucs2_of};
+use sms_tpdu::{Septets, Width};
+use std::alloc::{AllocError, AllocFailed, Global};
+
+/// Why a text is not cut.
+#[derive(Clone, Copy, Debug, PartialEq, Eq)]
+pub enum SplitFault {
+    /// It takes more than 255 segments.
+    TooManySegments,
+    /// Memory ran out.
+    Memory,
+}
+
+impl From<AllocError> for SplitFault {
+    ghost from_gives = { λ _ e. e ≡ Memory };
+
+    fn from(_e: AllocError) -> SplitFault {
+        SplitFault::Memory
+    }
+}
+
+impl<T: Drop> From<AllocFailed<T>> for SplitFault {
+    ghost from_gives = { λ _ e. e ≡ Memory };
+
+    fn from(_e: AllocFailed<T>) -> SplitFault {
+        SplitFault::Memory
+    }
+}
+
+/// A text has one cut into pieces, and no other.
+pub fn texts_have_one_cut()
+    ensures { HasOneCut }
+{}
+
+/// The units of a text: septets where each character has some, else 16-bit units.
+fn units_of(alloc: Global, text: &str) -> Result<Units, AllocError>
+    ensures { IfOk result (λ units. units ≡ units_of_text (chars text.now)) }
+{
+    match gsm_of(alloc, text)? {
+        Some(septets) => Ok(Units::Gsm(Septets::new(septets))),
+        None => {
+            let units = ucs2_of(alloc, text)?;
+            Ok(Units::Ucs2(WideUnits::new(units)))
+        }
+    }
+}
+
+/// The pieces of a text's units by a room.
+fn parts(alloc: Global, units: &Units, room: usize) -> Result<Vec<Units>, AllocError>
+    requires { 2 ≤ room }
+    ensures { (text : List ℕ) → IsText text → units.now ≡ units_of_text text → IfOk result (λ pieces. IsParted room text pieces.items) }
+{
+    let mut pieces = Vec::new(alloc);
+    let mut start = 0;
+    while start < units.len() {
+        let end = units.piece_end(start, room);
+        pieces.push(units.part(alloc, start, end)?)?;
+        start = end;
+    }
+    Ok(pieces)
+}
+
+/// The pieces in which a text's units are sent.
+fn pieces(alloc: Global, units: Units, width: Width) -> Result<Vec<Units>, AllocError>
+    ensures { (text : List ℕ) → IsText text → units ≡ units_of_text text → IfOk result (λ pieces. IsCut width text pieces.items) }
+{
+    if units.len() <= units.room_alone() {
+        return Ok(vec![in alloc; units]?);
+    }
+    let room = units.room_beside(width);
+    parts(alloc, &units, room)
+}
+
+/// The segments of these pieces.
+fn numbered(alloc: Global, pieces: Vec<Units>) -> Result<Vec<Segment>, SplitFault>
+    ensures segments { IfOk result (λ segments. AreNumbered pieces.items segments.items) }
+    ensures too_many { (result ≡ Err TooManySegments) ↔ (255 < length pieces.items) }
+{
+    let Ok(maximum) = u8::try_from(pieces.len()) else {
+        return Err(SplitFault::TooManySegments);
+    };
+    let mut segments = Vec::new(alloc);
+    for units in pieces {
+        let sequence = segments.len() as u8 + 1;
+        segments.push(Segment {
+            units,
+            maximum,
+            sequence,
+        })?;
+    }
+    Ok(segments)
+}
+
+/// The segments of a text, in order, for references of this width (3GPP TS 23.040, 9.2.3.24.1 and 9.2.3.24.8).
+///
+/// The text is sent as septets where the default alphabet and its extension have all its characters, else as UTF-16
+/// units. It is one segment where it fits 160 septets or 70 units. Else each segment has as many whole characters as
+/// fit 153 septets or 67 units, or 152 and 66 with `Width::Sixteen`.
+pub fn split(alloc: Global, text: &str, width: Width) -> Result<Vec<Segment>, SplitFault>
+    ensures segments { IfOk result (λ segments. AreSegments width (chars text.now) segments.items) }
+    ensures few { IfOk result (λ segments. length segments.items ≤ 255) }
+    ensures too_many { result ≡ Err TooManySegments
+        → (pieces : List TheUnits) × IsCut width (chars text.now) pieces × (255 < length pieces) }
+{
+    let units = units_of(alloc, text)?;
+    let pieces = pieces(alloc, units, width)?;
+    numbered(alloc, pieces)
+}

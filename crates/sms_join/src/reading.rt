@@ -1,0 +1,87 @@
+//! The text of segments.
+
+ghost use Rattle.std.specs.Prelude.{◌≡◌, true, false, IfOk, MatchOption};
+ghost use Rattle.std.specs.List.{flat_map, list_all};
+ghost use Rattle.std.specs.Str.{chars};
+ghost use Rattle.std.specs.String.{string_bytes};
+ghost use Rattle.sms_text.specs.Bits.{AreSeptets};
+ghost use Rattle.sms_join.specs.UnitsOfText.{numbers};
+ghost use Rattle.sms_join.specs.Reading.{CutIsReadAsText, is_gsm, is_ucs2, text_of_units, text_of_segments};
+
+use crate::units::Units;
+use sms_text::{text_of_gsm, text_of_ucs2};
+use std::alloc::{AllocError, Global};
+
+/// The pieces of a text, of either width and in order, are read as the text.
+pub fn cut_is_read_as_text()
+    ensures { CutIsReadAsText }
+{}
+
+/// The septets of all segments, where all have septets.
+fn joined_septets(alloc: Global, segments: &[Units]) -> Result<Option<Vec<u8>>, AllocError>
+    ensures { IfOk result (λ found. MatchOption found
+        (list_all is_gsm segments.now ≡ false)
+        (λ septets. (list_all is_gsm segments.now ≡ true) × AreSeptets septets.items
+        × (septets.items ≡ flat_map numbers segments.now))) }
+{
+    let mut joined = Vec::new(alloc);
+    for units in segments {
+        let Units::Gsm(septets) = units else {
+            return Ok(None);
+        };
+        joined.extend_from_slice(septets.as_slice())?;
+    }
+    Ok(Some(joined))
+}
+
+/// The 16-bit units of all segments, where all have such units.
+fn joined_wide_units(alloc: Global, segments: &[Units]) -> Result<Option<Vec<u16>>, AllocError>
+    ensures { IfOk result (λ found. MatchOption found
+        (list_all is_ucs2 segments.now ≡ false)
+        (λ units. (list_all is_ucs2 segments.now ≡ true) × (units.items ≡ flat_map numbers segments.now))) }
+{
+    let mut joined = Vec::new(alloc);
+    for units in segments {
+        let Units::Ucs2(units) = units else {
+            return Ok(None);
+        };
+        joined.extend_from_slice(units.as_slice())?;
+    }
+    Ok(Some(joined))
+}
+
+/// The text of a segment by itself.
+fn text_of(alloc: Global, units: &Units) -> Result<String, AllocError>
+    ensures { IfOk result (λ text. chars (string_bytes text) ≡ text_of_units units.now) }
+{
+    match units {
+        Units::Gsm(septets) => text_of_gsm(alloc, septets.as_slice()),
+        Units::Ucs2(units) => text_of_ucs2(alloc, units.as_slice()),
+    }
+}
+
+/// The texts of the segments one after another.
+fn joined_texts(alloc: Global, segments: &[Units]) -> Result<String, AllocError>
+    ensures { IfOk result (λ text. chars (string_bytes text) ≡ flat_map text_of_units segments.now) }
+{
+    let mut joined = String::new(alloc);
+    for units in segments {
+        let text = text_of(alloc, units)?;
+        joined.push_str(&text)?;
+    }
+    Ok(joined)
+}
+
+/// The text of the segments of a message, in order. Segments of one alphabet are joined before they are read, so that a
+/// pair may begin in one and end in the next; with both alphabets each segment is read by itself.
+pub fn read_units(alloc: Global, segments: &[Units]) -> Result<String, AllocError>
+    ensures { IfOk result (λ text. chars (string_bytes text) ≡ text_of_segments segments.now) }
+{
+    if let Some(septets) = joined_septets(alloc, segments)? {
+        return text_of_gsm(alloc, &septets);
+    }
+    if let Some(units) = joined_wide_units(alloc, segments)? {
+        return text_of_ucs2(alloc, &units);
+    }
+    joined_texts(alloc, segments)
+}

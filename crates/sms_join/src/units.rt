@@ -1,0 +1,140 @@
+//! The units of a text: septets of the default alphabet, or 16-bit units.
+
+ghost use Rattle.std.specs.Prelude.{◌≡◌, ◌+◌, ◌-◌, ◌<◌, ◌≤◌, ◌↔◌, [], length, slice_index, slice_range, IfOk, IsTrue, if◌then◌else◌};
+ghost use Rattle.sms_join.specs.UnitsOfText.{numbers, alphabet_in, units_in, begins_pair};
+ghost use Rattle.sms_join.specs.Cut.{room_alone, room_beside};
+
+use sms_tpdu::{Septets, Width};
+use std::alloc::{AllocError, Global};
+use std::marker::Model;
+
+/// The escape to the extension table (3GPP TS 23.038, 6.2.1.1).
+const ESCAPE: u8 = 27;
+
+/// 16-bit units of UCS-2 (3GPP TS 23.038, 6.2.3).
+#[derive(Drop)]
+pub struct WideUnits {
+    values: Vec<u16>,
+}
+
+impl Model for WideUnits {
+    ghost use Rattle.std.specs.Prelude.{ℕ, List};
+
+    ghost Value = { List ℕ };
+
+    ghost view = { λ u. u.values.items };
+}
+
+impl WideUnits {
+    /// Those units.
+    pub fn new(values: Vec<u16>) -> WideUnits
+        ensures { result ≡ values.items }
+    {
+        WideUnits { values }
+    }
+
+    /// The units.
+    pub fn as_slice(&self) -> &[u16]
+        ensures { result.now ≡ self.now }
+    {
+        self.values.as_slice()
+    }
+}
+
+/// The units of a text or of a segment.
+#[derive(Drop)]
+pub enum Units {
+    Gsm(Septets),
+    Ucs2(WideUnits),
+}
+
+impl Units {
+    /// How many units there are.
+    pub fn len(&self) -> usize
+        ensures { result ≡ length (numbers self.now) }
+    {
+        match self {
+            Units::Gsm(septets) => septets.as_slice().len(),
+            Units::Ucs2(units) => units.as_slice().len(),
+        }
+    }
+
+    /// Whether there is none.
+    pub fn is_empty(&self) -> bool
+        ensures { IsTrue result ↔ (numbers self.now ≡ []) }
+    {
+        match self {
+            Units::Gsm(septets) => septets.as_slice().is_empty(),
+            Units::Ucs2(units) => units.as_slice().is_empty(),
+        }
+    }
+
+    /// How many such units a message has room for.
+    pub(crate) fn room_alone(&self) -> usize
+        ensures { result ≡ room_alone (alphabet_in self.now) }
+    {
+        match self {
+            Units::Gsm(_) => 160,
+            Units::Ucs2(_) => 70,
+        }
+    }
+
+    /// How many such units a segment has room for beside its header.
+    pub(crate) fn room_beside(&self, width: Width) -> usize
+        ensures { result ≡ room_beside width (alphabet_in self.now) }
+    {
+        match (self, width) {
+            (Units::Gsm(_), Width::Eight) => 153,
+            (Units::Gsm(_), Width::Sixteen) => 152,
+            (Units::Ucs2(_), Width::Eight) => 67,
+            (Units::Ucs2(_), Width::Sixteen) => 66,
+        }
+    }
+
+    /// Whether the unit here begins a pair.
+    fn begins_pair(&self, place: usize) -> bool
+        requires { place < length (numbers self.now) }
+        ensures { result ≡ begins_pair (alphabet_in self.now) (slice_index (numbers self.now) place) }
+    {
+        match self {
+            Units::Gsm(septets) => septets.as_slice()[place] == ESCAPE,
+            Units::Ucs2(units) => (0xD800..0xDC00).contains(&units.as_slice()[place]),
+        }
+    }
+
+    /// Where the piece that begins here ends: as far as there is room, and not inside a pair.
+    pub(crate) fn piece_end(&self, start: usize, room: usize) -> usize
+        requires start { start < length (numbers self.now) }
+        requires room { 2 ≤ room }
+        ensures last { length (numbers self.now) - start ≤ room → result ≡ length (numbers self.now) }
+        ensures other { room < length (numbers self.now) - start → result ≡ (if begins_pair (alphabet_in self.now) (slice_index (numbers self.now) (start + room - 1)) then start + room - 1 else start + room) }
+    {
+        if self.len() - start <= room {
+            return self.len();
+        }
+        let end = start + room;
+        if self.begins_pair(end - 1) {
+            end - 1
+        } else {
+            end
+        }
+    }
+
+    /// The units from one place up to another.
+    pub(crate) fn part(&self, alloc: Global, start: usize, end: usize) -> Result<Units, AllocError>
+        requires order { start ≤ end }
+        requires inside { end ≤ length (numbers self.now) }
+        ensures { IfOk result (λ part. part ≡ units_in (alphabet_in self.now) (slice_range (numbers self.now) start end)) }
+    {
+        match self {
+            Units::Gsm(septets) => {
+                let part = Vec::from_slice(alloc, &septets.as_slice()[start..end])?;
+                Ok(Units::Gsm(Septets::new(part)))
+            }
+            Units::Ucs2(units) => {
+                let part = Vec::from_slice(alloc, &units.as_slice()[start..end])?;
+                Ok(Units::Ucs2(WideUnits::new(part)))
+            }
+        }
+    }
+}
