@@ -94,6 +94,22 @@ fn addresses_written(rt: HostRuntime) -> Result<(), Fail> {
     Ok(())
 }
 
+/// Whether a text is the address of these octets, and is its text again.
+fn is_text_of(alloc: Global, text: &str, octets: &[u8]) -> Result<bool, Fail> {
+    let address = Address::from_text(alloc, text)?;
+    let written = address.write(alloc)?;
+    let again = address.to_text(alloc)?;
+    Ok(written.as_slice() == octets && again.as_str() == text)
+}
+
+/// Whether a text is refused for this reason.
+fn is_refused(alloc: Global, text: &str, fault: AddressFault) -> bool {
+    match Address::from_text(alloc, text) {
+        Ok(_) => false,
+        Err(why) => why == fault,
+    }
+}
+
 #[test]
 fn addresses_from_texts(rt: HostRuntime) -> Result<(), Fail> {
     let good: [(&str, &[u8]); 12] = [
@@ -114,9 +130,7 @@ fn addresses_from_texts(rt: HostRuntime) -> Result<(), Fail> {
         ),
     ];
     for (text, octets) in good {
-        let address = Address::from_text(rt.alloc(), text)?;
-        assert_eq!(rt; address.write(rt.alloc())?.as_slice(), octets, "{text}");
-        assert_eq!(rt; address.to_text(rt.alloc())?.as_str(), text);
+        assert!(rt; is_text_of(rt.alloc(), text, octets)?);
     }
     let bad: [(&str, AddressFault); 11] = [
         ("+12x", AddressFault::BadDigit),
@@ -132,10 +146,7 @@ fn addresses_from_texts(rt: HostRuntime) -> Result<(), Fail> {
         ("+123456789012345678901", AddressFault::TooLong),
     ];
     for (text, fault) in bad {
-        match Address::from_text(rt.alloc(), text) {
-            Ok(_) => assert!(rt; false, "{text}"),
-            Err(why) => assert_eq!(rt; why, fault, "{text}"),
-        }
+        assert!(rt; is_refused(rt.alloc(), text, fault));
     }
     Ok(())
 }

@@ -38,12 +38,13 @@ fn relay_addresses(rt: HostRuntime) -> Result<(), Fail> {
         );
     }
     assert_eq!(rt; RpAddress::read(rt.alloc(), b"\x00\xFF"), Ok((None, 1)));
-    let named = RpAddress::read(rt.alloc(), b"\x03\x50\x21\xF3")?;
-    if let (Some(address), used) = named {
-        assert_eq!(rt; used, 4usize);
-        assert_eq!(rt; address.type_of_number, 5u8);
-        assert_eq!(rt; address.to_text(rt.alloc())?.as_str(), "123");
-    }
+    let (named, used) = RpAddress::read(rt.alloc(), b"\x03\x50\x21\xF3")?;
+    assert_eq!(rt; used, 4usize);
+    let Some(address) = named else {
+        return Ok(assert!(rt; false));
+    };
+    assert_eq!(rt; address.type_of_number, 5u8);
+    assert_eq!(rt; address.to_text(rt.alloc())?.as_str(), "123");
     let refused: [(&[u8], usize, FieldFault); 9] = [
         (b"", 0, FieldFault::Short),
         (b"\x01", 1, FieldFault::Short),
