@@ -2,10 +2,12 @@
 
 ghost use Rattle.std.specs.Prelude.{◌≤◌};
 
+use crate::encode::encode;
 use crate::fault::Fault;
 use crate::lines::Lines;
-use crate::show::show_deliver;
-use crate::words::{Request, parse_words};
+use crate::printed::Hexadecimal;
+use crate::show::{show_centre, show_deliver, show_submit};
+use crate::words::{Kind, Request, Shown, parse_words};
 use clap::error::ErrorKind;
 use hex::FromHexError;
 use std::alloc::Global;
@@ -23,11 +25,26 @@ fn octets_of(alloc: Global, word: &str) -> Result<Vec<u8>, Fault> {
     })
 }
 
+fn show<W: Write>(alloc: Global, shown: Shown<'_>, output: &mut W) -> Result<(), Fault> {
+    let octets = octets_of(alloc, shown.octets)?;
+    let mut lines = Lines::new(output);
+    let mut unit = octets.as_slice();
+    if shown.has_centre {
+        unit = show_centre(alloc, unit, &mut lines)?;
+    }
+    match shown.kind {
+        Kind::Deliver => show_deliver(alloc, unit, &mut lines),
+        Kind::Submit => show_submit(alloc, unit, &mut lines),
+    }
+}
+
 fn answer<W: Write>(alloc: Global, request: Request<'_>, output: &mut W) -> Result<(), Fault> {
     match request {
-        Request::Show { octets } => {
-            let octets = octets_of(alloc, octets)?;
-            show_deliver(alloc, &octets, &mut Lines::new(output))
+        Request::Show(shown) => show(alloc, shown, output),
+        Request::Encode(draft) => {
+            let octets = encode(alloc, &draft)?;
+            writeln!(output, "{}", Hexadecimal(&octets))?;
+            Ok(())
         }
     }
 }

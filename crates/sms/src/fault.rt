@@ -6,15 +6,43 @@ use std::alloc::AllocError;
 use std::io;
 use thiserror::Error;
 
+/// What is wrong with an octet of a unit.
+#[derive(Clone, Copy, Debug, PartialEq, Eq, Error)]
+pub enum Reason {
+    #[error("short")]
+    Short,
+    #[error("wrong type")]
+    WrongType,
+    #[error("address too long")]
+    AddressTooLong,
+    #[error("bad digit")]
+    BadDigit,
+    #[error("data too long")]
+    DataTooLong,
+    #[error("header too long")]
+    HeaderTooLong,
+    #[error("bad address")]
+    BadAddress,
+}
+
 /// Why a command gives no answer. Its text is the line that the program prints.
 #[derive(Debug, Drop, Error)]
 pub enum Fault {
     /// The octet at a place of a unit cannot stand there.
     #[error("at {place}: {reason}")]
-    Unit { place: usize, reason: &'static str },
-    /// A word is no hexadecimal text of whole octets.
+    Unit { place: usize, reason: Reason },
+    /// An option was given that the kind of unit does not have.
+    #[error("option not for this kind")]
+    WrongOption,
+    /// A word is no hexadecimal text of octets, or not of as many as there must be.
     #[error("bad hex")]
     BadHex,
+    /// A text is no address.
+    #[error("bad address")]
+    BadAddress,
+    /// A text needs more than one piece.
+    #[error("text too long")]
+    TextTooLong,
     /// The output takes no more.
     #[error("write failed")]
     Write,
@@ -30,7 +58,8 @@ impl Fault {
         ensures { result ≤ 3 }
     {
         match self {
-            Fault::Unit { .. } | Fault::BadHex => 1,
+            Fault::Unit { .. } | Fault::BadHex | Fault::BadAddress | Fault::TextTooLong => 1,
+            Fault::WrongOption => 2,
             Fault::Write | Fault::Memory => 3,
         }
     }

@@ -2,6 +2,7 @@
 #![tactic(auto)]
 
 mod cli;
+mod encode;
 mod fault;
 mod lines;
 mod printed;

@@ -1,6 +1,7 @@
 //! How values are printed.
 
-use sms_field::{Address, Stamp, StampDate};
+use sms_field::{Address, Stamp, StampDate, Validity};
+use sms_tpdu::{Concat, Width};
 use std::fmt;
 
 /// A bit, as `yes` or `no`.
@@ -96,5 +97,44 @@ impl fmt::Display for DateText {
         write!(f, "{:04}-{:02}-{:02} ", date.year, date.month, date.day)?;
         write!(f, "{:02}:{:02}:{:02} ", date.hour, date.minute, date.second)?;
         write!(f, "{sign}{:02}:{:02}", quarters / 4, quarters % 4 * 15)
+    }
+}
+
+/// A validity period, in its format.
+#[derive(Clone, Copy, Debug)]
+pub struct ValidityText(pub Validity);
+
+impl fmt::Display for ValidityText {
+    fn fmt<W: fmt::Write>(&self, f: &mut fmt::Formatter<W>) -> fmt::Result {
+        match self.0 {
+            Validity::Absent => write!(f, "none"),
+            Validity::Relative(octet) => write!(f, "relative {octet} {}", seconds_of(octet)),
+            Validity::Enhanced(octets) => write!(f, "enhanced {}", Hexadecimal(octets.as_slice())),
+            Validity::Absolute(stamp) => write!(f, "absolute {}", StampText(stamp)),
+        }
+    }
+}
+
+/// The seconds of a relative validity period.
+fn seconds_of(octet: u8) -> u64 {
+    match Validity::Relative(octet).ends(0) {
+        Ok(seconds) => seconds,
+        Err(_) => unreachable!(),
+    }
+}
+
+/// A concatenation: the bits of its reference, the reference, the maximum and the sequence.
+#[derive(Clone, Copy, Debug)]
+pub struct ConcatText(pub Concat);
+
+impl fmt::Display for ConcatText {
+    fn fmt<W: fmt::Write>(&self, f: &mut fmt::Formatter<W>) -> fmt::Result {
+        let bits = match self.0.width {
+            Width::Eight => 8,
+            Width::Sixteen => 16,
+        };
+        let concat = self.0;
+        write!(f, "{bits} {} ", concat.reference)?;
+        write!(f, "{} {}", concat.maximum, concat.sequence)
     }
 }

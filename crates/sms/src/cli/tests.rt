@@ -1,318 +1,12 @@
+mod rows;
+
 use super::*;
 use crate::printed::Escaped;
+use rows::{
+    AFTER_CENTRES, DELIVERIES, EXPLAINED, HEADERS, HELLO, HELLO_SHOWN, LONG_TEXTS, NO_DELIVERIES,
+    NO_SUBMISSIONS, NO_UNITS, SUBMISSIONS, UNITS,
+};
 use std::test::Fail;
-
-/// Deliveries, and lines of the answer.
-static SHOWN: [(&str, &str); 67] = [
-    (
-        "040491101000000010100000000002E834",
-        "length: 2\ntext: hi\n",
-    ),
-    (
-        "0404911010000C0010100000000002E834",
-        "length: 2\ntext: hi\n",
-    ),
-    (
-        "040491101000100010100000000002E834",
-        "length: 2\ntext: hi\n",
-    ),
-    (
-        "040491101000400010100000000002E834",
-        "length: 2\ntext: hi\n",
-    ),
-    (
-        "040491101000800010100000000002E834",
-        "length: 2\ntext: hi\n",
-    ),
-    (
-        "040491101000BF0010100000000002E834",
-        "length: 2\ntext: hi\n",
-    ),
-    (
-        "040491101000C00010100000000002E834",
-        "length: 2\ntext: hi\n",
-    ),
-    (
-        "040491101000DF0010100000000002E834",
-        "length: 2\ntext: hi\n",
-    ),
-    (
-        "040491101000F30010100000000002E834",
-        "length: 2\ntext: hi\n",
-    ),
-    (
-        "0404911010000400101000000000030041FF",
-        "length: 3\ndata: 0041FF\n",
-    ),
-    (
-        "0404911010001400101000000000030041FF",
-        "length: 3\ndata: 0041FF\n",
-    ),
-    (
-        "0404911010004400101000000000030041FF",
-        "length: 3\ndata: 0041FF\n",
-    ),
-    (
-        "040491101000F400101000000000030041FF",
-        "length: 3\ndata: 0041FF\n",
-    ),
-    (
-        "040491101000FF00101000000000030041FF",
-        "length: 3\ndata: 0041FF\n",
-    ),
-    (
-        "0404911010002000101000000000030041FF",
-        "length: 3\ndata: 0041FF\n",
-    ),
-    (
-        "0404911010003F00101000000000030041FF",
-        "length: 3\ndata: 0041FF\n",
-    ),
-    (
-        "0404911010006C00101000000000030041FF",
-        "length: 3\ndata: 0041FF\n",
-    ),
-    (
-        "0404911010000800101000000000030041FF",
-        "length: 3\ndata: 0041FF\n",
-    ),
-    (
-        "040491101000E000101000000000030041FF",
-        "length: 3\ndata: 0041FF\n",
-    ),
-    (
-        "040491101000000010221000000000",
-        "stamp: 2000-01-22 01:00:00 +00:00\n",
-    ),
-    (
-        "040491101000000010100000000000",
-        "stamp: 2000-01-01 00:00:00 +00:00\n",
-    ),
-    (
-        "04049110100000A010100000000000",
-        "stamp: raw A0101000000000\n",
-    ),
-    (
-        "040491101000000000100000000000",
-        "stamp: raw 00001000000000\n",
-    ),
-    (
-        "040491101000000031100000000000",
-        "stamp: raw 00311000000000\n",
-    ),
-    (
-        "040491101000000010000000000000",
-        "stamp: raw 00100000000000\n",
-    ),
-    (
-        "040491101000001020920000000000",
-        "stamp: raw 10209200000000\n",
-    ),
-    (
-        "040491101000000020920000000000",
-        "stamp: 2000-02-29 00:00:00 +00:00\n",
-    ),
-    (
-        "040491101000000040130000000000",
-        "stamp: raw 00401300000000\n",
-    ),
-    (
-        "040491101000000010104200000000",
-        "stamp: raw 00101042000000\n",
-    ),
-    (
-        "040491101000000010103295950000",
-        "stamp: 2000-01-01 23:59:59 +00:00\n",
-    ),
-    (
-        "040491101000000010100006000000",
-        "stamp: raw 00101000060000\n",
-    ),
-    (
-        "040491101000000010100000060000",
-        "stamp: raw 00101000000600\n",
-    ),
-    (
-        "040491101000000010100000008000",
-        "stamp: 2000-01-01 00:00:00 +02:00\n",
-    ),
-    (
-        "040491101000000010100000002B00",
-        "stamp: 2000-01-01 00:00:00 -08:00\n",
-    ),
-    (
-        "040491101000000010100000000800",
-        "stamp: 2000-01-01 00:00:00 +00:00\n",
-    ),
-    (
-        "040491101000000010100000009700",
-        "stamp: 2000-01-01 00:00:00 +19:45\n",
-    ),
-    (
-        "040491101000000010100000009F00",
-        "stamp: 2000-01-01 00:00:00 -19:45\n",
-    ),
-    (
-        "04049110100000001010000000A000",
-        "stamp: raw 001010000000A0\n",
-    ),
-    (
-        "040491101000009930925161953200",
-        "stamp: 2099-03-29 15:16:59 +05:45\n",
-    ),
-    (
-        "040481012000000010100000000000",
-        "from: 1002\nnumber: 0 1\n",
-    ),
-    (
-        "040491012000000010100000000000",
-        "from: +1002\nnumber: 1 1\n",
-    ),
-    (
-        "0405A82143F500000010100000000000",
-        "from: 12345\nnumber: 2 8\n",
-    ),
-    ("0402B9BA00000010100000000000", "from: *#\nnumber: 3 9\n"),
-    (
-        "040BC87238880900F100000010100000000000",
-        "from: 27838890001\nnumber: 4 8\n",
-    ),
-    ("0403E0DCFE00000010100000000000", "from: abc\nnumber: 6 0\n"),
-    ("0400FF00000010100000000000", "from: \nnumber: 7 15\n"),
-    ("04009000000010100000000000", "from: +\nnumber: 1 0\n"),
-    (
-        "0414911032547698103254769800000010100000000000",
-        "from: +01234567890123456789\nnumber: 1 1\n",
-    ),
-    (
-        "000491101000000010100000000000",
-        "more: yes\nloop: no\nreport: no\nreply: no\n",
-    ),
-    (
-        "040491101000000010100000000000",
-        "more: no\nloop: no\nreport: no\nreply: no\n",
-    ),
-    (
-        "0C0491101000000010100000000000",
-        "more: no\nloop: yes\nreport: no\nreply: no\n",
-    ),
-    (
-        "240491101000000010100000000000",
-        "more: no\nloop: no\nreport: yes\nreply: no\n",
-    ),
-    (
-        "840491101000000010100000000000",
-        "more: no\nloop: no\nreport: no\nreply: yes\n",
-    ),
-    (
-        "BC0491101000000010100000000000",
-        "more: no\nloop: yes\nreport: yes\nreply: yes\n",
-    ),
-    (
-        "0404911010000000101000000000029B17",
-        "length: 2\ntext: \\\\\n",
-    ),
-    ("0404911010000000101000000000010A", "length: 1\ntext: \\n\n"),
-    ("0404911010000000101000000000010D", "length: 1\ntext: \\r\n"),
-    (
-        "0404911010000000101000000000021B05",
-        "length: 2\ntext: \\f\n",
-    ),
-    (
-        "0404911010000000101000000000131BDE06B5296F521BDF86B2E96D80001013",
-        "length: 19\ntext: [{€}]^~|@ L\n",
-    ),
-    (
-        "0404911010000000101000000000039B971B",
-        "length: 3\ntext: \\\\n\n",
-    ),
-    ("0404911010000000101000000000011B", "length: 1\ntext:  \n"),
-    (
-        "0404911010000000101000000000039B4D10",
-        "length: 3\ntext:  A\n",
-    ),
-    ("0404911010000000101000000000029B20", "length: 2\ntext: A\n"),
-    (
-        "040491101000000010100000000002E83400",
-        "length: 2\ntext: hi\nrest: 1\n",
-    ),
-    (
-        "040491101000000010100000000000FFFFFF",
-        "length: 0\ntext: \nrest: 3\n",
-    ),
-    (
-        "040491101000000010100000000002e834",
-        "length: 2\ntext: hi\n",
-    ),
-    ("040491101000040010100000000000", "length: 0\ndata: -\n"),
-];
-
-/// Octets that are no delivery, and the answer.
-static REFUSED: [(&str, &str); 24] = [
-    (
-        "040BC87238880900F1000099309251619580A1",
-        "at 18: data too long\n",
-    ),
-    ("", "at 0: short\n"),
-    ("-", "at 0: short\n"),
-    ("0", "bad hex\n"),
-    ("040", "bad hex\n"),
-    ("0x04", "bad hex\n"),
-    ("04 04", "bad hex\n"),
-    ("0G", "bad hex\n"),
-    ("04--", "bad hex\n"),
-    ("01", "at 0: wrong type\n"),
-    ("02", "at 0: wrong type\n"),
-    ("03", "at 0: wrong type\n"),
-    ("05", "at 0: wrong type\n"),
-    ("44", "at 0: not yet\n"),
-    ("0415", "at 1: address too long\n"),
-    ("041591", "at 1: address too long\n"),
-    ("0404911F", "at 3: bad digit\n"),
-    ("040491F1", "at 3: bad digit\n"),
-    ("040391210F", "at 4: bad digit\n"),
-    ("0404911010000000101000000000A1", "at 14: data too long\n"),
-    ("04049110100004001010000000008D", "at 14: data too long\n"),
-    ("04049110100008001010000000008D", "at 14: data too long\n"),
-    ("040491101000000010100000000001", "at 15: short\n"),
-    ("04049110100004001010000000000241", "at 16: short\n"),
-];
-
-/// A delivery of a text, and its fields.
-const HELLO: &str = "040BC87238880900F10000993092516195800AE8329BFD4697D9EC37";
-
-const HELLO_SHOWN: &str = "\
-type: deliver
-more: no
-loop: no
-report: no
-reply: no
-from: 27838890001
-number: 4 8
-pid: 00
-dcs: 00
-stamp: 2099-03-29 15:16:59 +02:00
-length: 10
-text: hellohello
-";
-
-/// Words that `clap` answers, the status, and what its text has.
-static EXPLAINED: [(&[&str], u8, &str); 14] = [
-    (&["sms"], 2, "requires a subcommand"),
-    (&["sms", "help"], 0, "Usage: sms"),
-    (&["sms", "--help"], 0, "Usage: sms"),
-    (&["sms", "show", "-h"], 0, "[possible values: deliver]"),
-    (&["sms", "--version"], 2, "'--version'"),
-    (&["sms", "read", "deliver", "00"], 2, "'read'"),
-    (&["sms", "encode", "submit", "+1", "a"], 2, "'encode'"),
-    (&["sms", "show"], 2, "<KIND> <HEX>"),
-    (&["sms", "show", "deliver"], 2, "<HEX>"),
-    (&["sms", "show", "submit", "00"], 2, "'submit'"),
-    (&["sms", "show", "", "00"], 2, "[possible values: deliver]"),
-    (&["sms", "show", "deliver", "00", "00"], 2, "'00'"),
-    (&["sms", "show", "deliver", "-00"], 2, "'-0'"),
-    (&["sms", "show", "deliver", "00", "--sca"], 2, "'--sca'"),
-];
 
 /// The status and the whole output.
 fn answer_to(rt: &HostRuntime, words: &[&str]) -> Result<(u8, String), Fail> {
@@ -328,9 +22,14 @@ fn says(answer: &str, part: &str) -> bool {
 }
 
 #[test]
-fn shows_deliveries(rt: HostRuntime) -> Result<(), Fail> {
-    for (octets, lines) in SHOWN {
+fn shows_units(rt: HostRuntime) -> Result<(), Fail> {
+    for (octets, lines) in DELIVERIES {
         let (status, text) = answer_to(&rt, &["sms", "show", "deliver", octets])?;
+        assert_eq!(rt; status, 0, "{octets}");
+        assert!(rt; says(&text, lines), "{octets}: {text}");
+    }
+    for (octets, lines) in SUBMISSIONS {
+        let (status, text) = answer_to(&rt, &["sms", "show", "submit", octets])?;
         assert_eq!(rt; status, 0, "{octets}");
         assert!(rt; says(&text, lines), "{octets}: {text}");
     }
@@ -340,18 +39,33 @@ fn shows_deliveries(rt: HostRuntime) -> Result<(), Fail> {
 }
 
 #[test]
-fn refuses_what_is_no_delivery(rt: HostRuntime) -> Result<(), Fail> {
-    for (octets, line) in REFUSED {
-        let (status, text) = answer_to(&rt, &["sms", "show", "deliver", octets])?;
-        assert_eq!(rt; status, 1, "{octets}");
-        assert_eq!(rt; text.as_str(), line, "{octets}");
+fn shows_what_stands_behind_a_centre(rt: HostRuntime) -> Result<(), Fail> {
+    for (kind, octets, status, lines) in AFTER_CENTRES {
+        let answer = answer_to(&rt, &["sms", "show", "--sca", kind, octets])?;
+        assert_eq!(rt; answer.0, status, "{octets}");
+        assert_eq!(rt; answer.1.as_str(), lines, "{octets}");
+    }
+    Ok(())
+}
+
+#[test]
+fn refuses_what_is_no_unit(rt: HostRuntime) -> Result<(), Fail> {
+    for (octets, line) in NO_DELIVERIES {
+        let answer = answer_to(&rt, &["sms", "show", "deliver", octets])?;
+        assert_eq!(rt; answer.0, 1, "{octets}");
+        assert_eq!(rt; answer.1.as_str(), line, "{octets}");
+    }
+    for (octets, line) in NO_SUBMISSIONS {
+        let answer = answer_to(&rt, &["sms", "show", "submit", octets])?;
+        assert_eq!(rt; answer.0, 1, "{octets}");
+        assert_eq!(rt; answer.1.as_str(), line, "{octets}");
     }
     for place in 0..28 {
         let octets = HELLO.get(..2 * place).ok_or("no front")?;
         let line = format!(in rt.alloc(); "at {place}: short\n")?;
-        let (status, text) = answer_to(&rt, &["sms", "show", "deliver", octets])?;
-        assert_eq!(rt; status, 1, "{octets}");
-        assert_eq!(rt; text, line, "{octets}");
+        let answer = answer_to(&rt, &["sms", "show", "deliver", octets])?;
+        assert_eq!(rt; answer.0, 1, "{octets}");
+        assert_eq!(rt; answer.1, line, "{octets}");
     }
     Ok(())
 }
@@ -383,5 +97,108 @@ fn fails_where_the_output_is_full(rt: HostRuntime) -> Result<(), Fail> {
 fn escapes_what_would_break_a_line(rt: HostRuntime) -> Result<(), Fail> {
     let text = Escaped("\u{0}\t\u{b}\u{1b}\u{1f} \u{7f}\\x41é€ж😀").to_string(rt.alloc())?;
     assert_eq!(rt; text.as_str(), "\\x00\\x09\\x0b\\x1b\\x1f \\x7f\\\\x41é€ж😀");
+    Ok(())
+}
+
+/// The status and the answer to `encode`, without its line feed.
+fn encoding_of(
+    rt: &HostRuntime,
+    kind: &str,
+    options: &[&str],
+    address: &str,
+    text: &str,
+) -> Result<(u8, String), Fail> {
+    let mut words = Vec::from_slice(rt.alloc(), &["sms", "encode", kind])?;
+    words.extend_from_slice(options)?;
+    words.extend_from_slice(&["--", address, text])?;
+    let (status, answer) = answer_to(rt, words.as_slice())?;
+    let line = answer.strip_suffix('\n').ok_or("no line")?;
+    Ok((status, String::from_str(rt.alloc(), line)?))
+}
+
+/// Whether octets are shown as a unit with an address and a text.
+fn comes_back(
+    rt: &HostRuntime,
+    kind: &str,
+    octets: &str,
+    address: &str,
+    text: &str,
+) -> Result<bool, Fail> {
+    let party = if kind == "submit" { "to" } else { "from" };
+    let party = format!(in rt.alloc(); "\n{party}: {}\n", Escaped(address))?;
+    let last = format!(in rt.alloc(); "\ntext: {}\n", Escaped(text))?;
+    let (status, lines) = answer_to(rt, &["sms", "show", kind, octets])?;
+    Ok(status == 0 && says(&lines, &party) && says(&lines, &last))
+}
+
+#[test]
+fn encodes_units(rt: HostRuntime) -> Result<(), Fail> {
+    for (kind, options, address, text, octets) in UNITS {
+        let (status, answer) = encoding_of(&rt, kind, options, address, text)?;
+        assert_eq!(rt; status, 0, "{address} {text}");
+        assert_eq!(rt; answer.as_str(), octets, "{address} {text}");
+        let again = comes_back(&rt, kind, octets, address, text)?;
+        assert!(rt; again, "{address} {text}");
+    }
+    for (kind, options, address, text, status, line) in NO_UNITS {
+        let answer = encoding_of(&rt, kind, options, address, text)?;
+        assert_eq!(rt; answer.0, status, "{address} {text}");
+        assert_eq!(rt; answer.1.as_str(), line, "{address} {text}");
+    }
+    Ok(())
+}
+
+/// A text so many times.
+fn repeated(rt: &HostRuntime, part: &str, times: usize) -> Result<String, Fail> {
+    let mut text = String::new(rt.alloc());
+    for _ in 0..times {
+        text.push_str(part)?;
+    }
+    Ok(text)
+}
+
+/// The status and the answer to a delivery with a header, by its coding scheme, length and data.
+fn shown_data(
+    rt: &HostRuntime,
+    scheme: &str,
+    length: &str,
+    data: &str,
+) -> Result<(u8, String), Fail> {
+    let octets = format!(in rt.alloc(); "440491101000{scheme}00101000000000{length}{data}")?;
+    answer_to(rt, &["sms", "show", "deliver", &octets])
+}
+
+#[test]
+fn shows_what_fits_behind_a_header(rt: HostRuntime) -> Result<(), Fail> {
+    for (header, first, octets, septets) in HEADERS {
+        let ones = repeated(&rt, "FF", octets)?;
+        let data = format!(in rt.alloc(); "{header}{first}{ones}")?;
+        let text = repeated(&rt, "à", septets)?;
+        let text_line = format!(in rt.alloc(); "\ntext: {text}\n")?;
+        let data_line = format!(in rt.alloc(); "\ndata: {first}{ones}\n")?;
+        let septets = shown_data(&rt, "00", "A0", &data)?;
+        assert!(rt; says(&septets.1, &text_line), "{header}");
+        let octets = shown_data(&rt, "04", "8C", &data)?;
+        assert!(rt; says(&octets.1, &data_line), "{header}");
+        let units = shown_data(&rt, "08", "8C", &data)?;
+        assert_eq!(rt; (septets.0, octets.0, units.0), (0, 0, 0), "{header}");
+        for (scheme, length) in [("00", "A1"), ("04", "8D"), ("08", "8D")] {
+            let (status, answer) = shown_data(&rt, scheme, length, &data)?;
+            assert_eq!(rt; status, 1, "{header}");
+            assert_eq!(rt; answer.as_str(), "at 14: data too long\n", "{header}");
+        }
+    }
+    Ok(())
+}
+
+#[test]
+fn encodes_what_fits_one_piece(rt: HostRuntime) -> Result<(), Fail> {
+    for (character, count, first, part, times, last) in LONG_TEXTS {
+        let text = repeated(&rt, character, count)?;
+        let middle = repeated(&rt, part, times)?;
+        let (_, answer) = encoding_of(&rt, "submit", &[], "", &text)?;
+        let expected = format!(in rt.alloc(); "{first}{middle}{last}")?;
+        assert_eq!(rt; answer, expected, "{character} {count}");
+    }
     Ok(())
 }
