@@ -3,8 +3,8 @@ mod rows;
 use super::*;
 use crate::printed::Escaped;
 use rows::{
-    AFTER_CENTRES, DELIVERIES, EXPLAINED, HEADERS, HELLO, HELLO_SHOWN, LONG_TEXTS, NO_DELIVERIES,
-    NO_SUBMISSIONS, NO_UNITS, SUBMISSIONS, UNITS,
+    AFTER_CENTRES, DELIVERIES, EXPLAINED, HEADERS, HELLO, HELLO_SHOWN, LONG_TEXTS, MORE_DELIVERIES,
+    NO_DELIVERIES, NO_SUBMISSIONS, NO_UNITS, SUBMISSIONS, UNITS,
 };
 use std::test::Fail;
 
@@ -21,19 +21,43 @@ fn says(answer: &str, part: &str) -> bool {
     answer.contains(part)
 }
 
+/// Whether octets are shown as a unit with these lines.
+fn is_shown(rt: &HostRuntime, kind: &str, octets: &str, lines: &str) -> Result<bool, Fail> {
+    let (status, text) = answer_to(rt, &["sms", "show", kind, octets])?;
+    Ok(status == 0 && says(&text, lines))
+}
+
 #[test]
-fn shows_units(rt: HostRuntime) -> Result<(), Fail> {
-    for (octets, lines) in DELIVERIES {
-        let (status, text) = answer_to(&rt, &["sms", "show", "deliver", octets])?;
-        assert_eq!(rt; status, 0, "{octets}");
-        assert!(rt; says(&text, lines), "{octets}: {text}");
+fn shows_deliveries(rt: HostRuntime) -> Result<(), Fail> {
+    for row in DELIVERIES.as_slice() {
+        let shown = is_shown(&rt, "deliver", row.0, row.1)?;
+        assert!(rt; shown);
     }
-    for (octets, lines) in SUBMISSIONS {
-        let (status, text) = answer_to(&rt, &["sms", "show", "submit", octets])?;
-        assert_eq!(rt; status, 0, "{octets}");
-        assert!(rt; says(&text, lines), "{octets}: {text}");
+    Ok(())
+}
+
+#[test]
+fn shows_more_deliveries(rt: HostRuntime) -> Result<(), Fail> {
+    for row in MORE_DELIVERIES.as_slice() {
+        let shown = is_shown(&rt, "deliver", row.0, row.1)?;
+        assert!(rt; shown);
     }
-    let (_, text) = answer_to(&rt, &["sms", "show", "deliver", HELLO])?;
+    Ok(())
+}
+
+#[test]
+fn shows_submissions(rt: HostRuntime) -> Result<(), Fail> {
+    for row in SUBMISSIONS.as_slice() {
+        let shown = is_shown(&rt, "submit", row.0, row.1)?;
+        assert!(rt; shown);
+    }
+    Ok(())
+}
+
+#[test]
+fn shows_a_whole_delivery(rt: HostRuntime) -> Result<(), Fail> {
+    let (status, text) = answer_to(&rt, &["sms", "show", "deliver", HELLO])?;
+    assert_eq!(rt; status, 0);
     assert_eq!(rt; text.as_str(), HELLO_SHOWN);
     Ok(())
 }
@@ -131,19 +155,33 @@ fn comes_back(
     Ok(status == 0 && says(&lines, &party) && says(&lines, &last))
 }
 
+/// Whether a row of what can be encoded gives its octets, and these are shown as what went in.
+fn is_encoded(rt: &HostRuntime, row: &(&str, &[&str], &str, &str, &str)) -> Result<bool, Fail> {
+    let (status, answer) = encoding_of(rt, row.0, row.1, row.2, row.3)?;
+    let again = comes_back(rt, row.0, row.4, row.2, row.3)?;
+    Ok(status == 0 && answer.as_str() == row.4 && again)
+}
+
+/// Whether a row of what cannot be encoded gives its status and its line.
+fn is_refused(rt: &HostRuntime, row: &(&str, &[&str], &str, &str, u8, &str)) -> Result<bool, Fail> {
+    let (status, answer) = encoding_of(rt, row.0, row.1, row.2, row.3)?;
+    Ok(status == row.4 && answer.as_str() == row.5)
+}
+
 #[test]
 fn encodes_units(rt: HostRuntime) -> Result<(), Fail> {
-    for (kind, options, address, text, octets) in UNITS {
-        let (status, answer) = encoding_of(&rt, kind, options, address, text)?;
-        assert_eq!(rt; status, 0, "{address} {text}");
-        assert_eq!(rt; answer.as_str(), octets, "{address} {text}");
-        let again = comes_back(&rt, kind, octets, address, text)?;
-        assert!(rt; again, "{address} {text}");
+    for row in UNITS.as_slice() {
+        let encoded = is_encoded(&rt, row)?;
+        assert!(rt; encoded);
     }
-    for (kind, options, address, text, status, line) in NO_UNITS {
-        let answer = encoding_of(&rt, kind, options, address, text)?;
-        assert_eq!(rt; answer.0, status, "{address} {text}");
-        assert_eq!(rt; answer.1.as_str(), line, "{address} {text}");
+    Ok(())
+}
+
+#[test]
+fn refuses_what_is_not_encoded(rt: HostRuntime) -> Result<(), Fail> {
+    for row in NO_UNITS.as_slice() {
+        let refused = is_refused(&rt, row)?;
+        assert!(rt; refused);
     }
     Ok(())
 }

@@ -19,7 +19,7 @@ text: hellohello
 ";
 
 /// Deliveries, and lines of the answer.
-pub static DELIVERIES: [(&str, &str); 114] = [
+pub static DELIVERIES: [(&str, &str); 57] = [
     (
         "040491101000000010100000000002E834",
         "length: 2\ntext: hi\n",
@@ -230,6 +230,10 @@ pub static DELIVERIES: [(&str, &str); 114] = [
     ),
     ("0404911010000000101000000000010A", "length: 1\ntext: \\n\n"),
     ("0404911010000000101000000000010D", "length: 1\ntext: \\r\n"),
+];
+
+/// More deliveries, and lines of the answer.
+pub static MORE_DELIVERIES: [(&str, &str); 57] = [
     (
         "0404911010000000101000000000021B05",
         "length: 2\ntext: \\f\n",
