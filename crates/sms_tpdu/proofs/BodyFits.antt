@@ -1,5 +1,5 @@
 -- A body that is read goes with its alphabet.
-use Rattle.std.proofs.Common.{◌≡◌, ℕ, ◌+◌, ◌-◌, ◌*◌, ◌/◌, ◌≤◌, List, length, refl, sym, ap, subst, arith}
+use Rattle.std.proofs.Common.{◌≡◌, ℕ, ◌-◌, ◌≤◌, List, length, refl, sym, ap, subst, arith}
 use Rattle.sms_text.specs.Bits.{unpacked}
 use Rattle.sms_text.proofs.ReadingBits.{unpacked_septets}
 use Rattle.sms_text.specs.Octets.{IsOctets}

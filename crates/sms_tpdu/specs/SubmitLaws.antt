@@ -1,9 +1,9 @@
 -- An SMS-SUBMIT is a lawful field, and what is written is read back.
-use Rattle.std.proofs.Common.{◌≡◌, ℕ, ◌<◌, ◌||◌, Bool, true, false, not, cond, List, [], ◌∷◌, ◌++◌, length, Result, Ok, Err, refl, sym, subst, lit<}
+use Rattle.std.proofs.Common.{◌≡◌, ℕ, ◌<◌, ◌||◌, Bool, true, false, not, cond, List, [], ◌∷◌, ◌++◌, length, Ok, Err, refl, sym, subst, lit<}
 use Rattle.std.proofs.lemmas.List.{append-nil}
 use Rattle.sms_text.specs.Octets.{IsOctets}
 use Rattle.sms_field.specs.Bit.{bit}
-use Rattle.sms_field.specs.Field.{Field, ◌>>=◌, always, octet, octet_by, renamed, IsLawful}
+use Rattle.sms_field.specs.Field.{IsLawful}
 use Rattle.sms_field.specs.Reading.{Reads}
 use Rattle.sms_field.specs.Address.{address, address_octets}
 use Rattle.sms_field.specs.Coding.{alphabet_at}
@@ -16,14 +16,13 @@ use Rattle.sms_field.specs.AddressSpelling.{address_again, address_are_octets}
 use Rattle.sms_tpdu.specs.Fault.{unit_fault}
 use Rattle.sms_tpdu.specs.FaultLaws.{fault_apart}
 use Rattle.sms_tpdu.specs.SubmitFlags.{submit_flags, submit_octet}
-use Rattle.sms_tpdu.specs.Validity.{validity, format_of, validity_octets}
+use Rattle.sms_tpdu.specs.Validity.{format_of, validity_octets}
 use Rattle.sms_tpdu.specs.ValidityLaws.{validity_self, validity_lawful, validity_again, validity_are_octets}
-use Rattle.sms_tpdu.specs.UserData.{user_data, has_header, SpellsUserData}
+use Rattle.sms_tpdu.specs.UserData.{has_header, SpellsUserData}
 use Rattle.sms_tpdu.specs.UserDataLaws.{user_data_self, user_data_lawful, user_data_again, user_data_are_octets}
 use Rattle.sms_tpdu.specs.Submission.{Submission, IsSubmittable}
 use Rattle.sms_tpdu.specs.Submit.{submit, flags_in, SpellsSubmit}
 use Rattle.sms_tpdu.specs.declared.submit_flags.SubmitFlags.{SubmitFlags}
-use Rattle.sms_tpdu.specs.declared.fault.UnitFault.{UnitFault}
 use Rattle.sms_tpdu.specs.declared.fault.UnitFault.TheVariants.{Short, WrongType}
 use Rattle.sms_tpdu.specs.declared.validity.ValidityFormat.{ValidityFormat}
 use Rattle.sms_tpdu.specs.declared.validity.ValidityFormat.TheVariants.{Absent, Relative, Enhanced, Absolute}

@@ -1,8 +1,8 @@
 -- A validity period is a lawful field, and what is written is read back.
-use Rattle.std.proofs.Common.{◌≡◌, ℕ, List, [], ◌∷◌, refl, sym}
+use Rattle.std.proofs.Common.{ℕ, List, [], ◌∷◌, refl, sym}
 use Rattle.std.proofs.lemmas.List.{append-nil}
 use Rattle.sms_text.specs.Octets.{IsOctets}
-use Rattle.sms_field.specs.Field.{always, octet, octets_of, IsLawful, IsSelfContained}
+use Rattle.sms_field.specs.Field.{IsLawful, IsSelfContained}
 use Rattle.sms_field.specs.JoinLaws.{join_lawful, join_self_contained}
 use Rattle.sms_field.specs.SingleLaws.{always_self, always_lawful, octet_self, octet_lawful, octets_of_self, octets_of_lawful}
 use Rattle.sms_field.specs.declared.validity.Validity.{Validity}

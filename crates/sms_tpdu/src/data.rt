@@ -27,7 +27,7 @@ fn greatest_length(alphabet: Alphabet) -> usize
 }
 
 /// The number of octets that user data of a length take.
-fn octets_of_length(alphabet: Alphabet, count: u8) -> usize
+pub fn octets_of_length(alphabet: Alphabet, count: u8) -> usize
     ensures { result ≡ lengths.octets_of_length alphabet count }
 {
     match alphabet {
@@ -232,4 +232,17 @@ pub fn put_user_data(alloc: Global, out: &mut Vec<u8>, user: &UserData) -> Resul
         }
     }
     Ok(())
+}
+
+impl UserData {
+    /// The octets of the user data in a unit: their length, TP-UDL, and then the data, TP-UD (TS 23.040, 9.2.3.16 and
+    /// 9.2.3.24).
+    pub fn write(&self, alloc: Global) -> Result<Vec<u8>, AllocError>
+        requires { (alphabet : Alphabet) × FitsAlphabet alphabet self.now }
+        ensures { IfOk result (λ octets. SpellsUserData self.now octets.items) }
+    {
+        let mut octets = Vec::new(alloc);
+        put_user_data(alloc, &mut octets, self)?;
+        Ok(octets)
+    }
 }

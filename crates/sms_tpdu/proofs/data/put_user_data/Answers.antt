@@ -1,4 +1,4 @@
-use Rattle.std.proofs.Common.{◌≡◌, ◌+◌, ◌++◌, ◌∷◌, [], ℕ, List, length, Option, refl, sym, ap, subst, append_assoc}
+use Rattle.std.proofs.Common.{◌≡◌, ◌+◌, ◌++◌, ◌∷◌, [], ℕ, List, length, Option, refl, ap, subst, append_assoc}
 use Rattle.sms_text.specs.Bits.{PackedPlain}
 use Rattle.sms_text.specs.Octets.{IsOctets}
 use Rattle.sms_field.specs.declared.coding.Alphabet.TheVariants.{Gsm7}

@@ -1,0 +1,396 @@
+//! Reports whose octets are known from the standard's tables.
+
+use super::ReportData;
+use crate::{DeliverAck, DeliverError, Refusal, SubmitAck, SubmitError, Unit, UnitFault, reread};
+use std::alloc::Global;
+use std::test::Fail;
+
+/// The four kinds of report.
+#[derive(Clone, Copy)]
+enum Kind {
+    SubmitAck,
+    SubmitError,
+    DeliverAck,
+    DeliverError,
+}
+
+/// What a report says. A kind without a cause says 0 for it, one without a stamp seven times 0.
+#[derive(Drop)]
+struct Said {
+    has_header: bool,
+    cause: u8,
+    stamp: [u8; 7],
+    pid: Option<u8>,
+    dcs: Option<u8>,
+    user: Option<ReportData>,
+}
+
+/// A report as its octets, what they say, and how it is written.
+struct Row {
+    kind: Kind,
+    octets: &'static [u8],
+    has_header: bool,
+    cause: u8,
+    stamp: [u8; 7],
+    pid: Option<u8>,
+    dcs: Option<u8>,
+    user: Option<(u8, &'static [u8])>,
+    written: &'static [u8],
+}
+
+/// The first second of 2001, in the zone of Greenwich.
+const NEW_YEAR: [u8; 7] = [0x10, 0x10, 0x10, 0x00, 0x00, 0x00, 0x00];
+
+/// No stamp.
+const NONE: [u8; 7] = [0; 7];
+
+static ROWS: [Row; 14] = [
+    Row {
+        kind: Kind::SubmitAck,
+        octets: b"\x01\x00\x10\x10\x10\x00\x00\x00\x00",
+        has_header: false,
+        cause: 0,
+        stamp: NEW_YEAR,
+        pid: None,
+        dcs: None,
+        user: None,
+        written: b"\x01\x00\x10\x10\x10\x00\x00\x00\x00",
+    },
+    // all parts, in octets; the free bits of the first octet and of the indicator are 1
+    Row {
+        kind: Kind::SubmitAck,
+        octets: b"\xFD\x7F\x10\x10\x10\x00\x00\x00\x00\x7F\x04\x02\xAA\xBB",
+        has_header: true,
+        cause: 0,
+        stamp: NEW_YEAR,
+        pid: Some(0x7F),
+        dcs: Some(0x04),
+        user: Some((2, b"\xAA\xBB")),
+        written: b"\x41\x07\x10\x10\x10\x00\x00\x00\x00\x7F\x04\x02\xAA\xBB",
+    },
+    // two further octets of the indicator; eight septets without a coding scheme
+    Row {
+        kind: Kind::SubmitAck,
+        octets: b"\x01\x84\xFF\x07\x10\x10\x10\x00\x00\x00\x00\x08\x01\x02\x03\x04\x05\x06\x07",
+        has_header: false,
+        cause: 0,
+        stamp: NEW_YEAR,
+        pid: None,
+        dcs: None,
+        user: Some((8, b"\x01\x02\x03\x04\x05\x06\x07")),
+        written: b"\x01\x04\x10\x10\x10\x00\x00\x00\x00\x08\x01\x02\x03\x04\x05\x06\x07",
+    },
+    Row {
+        kind: Kind::SubmitError,
+        octets: b"\x01\xC5\x00\x10\x10\x10\x00\x00\x00\x00",
+        has_header: false,
+        cause: 0xC5,
+        stamp: NEW_YEAR,
+        pid: None,
+        dcs: None,
+        user: None,
+        written: b"\x01\xC5\x00\x10\x10\x10\x00\x00\x00\x00",
+    },
+    // a cause like an indicator of all parts; the coding scheme alone
+    Row {
+        kind: Kind::SubmitError,
+        octets: b"\x01\x87\x02\x10\x10\x10\x00\x00\x00\x00\x08",
+        has_header: false,
+        cause: 0x87,
+        stamp: NEW_YEAR,
+        pid: None,
+        dcs: Some(0x08),
+        user: None,
+        written: b"\x01\x87\x02\x10\x10\x10\x00\x00\x00\x00\x08",
+    },
+    // no data, with a length
+    Row {
+        kind: Kind::SubmitError,
+        octets: b"\x41\xFF\x84\x00\x10\x10\x10\x00\x00\x00\x00\x00",
+        has_header: true,
+        cause: 0xFF,
+        stamp: NEW_YEAR,
+        pid: None,
+        dcs: None,
+        user: Some((0, b"")),
+        written: b"\x41\xFF\x04\x10\x10\x10\x00\x00\x00\x00\x00",
+    },
+    Row {
+        kind: Kind::DeliverAck,
+        octets: b"\x00\x00",
+        has_header: false,
+        cause: 0,
+        stamp: NONE,
+        pid: None,
+        dcs: None,
+        user: None,
+        written: b"\x00\x00",
+    },
+    // the identifier alone
+    Row {
+        kind: Kind::DeliverAck,
+        octets: b"\x40\x01\x41",
+        has_header: true,
+        cause: 0,
+        stamp: NONE,
+        pid: Some(0x41),
+        dcs: None,
+        user: None,
+        written: b"\x40\x01\x41",
+    },
+    // one letter in UCS-2
+    Row {
+        kind: Kind::DeliverAck,
+        octets: b"\x00\x06\x08\x02\x04\x36",
+        has_header: false,
+        cause: 0,
+        stamp: NONE,
+        pid: None,
+        dcs: Some(0x08),
+        user: Some((2, b"\x04\x36")),
+        written: b"\x00\x06\x08\x02\x04\x36",
+    },
+    // two septets of the 7-bit alphabet, with bits to spare
+    Row {
+        kind: Kind::DeliverAck,
+        octets: b"\x00\x86\x00\x00\x02\xE8\xF4",
+        has_header: false,
+        cause: 0,
+        stamp: NONE,
+        pid: None,
+        dcs: Some(0x00),
+        user: Some((2, b"\xE8\xF4")),
+        written: b"\x00\x06\x00\x02\xE8\xF4",
+    },
+    Row {
+        kind: Kind::DeliverError,
+        octets: b"\x00\xD3\x00",
+        has_header: false,
+        cause: 0xD3,
+        stamp: NONE,
+        pid: None,
+        dcs: None,
+        user: None,
+        written: b"\x00\xD3\x00",
+    },
+    // the identifier and one septet
+    Row {
+        kind: Kind::DeliverError,
+        octets: b"\xBC\x90\x05\x00\x01\x61",
+        has_header: false,
+        cause: 0x90,
+        stamp: NONE,
+        pid: Some(0x00),
+        dcs: None,
+        user: Some((1, b"\x61")),
+        written: b"\x00\x90\x05\x00\x01\x61",
+    },
+    // the identifier and the coding scheme
+    Row {
+        kind: Kind::DeliverError,
+        octets: b"\x00\xB0\x03\x10\xF5",
+        has_header: false,
+        cause: 0xB0,
+        stamp: NONE,
+        pid: Some(0x10),
+        dcs: Some(0xF5),
+        user: None,
+        written: b"\x00\xB0\x03\x10\xF5",
+    },
+    // compressed text is counted in octets
+    Row {
+        kind: Kind::DeliverError,
+        octets: b"\x00\xFF\x06\x20\x03\x01\x02\x03",
+        has_header: false,
+        cause: 0xFF,
+        stamp: NONE,
+        pid: None,
+        dcs: Some(0x20),
+        user: Some((3, b"\x01\x02\x03")),
+        written: b"\x00\xFF\x06\x20\x03\x01\x02\x03",
+    },
+];
+
+/// What octets say as a report on a submission, how many they are, and how it is written.
+fn submit_report(
+    alloc: Global,
+    kind: Kind,
+    octets: &[u8],
+) -> Result<(Said, usize, Vec<u8>), Refusal<UnitFault>> {
+    if let Kind::SubmitAck = kind {
+        let (report, used) = SubmitAck::read(alloc, octets)?;
+        let written = report.write(alloc)?;
+        let said = Said {
+            has_header: report.has_header,
+            cause: 0,
+            stamp: report.stamp.octets(),
+            pid: report.pid,
+            dcs: report.dcs,
+            user: report.user,
+        };
+        return Ok((said, used, written));
+    }
+    let (report, used) = SubmitError::read(alloc, octets)?;
+    let written = report.write(alloc)?;
+    let said = Said {
+        has_header: report.has_header,
+        cause: report.cause,
+        stamp: report.stamp.octets(),
+        pid: report.pid,
+        dcs: report.dcs,
+        user: report.user,
+    };
+    Ok((said, used, written))
+}
+
+/// The same as a report on a delivery.
+fn deliver_report(
+    alloc: Global,
+    kind: Kind,
+    octets: &[u8],
+) -> Result<(Said, usize, Vec<u8>), Refusal<UnitFault>> {
+    if let Kind::DeliverAck = kind {
+        let (report, used) = DeliverAck::read(alloc, octets)?;
+        let written = report.write(alloc)?;
+        let said = Said {
+            has_header: report.has_header,
+            cause: 0,
+            stamp: NONE,
+            pid: report.pid,
+            dcs: report.dcs,
+            user: report.user,
+        };
+        return Ok((said, used, written));
+    }
+    let (report, used) = DeliverError::read(alloc, octets)?;
+    let written = report.write(alloc)?;
+    let said = Said {
+        has_header: report.has_header,
+        cause: report.cause,
+        stamp: NONE,
+        pid: report.pid,
+        dcs: report.dcs,
+        user: report.user,
+    };
+    Ok((said, used, written))
+}
+
+/// The same as a report of a kind.
+fn report(
+    alloc: Global,
+    kind: Kind,
+    octets: &[u8],
+) -> Result<(Said, usize, Vec<u8>), Refusal<UnitFault>> {
+    match kind {
+        Kind::SubmitAck | Kind::SubmitError => submit_report(alloc, kind, octets),
+        Kind::DeliverAck | Kind::DeliverError => deliver_report(alloc, kind, octets),
+    }
+}
+
+/// Whether data are these.
+fn are_data(user: &Option<ReportData>, wanted: Option<(u8, &[u8])>) -> bool {
+    match (user, wanted) {
+        (Some(user), Some((length, octets))) => {
+            user.length == length && user.octets.as_slice() == octets
+        }
+        (None, None) => true,
+        _ => false,
+    }
+}
+
+/// Whether the octets of a row, and others behind them, are read and written as the row says.
+fn is_right(alloc: Global, row: &Row) -> Result<bool, Fail> {
+    let mut octets = Vec::from_slice(alloc, row.octets)?;
+    octets.extend_from_slice(b"\x00\xFF")?;
+    let (said, used, written) = report(alloc, row.kind, &octets)?;
+    let right = said.has_header == row.has_header
+        && (said.cause, said.stamp) == (row.cause, row.stamp)
+        && (said.pid, said.dcs) == (row.pid, row.dcs)
+        && are_data(&said.user, row.user);
+    Ok(right && used == row.octets.len() && written.as_slice() == row.written)
+}
+
+#[test]
+fn reads_and_writes_reports(rt: HostRuntime) -> Result<(), Fail> {
+    for row in ROWS.as_slice() {
+        let right = is_right(rt.alloc(), row)?;
+        assert!(rt; right);
+    }
+    Ok(())
+}
+
+/// Whether octets are refused as a kind of report at this place for this reason.
+fn is_refused(alloc: Global, kind: Kind, octets: &[u8], place: usize, why: UnitFault) -> bool {
+    match report(alloc, kind, octets) {
+        Ok(_) => false,
+        Err(refusal) => refusal == Refusal::At { place, why },
+    }
+}
+
+#[test]
+fn refuses_what_is_no_report(rt: HostRuntime) -> Result<(), Fail> {
+    for row in ROWS.as_slice() {
+        for n in 0..row.octets.len() {
+            let short = is_refused(rt.alloc(), row.kind, &row.octets[..n], n, UnitFault::Short);
+            assert!(rt; short);
+        }
+    }
+    let cases: [(Kind, &[u8], usize, UnitFault); 10] = [
+        (Kind::SubmitAck, b"\x00", 0, UnitFault::WrongType),
+        (Kind::SubmitError, b"\x03", 0, UnitFault::WrongType),
+        (Kind::DeliverAck, b"\x01", 0, UnitFault::WrongType),
+        (Kind::DeliverError, b"\x42", 0, UnitFault::WrongType),
+        (
+            Kind::SubmitAck,
+            b"\x01\x04\x10\x10\x10\x00\x00\x00\x00\xB6",
+            9,
+            UnitFault::DataTooLong,
+        ),
+        (Kind::DeliverAck, b"\x00\x04\xB5", 3, UnitFault::Short),
+        (Kind::DeliverAck, b"\x00\x04\xB6", 2, UnitFault::DataTooLong),
+        (
+            Kind::DeliverError,
+            b"\x00\xD3\x06\x04\x9F",
+            5,
+            UnitFault::Short,
+        ),
+        (
+            Kind::DeliverError,
+            b"\x00\xD3\x06\x04\xA0",
+            4,
+            UnitFault::DataTooLong,
+        ),
+        (Kind::DeliverAck, b"\x00\x80\x80\xFF", 4, UnitFault::Short),
+    ];
+    for (kind, octets, place, why) in cases {
+        let refused = is_refused(rt.alloc(), kind, octets, place, why);
+        assert!(rt; refused);
+    }
+    Ok(())
+}
+
+/// The octets of a report on a delivery with 181 septets, which are 159 octets.
+fn longest(alloc: Global) -> Result<Vec<u8>, Fail> {
+    let mut octets = Vec::from_slice(alloc, b"\x00\x04\xB5")?;
+    octets.extend_from_slice(&[0x55; 159])?;
+    Ok(octets)
+}
+
+#[test]
+fn rereads_reports(rt: HostRuntime) -> Result<(), Fail> {
+    let (ack, _) = SubmitAck::read(rt.alloc(), ROWS[1].octets)?;
+    let again = reread(rt.alloc(), &ack)?.write(rt.alloc())?;
+    assert_eq!(rt; again.as_slice(), ROWS[1].written);
+    let (error, _) = SubmitError::read(rt.alloc(), ROWS[5].octets)?;
+    let again = reread(rt.alloc(), &error)?.write(rt.alloc())?;
+    assert_eq!(rt; again.as_slice(), ROWS[5].written);
+    let (error, _) = DeliverError::read(rt.alloc(), ROWS[11].octets)?;
+    let again = reread(rt.alloc(), &error)?.write(rt.alloc())?;
+    assert_eq!(rt; again.as_slice(), ROWS[11].written);
+    let octets = longest(rt.alloc())?;
+    let (ack, used) = DeliverAck::read(rt.alloc(), &octets)?;
+    assert_eq!(rt; used, 162);
+    let again = reread(rt.alloc(), &ack)?.write(rt.alloc())?;
+    assert_eq!(rt; again.as_slice(), octets.as_slice());
+    Ok(())
+}
