@@ -1,0 +1,2 @@
+mod PacketRead
+mod Sizes

@@ -1,0 +1,22 @@
+-- What a CP message is (3GPP TS 24.011, 7.2).
+use Rattle.std.specs.Prelude.{ℕ, ◌<◌, ◌≤◌, Bool, length}
+use Rattle.sms_text.specs.Octets.{IsOctets}
+use Rattle.sms_relay.specs.declared.cp.CpBody.{CpBody}
+use Rattle.sms_relay.specs.declared.cp.CpBody.TheVariants.{Transfer, Ack, Fail}
+
+-- the transaction's flag and value, and the body
+pub record CpValue : Type 0 where
+  pub flag : Bool
+  pub value : ℕ
+  pub body : CpBody
+
+-- user data have a length octet
+abbrev pub IsCpBody : CpBody → Type 0
+IsCpBody (Transfer octets) = (length octets ≤ 255) × IsOctets octets
+IsCpBody Ack = Unit {0}
+IsCpBody (Fail cause) = cause < 256
+
+-- what has a spelling
+pub record IsCpMessage (m : CpValue) : Type 0 where
+  pub value : m.value < 7
+  pub body : IsCpBody m.body

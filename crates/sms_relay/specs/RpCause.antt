@@ -1,0 +1,36 @@
+-- The cause of an RP-ERROR (3GPP TS 24.011, 8.2.5.4). Bit 7 of the cause octet is no part of the cause.
+use Rattle.std.specs.Prelude.{ℕ, ◌%◌, ◌<◌, ◌==◌, Bool, true, false, List, [], ◌∷◌, Option, Some, None, Result, Ok, Err, if◌then◌else◌}
+use Rattle.sms_field.specs.Field.{Field, ◌>>=◌, always, octet, octet_by}
+use Rattle.sms_relay.specs.declared.fault.RelayFault.{RelayFault}
+use Rattle.sms_relay.specs.declared.fault.RelayFault.TheVariants.{Short, BadCause}
+
+-- whether a diagnostic follows the cause: the length is 1 or 2
+abbrev pub has_diagnostic : ℕ → Result Bool RelayFault
+has_diagnostic count = if count == 1 then Ok false else (if count == 2 then Ok true else Err BadCause)
+
+unfoldable pub diagnostic : Bool → Field (Option ℕ) RelayFault
+diagnostic false = always None
+diagnostic true = do
+  octet ← octet Short
+  always (Some octet)
+
+-- a length, the cause, and a diagnostic where the length is 2
+unfoldable pub rp_cause : Field (ℕ × Option ℕ) RelayFault
+rp_cause = do
+  -- another length: BadCause
+  more ← octet_by Short has_diagnostic
+  cause ← octet Short
+  added ← diagnostic more
+  always (cause % 128, added)
+
+abbrev pub cause_octets : ℕ → Option ℕ → List ℕ
+cause_octets cause None = 1 ∷ cause ∷ []
+cause_octets cause (Some added) = 2 ∷ cause ∷ added ∷ []
+
+-- what has a spelling
+abbrev pub IsDiagnostic : Option ℕ → Type 0
+IsDiagnostic None = Unit {0}
+IsDiagnostic (Some octet) = octet < 256
+
+abbrev pub IsCause : ℕ → Option ℕ → Type 0
+IsCause cause added = (cause < 128) × IsDiagnostic added

@@ -1,0 +1,23 @@
+-- What an RP message is (3GPP TS 24.011, 7.3).
+use Rattle.std.specs.Prelude.{ℕ, ◌<◌}
+use Rattle.sms_field.specs.RelayAddressValue.{HasOptionalSpelling}
+use Rattle.sms_relay.specs.RpUserData.{IsUserData, IsOptionalUserData}
+use Rattle.sms_relay.specs.RpCause.{IsCause}
+use Rattle.sms_relay.specs.declared.side.Side.{Side}
+use Rattle.sms_relay.specs.declared.rp.RpBody.{RpBody}
+use Rattle.sms_relay.specs.declared.rp.RpBody.TheVariants.{Transfer, Ack, Fail}
+
+pub record RpValue : Type 0 where
+  pub side : Side
+  pub reference : ℕ
+  pub body : RpBody
+
+abbrev pub IsRpBody : RpBody → Type 0
+IsRpBody (Transfer address user) = HasOptionalSpelling address × IsUserData user
+IsRpBody (Ack user) = IsOptionalUserData user
+IsRpBody (Fail cause added user) = IsCause cause added × IsOptionalUserData user
+
+-- what has a spelling
+pub record IsRpMessage (m : RpValue) : Type 0 where
+  pub reference : m.reference < 256
+  pub body : IsRpBody m.body

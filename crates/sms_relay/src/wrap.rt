@@ -1,0 +1,114 @@
+//! Writing a packet: a unit in an RP message, and that in a CP message.
+
+ghost use Rattle.std.specs.Prelude.{◌≡◌, ◌<◌, ℕ, List, length, Option, Some, Err, IfOk, option_copied};
+ghost use Rattle.std.specs.Option.{ForSome};
+ghost use Rattle.sms_relay.specs.RpUserData.{IsUserData};
+ghost use Rattle.sms_relay.specs.Carried.{transfer, answer, CarriesRelay, Carries, SpellsOptional};
+ghost use Rattle.sms_relay.specs.declared.fault.WrapFault.TheVariants.{TooLong};
+
+use crate::cp::{CpBody, CpMessage};
+use crate::fault::WrapFault;
+use crate::rp::{RpBody, RpMessage};
+use crate::side::Side;
+use crate::user::USER_DATA_MAX;
+use sms_field::RpAddress;
+use sms_tpdu::{Octets, Unit};
+use std::alloc::{AllocError, Global};
+
+/// The octets of a unit, if they are not too many for user data.
+fn octets_of_unit<U: Unit>(alloc: Global, unit: &U) -> Result<Octets, WrapFault>
+    ensures spelled { IfOk result (λ octets. U.spells unit.now octets × IsUserData octets) }
+    ensures too_long { result ≡ Err TooLong → (octets : List ℕ) × U.spells unit.now octets × (233 < length octets) }
+{
+    let octets = unit.write(alloc)?;
+    if octets.len() > USER_DATA_MAX as usize {
+        return Err(WrapFault::TooLong);
+    }
+    Ok(Octets::new(octets))
+}
+
+/// The octets of a CP-DATA around an RP message.
+fn wrap_message(
+    alloc: Global,
+    flag: bool,
+    value: u8,
+    message: &RpMessage,
+) -> Result<Vec<u8>, AllocError>
+    requires { value < 7 }
+    ensures { IfOk result (λ packet. CarriesRelay flag value (Some message.now) packet.items) }
+{
+    let octets = message.write(alloc)?;
+    let packet = CpMessage {
+        flag,
+        value,
+        body: CpBody::Transfer(Octets::new(octets)),
+    };
+    packet.write(alloc)
+}
+
+/// The octets of a CP-DATA around an RP-DATA around a unit. The value is that of the transaction, 0 to 6.
+///
+/// `TooLong` comes only where the unit has more than 233 octets.
+pub fn wrap_transfer<U: Unit>(
+    alloc: Global,
+    flag: bool,
+    value: u8,
+    side: Side,
+    reference: u8,
+    address: Option<&RpAddress>,
+    unit: &U,
+) -> Result<Vec<u8>, WrapFault>
+    requires { value < 7 }
+    ensures carried { IfOk result (λ packet. (octets : List ℕ) × U.spells unit.now octets × Carries flag value (transfer side reference (option_copied address.entry) octets) packet.items) }
+    ensures too_long { result ≡ Err TooLong → (octets : List ℕ) × U.spells unit.now octets × (233 < length octets) }
+{
+    let user = octets_of_unit(alloc, unit)?;
+    let address = match address {
+        Some(address) => Some(address.copy(alloc)?),
+        None => None,
+    };
+    let message = RpMessage {
+        side,
+        reference,
+        body: RpBody::Transfer { address, user },
+    };
+    Ok(wrap_message(alloc, flag, value, &message)?)
+}
+
+/// The octets of a CP-DATA around the answer to a transfer, and a unit if it has one: an RP-ACK, or an RP-ERROR with
+/// a cause of 0 to 127. The value is that of the transaction, 0 to 6.
+///
+/// `TooLong` comes only where the unit has more than 233 octets.
+pub fn wrap_answer<U: Unit>(
+    alloc: Global,
+    flag: bool,
+    value: u8,
+    side: Side,
+    reference: u8,
+    cause: Option<u8>,
+    unit: Option<&U>,
+) -> Result<Vec<u8>, WrapFault>
+    requires value { value < 7 }
+    requires cause { ForSome cause (λ c. c < 128) }
+    ensures carried { IfOk result (λ packet. (octets : Option (List ℕ)) × SpellsOptional U.spells (option_copied unit.entry) octets × Carries flag value (answer side reference cause octets) packet.items) }
+    ensures too_long { result ≡ Err TooLong → (octets : List ℕ) × SpellsOptional U.spells (option_copied unit.entry) (Some octets) × (233 < length octets) }
+{
+    let user = match unit {
+        Some(unit) => Some(octets_of_unit(alloc, unit)?),
+        None => None,
+    };
+    let body = match cause {
+        Some(cause) => RpBody::Fail {
+            cause,
+            diagnostic: None,
+            user,
+        },
+        None => RpBody::Ack { user },
+    };
+    let message = RpMessage {
+        side,
+        reference,
+        body,
+    };
+    Ok(wrap_message(alloc, flag, value, &message)?)
+}
