@@ -7,7 +7,7 @@ use Rattle.std.specs.List.{flat_map, AllByRecursion}
 use Rattle.sms_join.specs.declared.units.Units.{Units}
 use Rattle.sms_join.specs.UnitsOfText.{IsText, Alphabet, Default, Wide, alphabet_of, units_of_character, units_of_text, units_in, numbers, alphabet_in, begins_pair}
 use Rattle.sms_join.specs.Cut.{IsParted}
-use Rattle.sms_join.proofs.CutLaws.{Stops, Step, Steps, Front, front_of, no_units, units-cons, units-parts, cut_of_steps}
+use Rattle.sms_join.proofs.CutLaws.{Stops, Steps, front_of, no_units, units-cons, units-parts, cut_of_steps}
 use Rattle.sms_join.proofs.GroupLaws.{IsGroup, Alone, Pair, short_groups, text_groups}
 
 -- where a piece at the front of these units ends
@@ -169,11 +169,11 @@ one_piece_more units room start end pieces part inside wide is same p =
           ));
     }
 
-alphabet-in : (a : Alphabet) (l : List ℕ) → alphabet_in (units_in a l) ≡ a
+pub alphabet-in : (a : Alphabet) (l : List ℕ) → alphabet_in (units_in a l) ≡ a
 alphabet-in Default l = refl
 alphabet-in Wide l = refl
 
-numbers-in : (a : Alphabet) (l : List ℕ) → numbers (units_in a l) ≡ l
+pub numbers-in : (a : Alphabet) (l : List ℕ) → numbers (units_in a l) ≡ l
 numbers-in Default l = refl
 numbers-in Wide l = refl
 

@@ -1,16 +1,15 @@
 -- The units of each character of a text: one unit, or a pair that an opening unit begins.
-use Rattle.std.proofs.Common.{◌≡◌, ℕ, ◌+◌, ◌-◌, ◌*◌, ◌/◌, ◌%◌, ◌<◌, ◌≤◌, ◌⊎◌, inl, inr, Bool, true, false, not, cond, eqb, List, [], ◌∷◌, ◌++◌, length, Option, Some, None, refl, sym, ap, subst, ◌∙◌, arith}
-use Rattle.std.specs.Prelude.{◌&&◌, ◌==◌, unwrap_or, nat_lt, nat_le}
+use Rattle.std.proofs.Common.{◌≡◌, ℕ, ◌+◌, ◌-◌, ◌/◌, ◌%◌, ◌<◌, ◌≤◌, ◌⊎◌, inl, inr, Bool, true, false, not, cond, List, [], ◌∷◌, ◌++◌, length, Option, Some, None, refl, sym, ap, subst, ◌∙◌, arith}
+use Rattle.std.specs.Prelude.{◌&&◌, ◌==◌, unwrap_or, nat_lt}
 use Rattle.std.proofs.lemmas.Bool.{ltb-true, ltb-false}
 use Rattle.std.proofs.lemmas.Bool.Decides.{nat_tests}
 use Rattle.std.proofs.Math.Utf8.{scalar_cases}
 use Rattle.std.specs.List.{flat_map, AllByRecursion}
 use Rattle.std.specs.Char.{IsScalar}
-use Rattle.std.specs.Char.Escape.{encode_utf16}
 use Rattle.std.specs.Char.Utf16.{is_high_surrogate}
 use Rattle.sms_text.specs.Tables.{main, extension, escape, code_of}
 use Rattle.sms_text.specs.SeptetsOfText.{code_or_escaped, septets_of_character, septets_of_text, joined}
-use Rattle.sms_join.specs.UnitsOfText.{begins_pair, Alphabet, Default, Wide, alphabet_by, alphabet_of, units_of_character}
+use Rattle.sms_join.specs.UnitsOfText.{begins_pair, Default, Wide, alphabet_by, alphabet_of, units_of_character}
 use Rattle.sms_join.proofs.CutLaws.{IsShort}
 
 -- one unit alone, or a pair

@@ -1,3 +1,17 @@
+pub mod SameKeys
+pub mod Sets
+pub mod Counts
+pub mod Pieces
+pub mod Same
+pub mod History
+pub mod Arrived
+pub mod Held
+pub mod Joining
+pub mod SetPieces
+pub mod Rising
+pub mod Moving
+pub mod OneSet
+pub mod Outcomes
 pub mod CutLaws
 pub mod GroupLaws
 pub mod OneCut
@@ -6,3 +20,6 @@ pub mod CutPlaces
 pub mod Numbering
 pub mod TextUnits
 pub mod SegmentTexts
+pub mod Sendable
+pub mod Places
+pub mod Offers

@@ -1,13 +1,13 @@
 -- Each text has a cut, and no other.
-use Rattle.std.proofs.Common.{◌≡◌, ℕ, ◌+◌, ◌<◌, ◌≤◌, ◌⊎◌, inl, inr, List, [], ◌∷◌, ◌++◌, length, map, Option, Some, None, refl, sym, ap, subst, ◌∙◌, arith}
+use Rattle.std.proofs.Common.{◌≡◌, ℕ, ◌<◌, ◌≤◌, ◌⊎◌, inl, inr, List, [], ◌∷◌, length, map, refl, sym, ap, ◌∙◌, arith}
 use Rattle.std.proofs.lemmas.Bool.{cases_lt}
-use Rattle.std.specs.List.{flat_map, AllByRecursion}
+use Rattle.std.specs.List.{AllByRecursion}
 use Rattle.sms_tpdu.specs.declared.concat.Width.{Width}
 use Rattle.sms_tpdu.specs.declared.concat.Width.TheVariants.{Eight, Sixteen}
 use Rattle.sms_join.specs.declared.units.Units.{Units}
 use Rattle.sms_join.specs.UnitsOfText.{begins_pair, IsText, Alphabet, Default, Wide, alphabet_of, units_of_character, units_of_text, units_in, numbers}
 use Rattle.sms_join.specs.Cut.{room_alone, room_beside, IsCutBy, IsParted, IsCut}
-use Rattle.sms_join.proofs.CutLaws.{IsShort, Steps, steps_of, cut_of_steps, same_steps, steps_exist}
+use Rattle.sms_join.proofs.CutLaws.{IsShort, steps_of, cut_of_steps, same_steps, steps_exist}
 use Rattle.sms_join.proofs.GroupLaws.{text_groups, short_groups}
 
 pub short_text : (text : List ℕ) → IsText text → AllByRecursion (IsShort (units_of_character (alphabet_of text))) text

@@ -1,13 +1,12 @@
 -- The pieces of a text are read as the text.
-use Rattle.std.proofs.Common.{◌≡◌, ℕ, ◌+◌, ◌-◌, ◌*◌, ◌/◌, ◌%◌, ◌<◌, ◌≤◌, ◌⊎◌, inl, inr, Bool, true, false, cond, List, [], ◌∷◌, ◌++◌, length, map, get_or, Option, Some, None, refl, sym, ap, subst, ◌∙◌, arith}
+use Rattle.std.proofs.Common.{◌≡◌, ℕ, ◌+◌, ◌-◌, ◌/◌, ◌%◌, ◌<◌, ◌≤◌, ◌⊎◌, inl, inr, Bool, true, false, cond, List, [], ◌∷◌, ◌++◌, length, map, get_or, Option, Some, None, refl, sym, ap, ◌∙◌, arith}
 use Rattle.std.specs.Prelude.{nat_lt, unwrap_or}
-use Rattle.std.proofs.lemmas.Bool.{cases_lt, ltb-true, ltb-false}
+use Rattle.std.proofs.lemmas.Bool.{cases_lt, ltb-false}
 use Rattle.std.proofs.lemmas.Bool.Decides.{nat_tests}
 use Rattle.std.proofs.lemmas.List.{append-nil}
 use Rattle.std.proofs.lemmas.Str.{utf16_chars-nil, utf16_chars_lone, utf16_chars_pair}
 use Rattle.std.proofs.Math.Utf8.{scalar_cases}
-use Rattle.std.specs.List.{concat, flat_map, list_all, AllByRecursion}
-use Rattle.std.specs.Char.{IsScalar}
+use Rattle.std.specs.List.{concat, flat_map, list_all}
 use Rattle.std.specs.Char.Escape.{encode_utf16}
 use Rattle.std.specs.Char.Utf16.{utf16_chars, utf16_lossy_chars, surrogate_pair_char, lone_unit_char}
 use Rattle.sms_text.specs.SeptetsOfText.{septets_of_text}
@@ -16,9 +15,9 @@ use Rattle.sms_text.proofs.TextAgain.{text_again}
 use Rattle.sms_tpdu.specs.declared.concat.Width.{Width}
 use Rattle.sms_join.specs.declared.units.Units.{Units}
 use Rattle.sms_join.specs.declared.units.Units.TheVariants.{Gsm, Ucs2}
-use Rattle.sms_join.specs.UnitsOfText.{IsText, Alphabet, Default, Wide, alphabet_by, alphabet_of, units_of_character, units_of_text, units_in, numbers}
-use Rattle.sms_join.specs.Cut.{room_alone, room_beside, IsCutBy, IsParted, IsCut}
-use Rattle.sms_join.specs.Reading.{is_gsm, is_ucs2, text_of_units, text_of_segments}
+use Rattle.sms_join.specs.UnitsOfText.{IsText, alphabet_by, alphabet_of, units_of_character, units_of_text, units_in, numbers}
+use Rattle.sms_join.specs.Cut.{room_alone, IsCut}
+use Rattle.sms_join.specs.Reading.{is_gsm, is_ucs2, text_of_segments}
 use Rattle.sms_join.proofs.CutLaws.{no_units}
 use Rattle.sms_join.proofs.GroupLaws.{septet_groups}
 use Rattle.sms_join.proofs.OneCut.{short_text}

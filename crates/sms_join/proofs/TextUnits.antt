@@ -1,8 +1,8 @@
 -- The units of a text as the alphabets give them.
-use Rattle.std.proofs.Common.{◌≡◌, ℕ, Bool, true, false, List, [], ◌∷◌, ◌++◌, Option, Some, None, Result, Ok, Err, refl, sym, ap, subst, ◌∙◌}
-use Rattle.std.specs.Prelude.{◌&&◌, IfOk}
+use Rattle.std.proofs.Common.{◌≡◌, ℕ, true, List, [], ◌∷◌, Some, None, Result, Ok, Err, sym, ap, ◌∙◌}
+use Rattle.std.specs.Prelude.{IfOk}
 use Rattle.std.specs.Global.{Vec}
-use Rattle.std.specs.List.{flat_map, AllByRecursion}
+use Rattle.std.specs.List.{flat_map}
 use Rattle.std.proofs.Math.Utf8.{scalar, scalars}
 use Rattle.sms_text.specs.SeptetsOfText.{septets_of_text}
 use Rattle.sms_text.specs.Utf16.{utf16_units}
@@ -10,7 +10,7 @@ use Rattle.sms_tpdu.specs.declared.concat.Width.{Width}
 use Rattle.sms_join.specs.declared.units.Units.{Units}
 use Rattle.sms_join.specs.declared.units.Units.TheVariants.{Gsm, Ucs2}
 use Rattle.sms_join.specs.declared.segment.Segment.{Segment}
-use Rattle.sms_join.specs.UnitsOfText.{IsText, Default, Wide, alphabet_by, units_of_character, units_of_text, units_in}
+use Rattle.sms_join.specs.UnitsOfText.{IsText, alphabet_by, units_of_character, units_of_text, units_in}
 use Rattle.sms_join.specs.Cut.{IsCut}
 use Rattle.sms_join.specs.Segments.{AreNumbered, AreSegments}
 use Rattle.sms_join.proofs.GroupLaws.{both, septet_groups}

@@ -1,12 +1,13 @@
 //! Texts cut into segments.
 
-ghost use Rattle.std.specs.Prelude.{◌≡◌, ◌<◌, ◌≤◌, ◌↔◌, ℕ, List, length, IfOk};
+ghost use Rattle.std.specs.Prelude.{◌≡◌, ◌<◌, ◌≤◌, ◌↔◌, ℕ, List, All, length, IfOk};
 ghost use Rattle.std.specs.Str.{chars};
 ghost use Rattle.sms_join.specs.declared.units.Units.{Units as TheUnits};
 ghost use Rattle.sms_join.specs.declared.cut.SplitFault.TheVariants.{TooManySegments, Memory};
 ghost use Rattle.sms_join.specs.UnitsOfText.{IsText, units_of_text};
 ghost use Rattle.sms_join.specs.Cut.{IsParted, IsCut, HasOneCut};
 ghost use Rattle.sms_join.specs.Segments.{AreNumbered, AreSegments};
+ghost use Rattle.sms_join.specs.SegmentUser.{IsSendable};
 
 use crate::segment::Segment;
 use crate::units::{Units, WideUnits};
@@ -111,6 +112,7 @@ fn numbered(alloc: Global, pieces: Vec<Units>) -> Result<Vec<Segment>, SplitFaul
 pub fn split(alloc: Global, text: &str, width: Width) -> Result<Vec<Segment>, SplitFault>
     ensures segments { IfOk result (λ segments. AreSegments width (chars text.now) segments.items) }
     ensures few { IfOk result (λ segments. length segments.items ≤ 255) }
+    ensures sendable { IfOk result (λ segments. All (IsSendable width) segments.items) }
     ensures too_many { result ≡ Err TooManySegments
         → (pieces : List TheUnits) × IsCut width (chars text.now) pieces × (255 < length pieces) }
 {

@@ -1,6 +1,5 @@
-use Rattle.std.proofs.Common.{◌++◌, ◌∷◌, [], ap, arith, refl, subst}
-use Rattle.sms_join.specs.UnitsOfText.{numbers}
-use Rattle.sms_join.proofs.CutPlaces.{PartedUpTo, one_piece_more, all_parted}
+use Rattle.std.proofs.Common.{arith}
+use Rattle.sms_join.proofs.CutPlaces.{one_piece_more, all_parted}
 use Rattle.sms_join.proofs.cut.parts.Goals as goal
 
 pub loop-start-preserved : goal.loop-start-preserved

@@ -1,0 +1,51 @@
+-- What is offered to a joiner: one piece of a message (3GPP TS 23.040, 9.2.3.24.1 and 9.2.3.24.8).
+use Rattle.std.specs.Prelude.{ℕ, ◌<◌, ◌≤◌, ◌^◌, List, Option, None, Some}
+use Rattle.sms_field.specs.AddressValue.{AddressValue}
+use Rattle.sms_tpdu.specs.declared.concat.Concat.{Concat}
+use Rattle.sms_tpdu.specs.declared.concat.Width.{Width}
+use Rattle.sms_tpdu.specs.declared.concat.Width.TheVariants.{Eight, Sixteen}
+use Rattle.sms_join.specs.declared.key.Key.{Key}
+use Rattle.sms_join.specs.declared.key.Key.TheVariants.{Single, Segmented}
+use Rattle.sms_join.specs.declared.units.Units.{Units}
+
+-- A piece has the key of its set, the number of pieces of the set, its own place among them from 1 on, its units, and
+-- the moment at which it was offered.
+pub record Piece : Type 0 where
+  pub key : Key
+  pub maximum : ℕ
+  pub sequence : ℕ
+  pub units : Units
+  pub moment : ℕ
+
+-- A message without a concatenation is known by origin and time stamp, a segment by origin, width, reference and maximum.
+abbrev pub key_of : AddressValue → List ℕ → Option Concat → Key
+key_of origin stamp None = Single origin stamp
+key_of origin stamp (Some c) = Segmented origin c.width c.reference c.maximum
+
+-- A message without a concatenation is piece 1 of 1.
+abbrev pub sequence_of : Option Concat → ℕ
+sequence_of None = 1
+sequence_of (Some c) = c.sequence
+
+abbrev pub size_of : Option Concat → ℕ
+size_of None = 1
+size_of (Some c) = c.maximum
+
+abbrev pub piece_of : ℕ → AddressValue → List ℕ → Option Concat → Units → Piece
+piece_of now origin stamp concat units =
+    record {
+      key = key_of origin stamp concat;
+      maximum = size_of concat;
+      sequence = sequence_of concat;
+      units = units;
+      moment = now;
+    }
+
+abbrev pub FitsWidth : Width → ℕ → Type 0
+FitsWidth Eight reference = reference < 2 ^ 8
+FitsWidth Sixteen reference = reference < 2 ^ 16
+
+-- A concatenation has a sequence from 1 to its maximum, and a reference of its width.
+abbrev pub IsPlace : Option Concat → Type 0
+IsPlace None = Unit {0}
+IsPlace (Some c) = (0 < c.sequence) × (c.sequence ≤ c.maximum) × FitsWidth c.width c.reference

@@ -1,0 +1,162 @@
+//! A joiner of segments.
+
+ghost use Rattle.std.specs.Prelude.{◌≡◌, ◌<◌, false, position, IfOk, OnOk, OnErr};
+ghost use Rattle.sms_join.specs.Key.{same_key};
+ghost use Rattle.sms_join.specs.Piece.{piece_of, key_of, sequence_of, size_of, IsPlace};
+ghost use Rattle.sms_join.specs.Sets.{is_open};
+ghost use Rattle.sms_join.specs.Joiner.{new_joiner, is_among, answer, offered};
+ghost use Rattle.sms_join.specs.JoinerValue.{SameLimits};
+ghost use Rattle.sms_join.specs.Same.{IsSame};
+ghost use Rattle.sms_join.specs.Offering.{Says};
+
+use crate::key::Key;
+use crate::last_keys::LastKeys;
+use crate::offer::{Offer, OfferFault};
+use crate::reading::read_units;
+use crate::set::OpenSet;
+use crate::units::Units;
+use sms_field::{Address, Stamp};
+use sms_tpdu::Concat;
+use std::alloc::{AllocError, Global};
+use std::marker::Model;
+
+/// Joins the segments of messages (3GPP TS 23.040, 9.2.3.24.1 and 9.2.3.24.8).
+///
+/// It keeps the segments of messages that are not whole, and remembers which messages finished last, so that none
+/// finishes twice.
+#[derive(Drop)]
+pub struct Joiner {
+    open_max: usize,
+    sets: Vec<OpenSet>,
+    finished: LastKeys,
+}
+
+impl Model for Joiner {
+    ghost use Rattle.sms_join.specs.JoinerValue.{JoinerValue};
+    ghost use Rattle.sms_join.specs.OpenSet.{all_pieces, AreOpen};
+
+    ghost Value = { JoinerValue };
+
+    ghost view = { λ j. record { open_max = j.open_max; remembered = j.finished.limit; holds = record { kept = all_pieces j.sets.items; finished = j.finished.keys } } };
+
+    ghost invariant = { λ j. AreOpen j.sets.items };
+}
+
+/// Which of the sets such a message or segment is of.
+fn find(sets: &[OpenSet], origin: &Address, stamp: Stamp, concat: Option<Concat>) -> Option<usize>
+    ensures { result ≡ position (λ set. same_key set.key (key_of origin.now stamp concat)) sets.now }
+{
+    sets.iter()
+        .position(|set| set.key().is_of(origin, stamp, concat))
+}
+
+/// The place of a piece in its set.
+fn sequence_of(concat: Option<Concat>) -> u8
+    ensures { result ≡ sequence_of concat }
+{
+    match concat {
+        None => 1,
+        Some(concat) => concat.sequence,
+    }
+}
+
+/// How many pieces the message has.
+fn size_of(concat: Option<Concat>) -> u8
+    ensures { result ≡ size_of concat }
+{
+    match concat {
+        None => 1,
+        Some(concat) => concat.maximum,
+    }
+}
+
+impl Joiner {
+    /// A joiner that holds nothing, for at most so many open sets and remembered keys. It makes the room for the keys.
+    #[tactic(auto, unfolding(crate::specs::Joiner::new_joiner))]
+    pub fn new(alloc: Global, open_max: usize, remembered: usize) -> Result<Joiner, AllocError>
+        requires sets { 0 < open_max }
+        requires keys { 0 < remembered }
+        ensures { IfOk result (λ joiner. joiner ≡ record { open_max = open_max; remembered = remembered; holds = new_joiner }) }
+    {
+        Ok(Joiner {
+            open_max,
+            sets: Vec::new(alloc),
+            finished: LastKeys::new(alloc, remembered)?,
+        })
+    }
+
+    /// Takes a message or a segment: the moment, whom it is from, its time stamp, its place among the segments of its
+    /// message, if it is one, and its units.
+    ///
+    /// A segment whose set is not whole is kept; the last one finishes the set with its text. A piece that is there
+    /// already, or whose set is among those that finished last, is a repeat.
+    pub fn offer(
+        &mut self,
+        alloc: Global,
+        now: u64,
+        origin: &Address,
+        stamp: Stamp,
+        concat: Option<Concat>,
+        units: Units,
+    ) -> Result<Offer, OfferFault>
+        requires { IsPlace concat }
+        ensures says { Says (answer self.old.open_max self.old.holds (piece_of now origin.now stamp concat units)) result }
+        ensures holds { OnOk result (IsSame self.new.holds (offered self.old.open_max self.old.remembered self.old.holds (piece_of now origin.now stamp concat units))) }
+        ensures limits { SameLimits self.new self.old }
+        ensures refused { OnErr result (self.new ≡ self.old) }
+    {
+        if self.finished.contains(origin, stamp, concat) {
+            return Ok(Offer::Repeat);
+        }
+        let Some(index) = find(&self.sets, origin, stamp, concat) else {
+            return self.begin(alloc, now, origin, stamp, concat, units);
+        };
+        let set = &mut self.sets[index];
+        match set.offer(alloc, sequence_of(concat), units)? {
+            Offer::Repeat => Ok(Offer::Repeat),
+            Offer::Kept => Ok(Offer::Kept),
+            Offer::Finished(text) => {
+                let set = self.sets.remove(index);
+                self.finished.push(set.into_key());
+                Ok(Offer::Finished(text))
+            }
+        }
+    }
+
+    /// Takes the first piece of a set.
+    fn begin(
+        &mut self,
+        alloc: Global,
+        now: u64,
+        origin: &Address,
+        stamp: Stamp,
+        concat: Option<Concat>,
+        units: Units,
+    ) -> Result<Offer, OfferFault>
+        requires place { IsPlace concat }
+        requires fresh { is_among self.old.holds.finished (key_of origin.now stamp concat) ≡ false }
+        requires closed { is_open self.old.holds.kept (key_of origin.now stamp concat) ≡ false }
+        ensures says { Says (answer self.old.open_max self.old.holds (piece_of now origin.now stamp concat units)) result }
+        ensures holds { OnOk result (IsSame self.new.holds (offered self.old.open_max self.old.remembered self.old.holds (piece_of now origin.now stamp concat units))) }
+        ensures limits { SameLimits self.new self.old }
+        ensures refused { OnErr result (self.new ≡ self.old) }
+    {
+        if size_of(concat) == 1 {
+            let key = Key::of(alloc, origin, stamp, concat)?;
+            let text = read_units(alloc, &[units])?;
+            self.finished.push(key);
+            return Ok(Offer::Finished(text));
+        }
+        if self.sets.len() >= self.open_max {
+            return Err(OfferFault::TooManyOpen);
+        }
+        self.sets.reserve(1)?;
+        let key = Key::of(alloc, origin, stamp, concat)?;
+        let set = OpenSet::new(alloc, key, now, sequence_of(concat), units)?;
+        self.sets.push_reserved(set);
+        Ok(Offer::Kept)
+    }
+}
+
+#[cfg(test)]
+mod tests;

@@ -1,0 +1,98 @@
+//! The identity of a set of segments.
+
+ghost use Rattle.std.specs.Prelude.{◌≡◌, IfOk};
+ghost use Rattle.sms_join.specs.Key.{same_address, same_key, maximum_of};
+ghost use Rattle.sms_join.specs.Piece.{key_of};
+
+use sms_field::{Address, Stamp};
+use sms_tpdu::{Concat, Width};
+use std::alloc::{AllocError, Global};
+
+/// What a set of segments is known by.
+#[derive(Drop)]
+pub enum Key {
+    /// A message in one piece: whom it is from, and its time stamp.
+    Single {
+        origin: Address,
+        stamp: Stamp,
+    },
+    /// A message in segments (3GPP TS 23.040, 9.2.3.24.1 and 9.2.3.24.8): whom it is from, and what its segments share.
+    Segmented {
+        origin: Address,
+        width: Width,
+        reference: u16,
+        maximum: u8,
+    },
+}
+
+/// Whether two addresses are the same.
+#[tactic(auto, unfolding(crate::specs::Key::same_address))]
+fn is_same_address(a: &Address, b: &Address) -> bool
+    ensures { result ≡ same_address a.now b.now }
+{
+    a == b
+}
+
+impl Key {
+    /// The key of a message, or of the message that a segment is of.
+    pub(crate) fn of(
+        alloc: Global,
+        origin: &Address,
+        stamp: Stamp,
+        concat: Option<Concat>,
+    ) -> Result<Key, AllocError>
+        ensures { IfOk result (λ key. key ≡ key_of origin.now stamp concat) }
+    {
+        let origin = origin.copy(alloc)?;
+        match concat {
+            None => Ok(Key::Single { origin, stamp }),
+            Some(concat) => Ok(Key::Segmented {
+                origin,
+                width: concat.width,
+                reference: concat.reference,
+                maximum: concat.maximum,
+            }),
+        }
+    }
+
+    /// Whether it is the key of such a message or segment.
+    #[tactic(auto, unfolding(crate::specs::Key::same_key, crate::specs::Key::same_width))]
+    pub(crate) fn is_of(&self, origin: &Address, stamp: Stamp, concat: Option<Concat>) -> bool
+        ensures { result ≡ same_key self.now (key_of origin.now stamp concat) }
+    {
+        match (self, concat) {
+            (
+                Key::Single {
+                    origin: own,
+                    stamp: from,
+                },
+                None,
+            ) => { is_same_address(own, origin) && *from == stamp }
+            (
+                Key::Segmented {
+                    origin: sender,
+                    width,
+                    reference,
+                    maximum,
+                },
+                Some(concat),
+            ) => {
+                is_same_address(sender, origin)
+                    && *width == concat.width
+                    && *reference == concat.reference
+                    && *maximum == concat.maximum
+            }
+            _ => false,
+        }
+    }
+
+    /// How many pieces the set has.
+    pub(crate) fn maximum(&self) -> u8
+        ensures { result ≡ maximum_of self.now }
+    {
+        match self {
+            Key::Single { .. } => 1,
+            Key::Segmented { maximum, .. } => *maximum,
+        }
+    }
+}

@@ -1,0 +1,69 @@
+//! The keys of the last sets that finished.
+
+ghost use Rattle.std.specs.Prelude.{◌≡◌, ◌<◌, [], ◌∷◌, take, IfOk};
+ghost use Rattle.std.specs.List.{list_any};
+ghost use Rattle.sms_join.specs.Key.{same_key};
+ghost use Rattle.sms_join.specs.Joiner.{is_among};
+ghost use Rattle.sms_join.specs.Piece.{key_of};
+
+use crate::key::Key;
+use sms_field::{Address, Stamp};
+use sms_tpdu::Concat;
+use std::alloc::{AllocError, Global};
+use std::marker::Model;
+
+/// As many keys as the limit at most. A further one takes the place of the oldest.
+#[derive(Drop)]
+pub(crate) struct LastKeys {
+    /// The newest is the last.
+    keys: Vec<Key>,
+    limit: usize,
+}
+
+impl Model for LastKeys {
+    ghost use Rattle.std.specs.Prelude.{◌<◌, ◌≤◌, length, reverse, vec_capacity};
+    ghost use Rattle.sms_join.specs.LastKeys.{LastKeysValue};
+
+    ghost Value = { LastKeysValue };
+
+    ghost view = { λ l. record { limit = l.limit; keys = reverse l.keys.items } };
+
+    ghost invariant = { λ l. (0 < l.limit) × (length l.keys.items ≤ l.limit) × (l.limit ≤ vec_capacity l.keys) };
+}
+
+/// Whether the key of such a message or segment is there.
+fn has_key(keys: &[Key], origin: &Address, stamp: Stamp, concat: Option<Concat>) -> bool
+    ensures { result ≡ list_any (λ key. same_key key (key_of origin.now stamp concat)) keys.now }
+{
+    keys.iter().any(|key| key.is_of(origin, stamp, concat))
+}
+
+impl LastKeys {
+    /// No keys, with room for the limit.
+    pub(crate) fn new(alloc: Global, limit: usize) -> Result<LastKeys, AllocError>
+        requires { 0 < limit }
+        ensures { IfOk result (λ keys. keys ≡ record { limit = limit; keys = [] }) }
+    {
+        Ok(LastKeys {
+            keys: Vec::with_capacity(alloc, limit)?,
+            limit,
+        })
+    }
+
+    /// Whether the key of such a message or segment is among them.
+    pub(crate) fn contains(&self, origin: &Address, stamp: Stamp, concat: Option<Concat>) -> bool
+        ensures { result ≡ is_among self.now.keys (key_of origin.now stamp concat) }
+    {
+        has_key(&self.keys, origin, stamp, concat)
+    }
+
+    /// Adds a key. It takes no memory.
+    pub(crate) fn push(&mut self, key: Key)
+        ensures { self.new ≡ record { limit = self.old.limit; keys = take self.old.limit (key ∷ self.old.keys) } }
+    {
+        if self.keys.len() == self.limit {
+            self.keys.remove(0);
+        }
+        self.keys.push_reserved(key);
+    }
+}

@@ -1,0 +1,34 @@
+//! What becomes of a piece that is offered.
+
+ghost use Rattle.std.specs.Prelude.{◌≡◌};
+ghost use Rattle.sms_join.specs.declared.offer.OfferFault.TheVariants.{Memory};
+
+use std::alloc::AllocError;
+
+/// The answer to a piece.
+#[derive(Drop)]
+pub enum Offer {
+    /// The piece is there already, or its set finished lately: nothing changes.
+    Repeat,
+    /// The piece is kept, and others are missing.
+    Kept,
+    /// With the piece its set is whole: the text.
+    Finished(String),
+}
+
+/// Why a piece is not taken. The joiner is then as it was.
+#[derive(Clone, Copy, Debug, PartialEq, Eq)]
+pub enum OfferFault {
+    /// The piece is of a new set, and as many sets are open as may be.
+    TooManyOpen,
+    /// Memory ran out.
+    Memory,
+}
+
+impl From<AllocError> for OfferFault {
+    ghost from_gives = { λ _ e. e ≡ Memory };
+
+    fn from(_e: AllocError) -> OfferFault {
+        OfferFault::Memory
+    }
+}
