@@ -6,7 +6,9 @@ use crate::encode::encode;
 use crate::fault::Fault;
 use crate::lines::Lines;
 use crate::printed::Hexadecimal;
-use crate::show::{show_centre, show_deliver, show_submit};
+use crate::relay::{show_cp, show_rp};
+use crate::show::{show_centre, show_unit};
+use crate::split::put_segments;
 use crate::words::{Kind, Request, Shown, parse_words};
 use clap::error::ErrorKind;
 use hex::FromHexError;
@@ -33,8 +35,9 @@ fn show<W: Write>(alloc: Global, shown: Shown<'_>, output: &mut W) -> Result<(),
         unit = show_centre(alloc, unit, &mut lines)?;
     }
     match shown.kind {
-        Kind::Deliver => show_deliver(alloc, unit, &mut lines),
-        Kind::Submit => show_submit(alloc, unit, &mut lines),
+        Kind::Unit(kind) => show_unit(alloc, kind, unit, &mut lines),
+        Kind::Rp => show_rp(alloc, unit, &mut lines),
+        Kind::Cp => show_cp(alloc, unit, &mut lines),
     }
 }
 
@@ -46,6 +49,7 @@ fn answer<W: Write>(alloc: Global, request: Request<'_>, output: &mut W) -> Resu
             writeln!(output, "{}", Hexadecimal(&octets))?;
             Ok(())
         }
+        Request::Split(long) => put_segments(alloc, &long, output),
     }
 }
 

@@ -8,7 +8,7 @@ ghost use Rattle.sms_tpdu.specs.UserData.{FitsAlphabet};
 ghost use Rattle.sms_tpdu.specs.Validity.{IsInRange};
 
 use crate::fault::Fault;
-use crate::words::{Draft, Kind};
+use crate::words::{Draft, DraftKind};
 use hex::FromHex;
 use sms_field::{Address, AddressFault, Stamp, Validity};
 use sms_text::{gsm_of, octets_of_units, ucs2_of};
@@ -147,9 +147,9 @@ fn encode_submit(alloc: Global, draft: &Draft<'_>) -> Result<Vec<u8>, Fault> {
 pub fn encode(alloc: Global, draft: &Draft<'_>) -> Result<Vec<u8>, Fault> {
     let of_submit = draft.reference.is_some() || draft.reject || draft.validity.is_some();
     match draft.kind {
-        Kind::Deliver if of_submit => Err(Fault::WrongOption),
-        Kind::Submit if draft.stamp.is_some() => Err(Fault::WrongOption),
-        Kind::Deliver => encode_deliver(alloc, draft),
-        Kind::Submit => encode_submit(alloc, draft),
+        DraftKind::Deliver if of_submit => Err(Fault::WrongOption),
+        DraftKind::Submit if draft.stamp.is_some() => Err(Fault::WrongOption),
+        DraftKind::Deliver => encode_deliver(alloc, draft),
+        DraftKind::Submit => encode_submit(alloc, draft),
     }
 }

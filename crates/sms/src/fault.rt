@@ -23,6 +23,14 @@ pub enum Reason {
     HeaderTooLong,
     #[error("bad address")]
     BadAddress,
+    #[error("not sms")]
+    NotSms,
+    #[error("bad transaction")]
+    BadTransaction,
+    #[error("unknown type")]
+    UnknownType,
+    #[error("bad cause")]
+    BadCause,
 }
 
 /// Why a command gives no answer. Its text is the line that the program prints.
@@ -43,6 +51,9 @@ pub enum Fault {
     /// A text needs more than one piece.
     #[error("text too long")]
     TextTooLong,
+    /// A text needs more segments than can be numbered.
+    #[error("too many segments")]
+    TooManySegments,
     /// The output takes no more.
     #[error("write failed")]
     Write,
@@ -58,7 +69,8 @@ impl Fault {
         ensures { result ≤ 3 }
     {
         match self {
-            Fault::Unit { .. } | Fault::BadHex | Fault::BadAddress | Fault::TextTooLong => 1,
+            Fault::Unit { .. } | Fault::BadHex | Fault::BadAddress => 1,
+            Fault::TextTooLong | Fault::TooManySegments => 1,
             Fault::WrongOption => 2,
             Fault::Write | Fault::Memory => 3,
         }

@@ -20,4 +20,12 @@ impl<'a, W: Write> Lines<'a, W> {
         writeln!(self.output, "{name}: {value}")?;
         Ok(())
     }
+
+    /// Writes the line that counts the octets behind a unit, where there are any.
+    pub fn put_rest(&mut self, rest: &[u8]) -> Result<(), Fault> {
+        if rest.is_empty() {
+            return Ok(());
+        }
+        self.put("rest", rest.len())
+    }
 }

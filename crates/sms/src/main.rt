@@ -6,7 +6,10 @@ mod encode;
 mod fault;
 mod lines;
 mod printed;
+mod relay;
+mod reports;
 mod show;
+mod split;
 mod words;
 
 use std::env;

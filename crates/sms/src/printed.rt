@@ -138,3 +138,17 @@ impl fmt::Display for ConcatText {
         write!(f, "{} {}", concat.maximum, concat.sequence)
     }
 }
+
+/// A transaction of the connection: 1 where the message goes to the side that opened it, else 0, and its value.
+#[derive(Clone, Copy, Debug)]
+pub struct TransactionText {
+    pub flag: bool,
+    pub value: u8,
+}
+
+impl fmt::Display for TransactionText {
+    fn fmt<W: fmt::Write>(&self, f: &mut fmt::Formatter<W>) -> fmt::Result {
+        let flag = if self.flag { 1 } else { 0 };
+        write!(f, "{flag} {}", self.value)
+    }
+}

@@ -5,6 +5,8 @@ use crate::lines::Lines;
 use crate::printed::{
     Answer, ConcatText, Escaped, Hexadecimal, Numbering, StampText, ValidityText,
 };
+use crate::reports::{show_deliver_ack, show_deliver_error, show_submit_ack, show_submit_error};
+use crate::words::UnitKind;
 use sms_field::{Address, Alphabet, FieldFault, RpAddress, alphabet_of};
 use sms_text::{text_of_gsm, text_of_ucs2, units_of_octets};
 use sms_tpdu::{Body, Deliver, Header, Refusal, Submit, Unit, UnitFault, UserData};
@@ -94,14 +96,6 @@ fn put_user<W: Write>(
     put_body(alloc, lines, alphabet_of(dcs), &user.body)
 }
 
-/// The line that counts the octets behind a unit, where there are any.
-fn put_rest<W: Write>(lines: &mut Lines<W>, rest: &[u8]) -> Result<(), Fault> {
-    if rest.is_empty() {
-        return Ok(());
-    }
-    lines.put("rest", rest.len())
-}
-
 /// The lines of an address, by the name of its party.
 fn put_party<W: Write>(
     alloc: Global,
@@ -128,6 +122,22 @@ fn centre_fault(refusal: Refusal<FieldFault>) -> Fault {
     }
 }
 
+/// The line of a service centre's address, by a name.
+pub fn put_centre<W: Write>(
+    alloc: Global,
+    lines: &mut Lines<W>,
+    name: &str,
+    centre: &Option<RpAddress>,
+) -> Result<(), Fault> {
+    match centre {
+        Some(address) => {
+            let text = address.to_text(alloc)?;
+            lines.put(name, Escaped(&text))
+        }
+        None => lines.put(name, "none"),
+    }
+}
+
 /// Writes the address of a service centre, and gives the octets behind it.
 pub fn show_centre<'a, W: Write>(
     alloc: Global,
@@ -135,22 +145,12 @@ pub fn show_centre<'a, W: Write>(
     lines: &mut Lines<W>,
 ) -> Result<&'a [u8], Fault> {
     let (centre, used) = RpAddress::read(alloc, octets).map_err(centre_fault)?;
-    match &centre {
-        Some(address) => {
-            let text = address.to_text(alloc)?;
-            lines.put("centre", Escaped(&text))?;
-        }
-        None => lines.put("centre", "none")?,
-    }
+    put_centre(alloc, lines, "centre", &centre)?;
     Ok(&octets[used..])
 }
 
 /// Writes the fields of an SMS-DELIVER.
-pub fn show_deliver<W: Write>(
-    alloc: Global,
-    octets: &[u8],
-    lines: &mut Lines<W>,
-) -> Result<(), Fault> {
+fn show_deliver<W: Write>(alloc: Global, octets: &[u8], lines: &mut Lines<W>) -> Result<(), Fault> {
     let (deliver, used) = Deliver::read(alloc, octets)?;
     lines.put("type", "deliver")?;
     lines.put("more", Answer(deliver.more))?;
@@ -162,15 +162,11 @@ pub fn show_deliver<W: Write>(
     lines.put("dcs", Hexadecimal(&[deliver.dcs]))?;
     lines.put("stamp", StampText(deliver.stamp))?;
     put_user(alloc, lines, deliver.dcs, &deliver.user)?;
-    put_rest(lines, &octets[used..])
+    lines.put_rest(&octets[used..])
 }
 
 /// Writes the fields of an SMS-SUBMIT.
-pub fn show_submit<W: Write>(
-    alloc: Global,
-    octets: &[u8],
-    lines: &mut Lines<W>,
-) -> Result<(), Fault> {
+fn show_submit<W: Write>(alloc: Global, octets: &[u8], lines: &mut Lines<W>) -> Result<(), Fault> {
     let (submit, used) = Submit::read(alloc, octets)?;
     lines.put("type", "submit")?;
     lines.put("reject", Answer(submit.reject))?;
@@ -182,5 +178,22 @@ pub fn show_submit<W: Write>(
     lines.put("dcs", Hexadecimal(&[submit.dcs]))?;
     lines.put("validity", ValidityText(submit.validity))?;
     put_user(alloc, lines, submit.dcs, &submit.user)?;
-    put_rest(lines, &octets[used..])
+    lines.put_rest(&octets[used..])
+}
+
+/// Writes the fields of a unit.
+pub fn show_unit<W: Write>(
+    alloc: Global,
+    kind: UnitKind,
+    octets: &[u8],
+    lines: &mut Lines<W>,
+) -> Result<(), Fault> {
+    match kind {
+        UnitKind::Deliver => show_deliver(alloc, octets, lines),
+        UnitKind::Submit => show_submit(alloc, octets, lines),
+        UnitKind::SubmitAck => show_submit_ack(alloc, octets, lines),
+        UnitKind::SubmitError => show_submit_error(alloc, octets, lines),
+        UnitKind::DeliverAck => show_deliver_ack(alloc, octets, lines),
+        UnitKind::DeliverError => show_deliver_error(alloc, octets, lines),
+    }
 }

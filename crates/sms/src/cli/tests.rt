@@ -1,4 +1,7 @@
+mod relays;
+mod reports;
 mod rows;
+mod splits;
 
 use super::*;
 use crate::printed::Escaped;

@@ -608,27 +608,42 @@ pub static NO_SUBMISSIONS: [(&str, &str); 21] = [
 ];
 
 /// Words that `clap` answers, the status, and what its text has.
-pub static EXPLAINED: [(&[&str], u8, &str); 27] = [
+pub static EXPLAINED: [(&[&str], u8, &str); 34] = [
     (&["sms"], 2, "requires a subcommand"),
     (&["sms", "help"], 0, "Usage: sms"),
     (&["sms", "--help"], 0, "encode  Prints the octets"),
     (
         &["sms", "show", "-h"],
         0,
-        "[possible values: deliver, submit]",
+        "[possible values: deliver, submit, submit-ack, submit-error, deliver-ack, deliver-error, rp, cp]",
     ),
     (&["sms", "encode", "--help"], 0, "--stamp <HEX>"),
     (&["sms", "--version"], 2, "'--version'"),
     (&["sms", "read", "deliver", "00"], 2, "'read'"),
-    (&["sms", "split", "a"], 2, "'split'"),
+    (&["sms", "split", "--help"], 0, "--ref <N>"),
+    (&["sms", "split"], 2, "<TEXT>"),
+    (&["sms", "split", "a", "b"], 2, "'b'"),
+    (&["sms", "split", "-5"], 2, "'-5'"),
+    (
+        &["sms", "split", "a", "--ref", "256"],
+        2,
+        "256 is not in 0..=255",
+    ),
+    (&["sms", "split", "a", "--ref", "x"], 2, "'x'"),
+    (
+        &["sms", "split", "a", "--ref", "1", "--ref", "1"],
+        2,
+        "cannot be used multiple times",
+    ),
+    (&["sms", "split", "a", "--mr", "1"], 2, "'--mr'"),
     (&["sms", "play"], 2, "'play'"),
     (&["sms", "show"], 2, "<KIND> <HEX>"),
     (&["sms", "show", "deliver"], 2, "<HEX>"),
-    (&["sms", "show", "rp", "00"], 2, "'rp'"),
+    (&["sms", "show", "rl", "00"], 2, "'rl'"),
     (
         &["sms", "show", "", "00"],
         2,
-        "[possible values: deliver, submit]",
+        "[possible values: deliver, submit, submit-ack, submit-error, deliver-ack, deliver-error, rp, cp]",
     ),
     (&["sms", "show", "deliver", "00", "00"], 2, "'00'"),
     (&["sms", "show", "deliver", "-00"], 2, "'-0'"),

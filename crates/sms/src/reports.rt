@@ -1,0 +1,84 @@
+//! The fields of a report, one a line.
+
+use crate::fault::Fault;
+use crate::lines::Lines;
+use crate::printed::{Answer, Hexadecimal, StampText};
+use sms_tpdu::{DeliverAck, DeliverError, ReportData, SubmitAck, SubmitError, Unit};
+use std::alloc::Global;
+use std::io::Write;
+
+/// The lines of what a report need not have.
+fn put_parts<W: Write>(
+    lines: &mut Lines<W>,
+    pid: Option<u8>,
+    dcs: Option<u8>,
+    user: &Option<ReportData>,
+) -> Result<(), Fault> {
+    if let Some(pid) = pid {
+        lines.put("pid", Hexadecimal(&[pid]))?;
+    }
+    if let Some(dcs) = dcs {
+        lines.put("dcs", Hexadecimal(&[dcs]))?;
+    }
+    if let Some(user) = user {
+        lines.put("length", user.length)?;
+        lines.put("user", Hexadecimal(user.octets.as_slice()))?;
+    }
+    Ok(())
+}
+
+/// Writes the fields of an SMS-SUBMIT-REPORT under an acknowledgement.
+pub fn show_submit_ack<W: Write>(
+    alloc: Global,
+    octets: &[u8],
+    lines: &mut Lines<W>,
+) -> Result<(), Fault> {
+    let (report, used) = SubmitAck::read(alloc, octets)?;
+    lines.put("type", "submit-ack")?;
+    lines.put("header", Answer(report.has_header))?;
+    lines.put("stamp", StampText(report.stamp))?;
+    put_parts(lines, report.pid, report.dcs, &report.user)?;
+    lines.put_rest(&octets[used..])
+}
+
+/// Writes the fields of an SMS-SUBMIT-REPORT under an error.
+pub fn show_submit_error<W: Write>(
+    alloc: Global,
+    octets: &[u8],
+    lines: &mut Lines<W>,
+) -> Result<(), Fault> {
+    let (report, used) = SubmitError::read(alloc, octets)?;
+    lines.put("type", "submit-error")?;
+    lines.put("header", Answer(report.has_header))?;
+    lines.put("cause", Hexadecimal(&[report.cause]))?;
+    lines.put("stamp", StampText(report.stamp))?;
+    put_parts(lines, report.pid, report.dcs, &report.user)?;
+    lines.put_rest(&octets[used..])
+}
+
+/// Writes the fields of an SMS-DELIVER-REPORT under an acknowledgement.
+pub fn show_deliver_ack<W: Write>(
+    alloc: Global,
+    octets: &[u8],
+    lines: &mut Lines<W>,
+) -> Result<(), Fault> {
+    let (report, used) = DeliverAck::read(alloc, octets)?;
+    lines.put("type", "deliver-ack")?;
+    lines.put("header", Answer(report.has_header))?;
+    put_parts(lines, report.pid, report.dcs, &report.user)?;
+    lines.put_rest(&octets[used..])
+}
+
+/// Writes the fields of an SMS-DELIVER-REPORT under an error.
+pub fn show_deliver_error<W: Write>(
+    alloc: Global,
+    octets: &[u8],
+    lines: &mut Lines<W>,
+) -> Result<(), Fault> {
+    let (report, used) = DeliverError::read(alloc, octets)?;
+    lines.put("type", "deliver-error")?;
+    lines.put("header", Answer(report.has_header))?;
+    lines.put("cause", Hexadecimal(&[report.cause]))?;
+    put_parts(lines, report.pid, report.dcs, &report.user)?;
+    lines.put_rest(&octets[used..])
+}
