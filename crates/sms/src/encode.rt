@@ -5,7 +5,7 @@ ghost use Rattle.sms_text.specs.Bits.{AreSeptets};
 ghost use Rattle.sms_text.specs.Octets.{IsOctets};
 ghost use Rattle.sms_field.specs.Coding.{alphabet_at};
 ghost use Rattle.sms_tpdu.specs.UserData.{FitsAlphabet};
-ghost use Rattle.sms_tpdu.specs.Validity.{IsInRange};
+ghost use Rattle.sms_tpdu.specs.Submit.ValidityPeriod.{IsInRange};
 
 use crate::fault::Fault;
 use crate::words::{Draft, DraftKind};
@@ -28,7 +28,7 @@ impl From<AddressFault> for Fault {
     fn from(fault: AddressFault) -> Fault {
         match fault {
             AddressFault::Memory => Fault::Memory,
-            AddressFault::BadDigit | AddressFault::TooLong => Fault::BadAddress,
+            AddressFault::BadDigit | AddressFault::AddressTooLong => Fault::BadAddress,
         }
     }
 }

@@ -2,46 +2,27 @@
 
 ghost use Rattle.std.specs.Prelude.{◌≤◌};
 
+use sms_relay::RelayFault;
+use sms_tpdu::UnitFault;
 use std::alloc::AllocError;
 use std::io;
 use thiserror::Error;
 
-/// What is wrong with an octet of a unit.
-#[derive(Clone, Copy, Debug, PartialEq, Eq, Error)]
-pub enum Reason {
-    #[error("short")]
-    Short,
-    #[error("wrong type")]
-    WrongType,
-    #[error("address too long")]
-    AddressTooLong,
-    #[error("bad digit")]
-    BadDigit,
-    #[error("data too long")]
-    DataTooLong,
-    #[error("header too long")]
-    HeaderTooLong,
-    #[error("bad address")]
-    BadAddress,
-    #[error("not sms")]
-    NotSms,
-    #[error("bad transaction")]
-    BadTransaction,
-    #[error("unknown type")]
-    UnknownType,
-    #[error("bad cause")]
-    BadCause,
-}
-
 /// Why a command gives no answer. Its text is the line that the program prints.
 #[derive(Debug, Drop, Error)]
 pub enum Fault {
-    /// The octet at a place of a unit cannot stand there.
-    #[error("at {place}: {reason}")]
-    Unit { place: usize, reason: Reason },
+    /// An octet of a unit cannot stand where it does.
+    #[error("{0}")]
+    Unit(sms_field::Fault<UnitFault>),
+    /// An octet of a relay or connection message, or of a service centre's address, cannot stand where it does.
+    #[error("{0}")]
+    Message(sms_field::Fault<RelayFault>),
     /// An option was given that the kind of unit does not have.
     #[error("option not for this kind")]
     WrongOption,
+    /// A concatenation reference does not fit its width.
+    #[error("reference too large")]
+    ReferenceTooLarge,
     /// A word is no hexadecimal text of octets, or not of as many as there must be.
     #[error("bad hex")]
     BadHex,
@@ -69,9 +50,9 @@ impl Fault {
         ensures { result ≤ 3 }
     {
         match self {
-            Fault::Unit { .. } | Fault::BadHex | Fault::BadAddress => 1,
+            Fault::Unit(_) | Fault::Message(_) | Fault::BadHex | Fault::BadAddress => 1,
             Fault::TextTooLong | Fault::TooManySegments => 1,
-            Fault::WrongOption => 2,
+            Fault::WrongOption | Fault::ReferenceTooLarge => 2,
             Fault::Write | Fault::Memory => 3,
         }
     }
@@ -89,5 +70,17 @@ impl From<io::Error> for Fault {
             io::ErrorKind::OutOfMemory => Fault::Memory,
             _ => Fault::Write,
         }
+    }
+}
+
+impl From<sms_field::Fault<UnitFault>> for Fault {
+    fn from(fault: sms_field::Fault<UnitFault>) -> Fault {
+        Fault::Unit(fault)
+    }
+}
+
+impl From<sms_field::Fault<RelayFault>> for Fault {
+    fn from(fault: sms_field::Fault<RelayFault>) -> Fault {
+        Fault::Message(fault)
     }
 }

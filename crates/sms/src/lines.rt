@@ -21,7 +21,7 @@ impl<'a, W: Write> Lines<'a, W> {
         Ok(())
     }
 
-    /// Writes the line that counts the octets behind a unit, where there are any.
+    /// Writes the line that counts the octets after a unit, where there are any.
     pub fn put_rest(&mut self, rest: &[u8]) -> Result<(), Fault> {
         if rest.is_empty() {
             return Ok(());

@@ -32,10 +32,22 @@ fn run(rt: &HostRuntime) -> io::Result<u8> {
     Ok(status)
 }
 
+/// The line and the status of what fails outside the command.
+fn failure(kind: ErrorKind) -> (&'static str, u8) {
+    match kind {
+        ErrorKind::InvalidData => ("words are not utf-8", WRONG_WORDS),
+        ErrorKind::OutOfMemory => ("out of memory", NO_DEVICE),
+        _ => ("write failed", NO_DEVICE),
+    }
+}
+
 fn main(rt: HostRuntime) -> ExitCode {
     match run(&rt) {
         Ok(status) => ExitCode::from(status),
-        Err(error) if error.kind() == ErrorKind::InvalidData => ExitCode::from(WRONG_WORDS),
-        Err(_) => ExitCode::from(NO_DEVICE),
+        Err(error) => {
+            let (line, status) = failure(error.kind());
+            let _ = writeln!(io::writer(&rt), "{line}");
+            ExitCode::from(status)
+        }
     }
 }

@@ -3,8 +3,7 @@
 use crate::fault::Fault;
 use crate::lines::Lines;
 use crate::printed::{Answer, Hexadecimal, StampText};
-use sms_tpdu::{DeliverAck, DeliverError, ReportData, SubmitAck, SubmitError, Unit};
-use std::alloc::Global;
+use sms_tpdu::{DeliverAckView, DeliverErrorView, ReportDataView, SubmitAckView, SubmitErrorView};
 use std::io::Write;
 
 /// The lines of what a report need not have.
@@ -12,7 +11,7 @@ fn put_parts<W: Write>(
     lines: &mut Lines<W>,
     pid: Option<u8>,
     dcs: Option<u8>,
-    user: &Option<ReportData>,
+    user: &Option<ReportDataView<'_>>,
 ) -> Result<(), Fault> {
     if let Some(pid) = pid {
         lines.put("pid", Hexadecimal(&[pid]))?;
@@ -22,18 +21,14 @@ fn put_parts<W: Write>(
     }
     if let Some(user) = user {
         lines.put("length", user.length)?;
-        lines.put("user", Hexadecimal(user.octets.as_slice()))?;
+        lines.put("user", Hexadecimal(user.octets))?;
     }
     Ok(())
 }
 
 /// Writes the fields of an SMS-SUBMIT-REPORT under an acknowledgement.
-pub fn show_submit_ack<W: Write>(
-    alloc: Global,
-    octets: &[u8],
-    lines: &mut Lines<W>,
-) -> Result<(), Fault> {
-    let (report, used) = SubmitAck::read(alloc, octets)?;
+pub fn show_submit_ack<W: Write>(octets: &[u8], lines: &mut Lines<W>) -> Result<(), Fault> {
+    let (report, used) = SubmitAckView::read(octets)?;
     lines.put("type", "submit-ack")?;
     lines.put("header", Answer(report.has_header))?;
     lines.put("stamp", StampText(report.stamp))?;
@@ -42,12 +37,8 @@ pub fn show_submit_ack<W: Write>(
 }
 
 /// Writes the fields of an SMS-SUBMIT-REPORT under an error.
-pub fn show_submit_error<W: Write>(
-    alloc: Global,
-    octets: &[u8],
-    lines: &mut Lines<W>,
-) -> Result<(), Fault> {
-    let (report, used) = SubmitError::read(alloc, octets)?;
+pub fn show_submit_error<W: Write>(octets: &[u8], lines: &mut Lines<W>) -> Result<(), Fault> {
+    let (report, used) = SubmitErrorView::read(octets)?;
     lines.put("type", "submit-error")?;
     lines.put("header", Answer(report.has_header))?;
     lines.put("cause", Hexadecimal(&[report.cause]))?;
@@ -57,12 +48,8 @@ pub fn show_submit_error<W: Write>(
 }
 
 /// Writes the fields of an SMS-DELIVER-REPORT under an acknowledgement.
-pub fn show_deliver_ack<W: Write>(
-    alloc: Global,
-    octets: &[u8],
-    lines: &mut Lines<W>,
-) -> Result<(), Fault> {
-    let (report, used) = DeliverAck::read(alloc, octets)?;
+pub fn show_deliver_ack<W: Write>(octets: &[u8], lines: &mut Lines<W>) -> Result<(), Fault> {
+    let (report, used) = DeliverAckView::read(octets)?;
     lines.put("type", "deliver-ack")?;
     lines.put("header", Answer(report.has_header))?;
     put_parts(lines, report.pid, report.dcs, &report.user)?;
@@ -70,12 +57,8 @@ pub fn show_deliver_ack<W: Write>(
 }
 
 /// Writes the fields of an SMS-DELIVER-REPORT under an error.
-pub fn show_deliver_error<W: Write>(
-    alloc: Global,
-    octets: &[u8],
-    lines: &mut Lines<W>,
-) -> Result<(), Fault> {
-    let (report, used) = DeliverError::read(alloc, octets)?;
+pub fn show_deliver_error<W: Write>(octets: &[u8], lines: &mut Lines<W>) -> Result<(), Fault> {
+    let (report, used) = DeliverErrorView::read(octets)?;
     lines.put("type", "deliver-error")?;
     lines.put("header", Answer(report.has_header))?;
     lines.put("cause", Hexadecimal(&[report.cause]))?;

@@ -1,54 +1,17 @@
 //! The fields of a unit, one a line.
 
-use crate::fault::{Fault, Reason};
+use crate::fault::Fault;
 use crate::lines::Lines;
 use crate::printed::{
     Answer, ConcatText, Escaped, Hexadecimal, Numbering, StampText, ValidityText,
 };
 use crate::reports::{show_deliver_ack, show_deliver_error, show_submit_ack, show_submit_error};
 use crate::words::UnitKind;
-use sms_field::{Address, Alphabet, FieldFault, RpAddress, alphabet_of};
+use sms_field::{AddressView, Alphabet, FieldFault, RpAddressView, alphabet_of};
 use sms_text::{text_of_gsm, text_of_ucs2, units_of_octets};
-use sms_tpdu::{Body, Deliver, Header, Refusal, Submit, Unit, UnitFault, UserData};
+use sms_tpdu::{Body, DeliverView, Header, SubmitView, UserDataView};
 use std::alloc::Global;
 use std::io::Write;
-
-impl From<UnitFault> for Reason {
-    fn from(why: UnitFault) -> Reason {
-        match why {
-            UnitFault::Short => Reason::Short,
-            UnitFault::WrongType => Reason::WrongType,
-            UnitFault::Address(FieldFault::AddressTooLong) => Reason::AddressTooLong,
-            UnitFault::Address(_) => Reason::BadDigit,
-            UnitFault::DataTooLong => Reason::DataTooLong,
-            UnitFault::HeaderTooLong => Reason::HeaderTooLong,
-        }
-    }
-}
-
-impl From<Refusal<UnitFault>> for Fault {
-    fn from(refusal: Refusal<UnitFault>) -> Fault {
-        match refusal {
-            Refusal::Memory => Fault::Memory,
-            Refusal::At { place, why } => Fault::Unit {
-                place,
-                reason: why.into(),
-            },
-        }
-    }
-}
-
-/// The user data length: septets of the text's alphabet, or octets, those of the header with it.
-fn length_of(user: &UserData) -> usize {
-    let header = match &user.header {
-        Some(header) => header.as_slice().len() + 1,
-        None => 0,
-    };
-    match &user.body {
-        Body::Septets(septets) => (8 * header).div_ceil(7) + septets.as_slice().len(),
-        Body::Octets(octets) => header + octets.as_slice().len(),
-    }
-}
 
 /// The lines of a header: its octets, and the concatenation that it tells.
 fn put_header<W: Write>(lines: &mut Lines<W>, header: &Header) -> Result<(), Fault> {
@@ -87,9 +50,10 @@ fn put_user<W: Write>(
     alloc: Global,
     lines: &mut Lines<W>,
     dcs: u8,
-    user: &UserData,
+    view: &UserDataView<'_>,
 ) -> Result<(), Fault> {
-    lines.put("length", length_of(user))?;
+    let user = view.to_value(alloc)?;
+    lines.put("length", view.length())?;
     if let Some(header) = &user.header {
         put_header(lines, header)?;
     }
@@ -101,25 +65,20 @@ fn put_party<W: Write>(
     alloc: Global,
     lines: &mut Lines<W>,
     name: &str,
-    address: &Address,
+    view: &AddressView<'_>,
 ) -> Result<(), Fault> {
+    let address = view.to_value(alloc)?;
     let text = address.to_text(alloc)?;
     lines.put(name, Escaped(&text))?;
-    lines.put("number", Numbering::of(address))
+    lines.put("number", Numbering::of(&address))
 }
 
 /// Why octets do not begin with the address of a service centre.
-fn centre_fault(refusal: Refusal<FieldFault>) -> Fault {
-    match refusal {
-        Refusal::Memory => Fault::Memory,
-        Refusal::At { place, why } => Fault::Unit {
-            place,
-            reason: match why {
-                FieldFault::Short => Reason::Short,
-                _ => Reason::BadAddress,
-            },
-        },
-    }
+fn centre_fault(fault: sms_field::Fault<FieldFault>) -> Fault {
+    Fault::Message(sms_field::Fault {
+        place: fault.place,
+        why: fault.why.into(),
+    })
 }
 
 /// The line of a service centre's address, by a name.
@@ -127,9 +86,9 @@ pub fn put_centre<W: Write>(
     alloc: Global,
     lines: &mut Lines<W>,
     name: &str,
-    centre: &Option<RpAddress>,
+    centre: &Option<RpAddressView<'_>>,
 ) -> Result<(), Fault> {
-    match centre {
+    match RpAddressView::some_to_value(alloc, centre)? {
         Some(address) => {
             let text = address.to_text(alloc)?;
             lines.put(name, Escaped(&text))
@@ -138,20 +97,20 @@ pub fn put_centre<W: Write>(
     }
 }
 
-/// Writes the address of a service centre, and gives the octets behind it.
+/// Writes the address of a service centre, and gives the octets after it.
 pub fn show_centre<'a, W: Write>(
     alloc: Global,
     octets: &'a [u8],
     lines: &mut Lines<W>,
 ) -> Result<&'a [u8], Fault> {
-    let (centre, used) = RpAddress::read(alloc, octets).map_err(centre_fault)?;
+    let (centre, used) = RpAddressView::read(octets).map_err(centre_fault)?;
     put_centre(alloc, lines, "centre", &centre)?;
     Ok(&octets[used..])
 }
 
 /// Writes the fields of an SMS-DELIVER.
 fn show_deliver<W: Write>(alloc: Global, octets: &[u8], lines: &mut Lines<W>) -> Result<(), Fault> {
-    let (deliver, used) = Deliver::read(alloc, octets)?;
+    let (deliver, used) = DeliverView::read(octets)?;
     lines.put("type", "deliver")?;
     lines.put("more", Answer(deliver.more))?;
     lines.put("loop", Answer(deliver.looped))?;
@@ -167,7 +126,7 @@ fn show_deliver<W: Write>(alloc: Global, octets: &[u8], lines: &mut Lines<W>) ->
 
 /// Writes the fields of an SMS-SUBMIT.
 fn show_submit<W: Write>(alloc: Global, octets: &[u8], lines: &mut Lines<W>) -> Result<(), Fault> {
-    let (submit, used) = Submit::read(alloc, octets)?;
+    let (submit, used) = SubmitView::read(octets)?;
     lines.put("type", "submit")?;
     lines.put("reject", Answer(submit.reject))?;
     lines.put("report", Answer(submit.report))?;
@@ -191,9 +150,9 @@ pub fn show_unit<W: Write>(
     match kind {
         UnitKind::Deliver => show_deliver(alloc, octets, lines),
         UnitKind::Submit => show_submit(alloc, octets, lines),
-        UnitKind::SubmitAck => show_submit_ack(alloc, octets, lines),
-        UnitKind::SubmitError => show_submit_error(alloc, octets, lines),
-        UnitKind::DeliverAck => show_deliver_ack(alloc, octets, lines),
-        UnitKind::DeliverError => show_deliver_error(alloc, octets, lines),
+        UnitKind::SubmitAck => show_submit_ack(octets, lines),
+        UnitKind::SubmitError => show_submit_error(octets, lines),
+        UnitKind::DeliverAck => show_deliver_ack(octets, lines),
+        UnitKind::DeliverError => show_deliver_error(octets, lines),
     }
 }

@@ -1,6 +1,7 @@
 //! The segments of a text, one a line.
 
-ghost use Rattle.sms_tpdu.specs.declared.concat.Width.TheVariants.{Eight};
+ghost use Rattle.std.specs.Prelude.{◌≡◌, ◌<◌};
+ghost use Rattle.sms_tpdu.specs.declared.user_data.concat.Width.TheVariants.{Eight};
 ghost use Rattle.sms_join.specs.SegmentUser.{IsSendable};
 
 use crate::fault::Fault;
@@ -32,12 +33,14 @@ fn alphabet_name(units: &Units) -> &'static str {
 fn put_segment<W: Write>(
     alloc: Global,
     segment: &Segment,
-    reference: u8,
+    width: Width,
+    reference: u16,
     output: &mut W,
 ) -> Result<(), Fault>
-    requires { IsSendable Eight segment.now }
+    requires sendable { IsSendable width segment.now }
+    requires reference { width ≡ Eight → reference < 256 }
 {
-    let user = segment_user(alloc, segment, Width::Eight, reference as u16)?;
+    let user = segment_user(alloc, segment, width, reference)?;
     let octets = user.write(alloc)?;
     let alphabet = alphabet_name(&segment.units);
     write!(
@@ -49,15 +52,34 @@ fn put_segment<W: Write>(
     Ok(())
 }
 
-/// Writes the segments of a text, in order.
+/// Writes the segments of a text under a reference of this width, in order.
+fn put_cut<W: Write>(
+    alloc: Global,
+    text: &str,
+    width: Width,
+    reference: u16,
+    output: &mut W,
+) -> Result<(), Fault>
+    requires { width ≡ Eight → reference < 256 }
+{
+    let segments = split(alloc, text, width)?;
+    for segment in segments.as_slice() {
+        put_segment(alloc, segment, width, reference, output)?;
+    }
+    Ok(())
+}
+
+/// Writes the segments of a text, in order. A reference above 255 needs two octets.
 pub fn put_segments<W: Write>(
     alloc: Global,
     long: &LongText<'_>,
     output: &mut W,
 ) -> Result<(), Fault> {
-    let segments = split(alloc, long.text, Width::Eight)?;
-    for segment in segments.as_slice() {
-        put_segment(alloc, segment, long.reference, output)?;
+    if long.wide {
+        return put_cut(alloc, long.text, Width::Sixteen, long.reference, output);
     }
-    Ok(())
+    if long.reference > 255 {
+        return Err(Fault::ReferenceTooLarge);
+    }
+    put_cut(alloc, long.text, Width::Eight, long.reference, output)
 }

@@ -5,6 +5,9 @@ use clap::{Arg, ArgAction, ArgMatches, Command, Error, value_parser};
 use std::alloc::{AllocError, Global};
 use std::convert::AsStr;
 
+/// The program's version.
+const VERSION: &str = "0.1";
+
 static SHOWN_KINDS: [&str; 8] = [
     "deliver",
     "submit",
@@ -71,8 +74,10 @@ pub struct Draft<'a> {
 #[derive(Clone, Copy, Debug, PartialEq, Eq)]
 pub struct LongText<'a> {
     pub text: &'a str,
-    /// The reference of its segments.
-    pub reference: u8,
+    /// Whether the reference takes two octets.
+    pub wide: bool,
+    /// The concatenation reference of its segments.
+    pub reference: u16,
 }
 
 /// One command with its words.
@@ -109,6 +114,10 @@ fn octet_option<'a>(alloc: Global, name: &'a str, help: &'a str) -> Arg<'a> {
     option(alloc, name, "N", help).value_parser(value_parser!(u8))
 }
 
+fn reference_option<'a>(alloc: Global, name: &'a str, help: &'a str) -> Arg<'a> {
+    option(alloc, name, "N", help).value_parser(value_parser!(u16))
+}
+
 fn show_command<'a>(alloc: Global) -> Result<Command<'a>, AllocError> {
     Command::new(alloc, "show")
         .about("Prints the fields of a unit, one a line")
@@ -127,14 +136,22 @@ fn encode_command<'a>(alloc: Global) -> Result<Command<'a>, AllocError> {
             "The other party: digits, + and digits, or a name",
         ))?
         .arg(word(alloc, "TEXT", "The text"))?
-        .arg(octet_option(alloc, "mr", "submit: the message reference, 0 unless given"))?
-        .arg(flag(alloc, "rd", "submit: asks the centre to reject duplicates"))?
-        .arg(octet_option(alloc, "validity", "submit: the relative validity period"))?
+        .arg(octet_option(alloc, "mr", "submit: TP-MR, 0 unless given"))?
+        .arg(flag(
+            alloc,
+            "rd",
+            "submit: TP-RD, asks the centre to reject duplicates",
+        ))?
+        .arg(octet_option(
+            alloc,
+            "validity",
+            "submit: the octet of a relative TP-VP, none unless given",
+        ))?
         .arg(option(
             alloc,
             "stamp",
             "HEX",
-            "deliver: the seven octets of the time stamp",
+            "deliver: TP-SCTS, seven octets, 00101000000000 unless given",
         ))
 }
 
@@ -142,66 +159,90 @@ fn split_command<'a>(alloc: Global) -> Result<Command<'a>, AllocError> {
     Command::new(alloc, "split")
         .about("Prints the user data of each segment of a text")
         .arg(word(alloc, "TEXT", "The text"))?
-        .arg(octet_option(
+        .arg(flag(
+            alloc,
+            "wide",
+            "The concatenation reference takes two octets",
+        ))?
+        .arg(reference_option(
             alloc,
             "ref",
-            "The reference of the segments, 0 unless given",
+            "The concatenation reference: to 255, with --wide to 65535; 0 unless given",
         ))
 }
 
 fn whole_command<'a>(alloc: Global) -> Result<Command<'a>, AllocError> {
     Command::new(alloc, "sms")
         .about("Reads and writes short messages")
+        .version(VERSION)
         .subcommand_required(true)
         .subcommand(show_command(alloc)?)?
         .subcommand(encode_command(alloc)?)?
         .subcommand(split_command(alloc)?)
 }
 
-fn kind_of(found: &ArgMatches<'_>) -> Kind {
-    match found.get_str("KIND") {
-        Some("submit") => Kind::Unit(UnitKind::Submit),
-        Some("submit-ack") => Kind::Unit(UnitKind::SubmitAck),
-        Some("submit-error") => Kind::Unit(UnitKind::SubmitError),
-        Some("deliver-ack") => Kind::Unit(UnitKind::DeliverAck),
-        Some("deliver-error") => Kind::Unit(UnitKind::DeliverError),
-        Some("rp") => Kind::Rp,
-        Some("cp") => Kind::Cp,
-        _ => Kind::Unit(UnitKind::Deliver),
+/// The kind that a word names.
+fn kind_of(word: &str) -> Option<Kind> {
+    match word {
+        "deliver" => Some(Kind::Unit(UnitKind::Deliver)),
+        "submit" => Some(Kind::Unit(UnitKind::Submit)),
+        "submit-ack" => Some(Kind::Unit(UnitKind::SubmitAck)),
+        "submit-error" => Some(Kind::Unit(UnitKind::SubmitError)),
+        "deliver-ack" => Some(Kind::Unit(UnitKind::DeliverAck)),
+        "deliver-error" => Some(Kind::Unit(UnitKind::DeliverError)),
+        "rp" => Some(Kind::Rp),
+        "cp" => Some(Kind::Cp),
+        _ => None,
     }
 }
 
-fn draft_kind_of(found: &ArgMatches<'_>) -> DraftKind {
-    match found.get_str("KIND") {
-        Some("submit") => DraftKind::Submit,
-        _ => DraftKind::Deliver,
+/// The kind of unit with a text that a word names.
+fn draft_kind_of(word: &str) -> Option<DraftKind> {
+    match word {
+        "deliver" => Some(DraftKind::Deliver),
+        "submit" => Some(DraftKind::Submit),
+        _ => None,
     }
 }
 
-fn shown_of<'a>(found: &ArgMatches<'a>) -> Shown<'a> {
-    Shown {
-        kind: kind_of(found),
+/// What is shown, or `None` where its kind is unknown.
+fn shown_of<'a>(found: &ArgMatches<'a>) -> Option<Request<'a>> {
+    Some(Request::Show(Shown {
+        kind: kind_of(found.get_str("KIND")?)?,
         octets: found.get_str("HEX").unwrap_or(""),
         has_centre: found.get_flag("sca"),
-    }
+    }))
 }
 
-fn draft_of<'a>(found: &ArgMatches<'a>) -> Draft<'a> {
-    Draft {
-        kind: draft_kind_of(found),
+/// What is encoded, or `None` where its kind is unknown.
+fn draft_of<'a>(found: &ArgMatches<'a>) -> Option<Request<'a>> {
+    Some(Request::Encode(Draft {
+        kind: draft_kind_of(found.get_str("KIND")?)?,
         address: found.get_str("ADDRESS").unwrap_or(""),
         text: found.get_str("TEXT").unwrap_or(""),
         reference: found.get_one::<u8>("mr"),
         reject: found.get_flag("rd"),
         validity: found.get_one::<u8>("validity"),
         stamp: found.get_str("stamp"),
-    }
+    }))
 }
 
-fn long_text_of<'a>(found: &ArgMatches<'a>) -> LongText<'a> {
-    LongText {
+/// What is split.
+fn long_text_of<'a>(found: &ArgMatches<'a>) -> Option<Request<'a>> {
+    Some(Request::Split(LongText {
         text: found.get_str("TEXT").unwrap_or(""),
-        reference: found.get_one::<u8>("ref").unwrap_or(0),
+        wide: found.get_flag("wide"),
+        reference: found.get_one::<u16>("ref").unwrap_or(0),
+    }))
+}
+
+/// What the words of a subcommand ask for.
+fn request_of<'a>(name: &str, found: &ArgMatches<'a>) -> Option<Request<'a>> {
+    match name {
+        "show" => shown_of(found),
+        "encode" => draft_of(found),
+        "split" => long_text_of(found),
+        _ => None,
     }
 }
 
@@ -209,10 +250,11 @@ fn long_text_of<'a>(found: &ArgMatches<'a>) -> LongText<'a> {
 pub fn parse_words<'a, S: AsStr>(alloc: Global, words: &'a [S]) -> Result<Request<'a>, Error> {
     let mut command = whole_command(alloc)?;
     let matches = command.try_get_matches_from_mut(words)?;
-    match matches.subcommand() {
-        Some(("encode", found)) => Ok(Request::Encode(draft_of(found))),
-        Some(("split", found)) => Ok(Request::Split(long_text_of(found))),
-        Some((_, found)) => Ok(Request::Show(shown_of(found))),
-        None => Err(command.error(ErrorKind::MissingSubcommand, "a subcommand is required")?),
+    let Some((name, found)) = matches.subcommand() else {
+        return Err(command.error(ErrorKind::MissingSubcommand, "a subcommand is required")?);
+    };
+    match request_of(name, found) {
+        Some(request) => Ok(request),
+        None => Err(command.error(ErrorKind::InvalidSubcommand, "unknown subcommand or kind")?),
     }
 }

@@ -9,7 +9,7 @@ use Rattle.sms_field.proofs.DigitTexts.{plus_first}
 use Rattle.sms_field.specs.AddressText.{sign, few_digits, number, number_of, number_or_name, without_plus, address_of_text}
 use Rattle.sms_field.specs.AddressValue.{AddressValue}
 use Rattle.sms_field.specs.declared.fault.AddressFault.{AddressFault}
-use Rattle.sms_field.specs.declared.fault.AddressFault.TheVariants.{Memory, BadDigit, TooLong}
+use Rattle.sms_field.specs.declared.fault.AddressFault.TheVariants.{Memory, BadDigit, AddressTooLong}
 
 pub behind_plus : (text rest : List ℕ) → text ≡ 43 ∷ rest → address_of_text text ≡ number_of 1 (few_digits (digits_of_text rest))
 unfolding address_of_text
@@ -42,9 +42,9 @@ is_name r found named is h =
     let other : r ≢ Err Memory = λ e. absurd (let no : Err BadDigit ≡ Err Memory = sym is ∙ e in cc) in
     ap (λ (x : Result (List ℕ) AddressFault). number_or_name x named) (sym (h other) ∙ is)
 
-pub is_too_long : (r found : Result (List ℕ) AddressFault) (named : Result AddressValue AddressFault) → r ≡ Err TooLong → (r ≢ Err Memory → r ≡ found) → number_or_name found named ≡ Err TooLong
+pub is_too_long : (r found : Result (List ℕ) AddressFault) (named : Result AddressValue AddressFault) → r ≡ Err AddressTooLong → (r ≢ Err Memory → r ≡ found) → number_or_name found named ≡ Err AddressTooLong
 is_too_long r found named is h =
-    let other : r ≢ Err Memory = λ e. absurd (let no : Err TooLong ≡ Err Memory = sym is ∙ e in cc) in
+    let other : r ≢ Err Memory = λ e. absurd (let no : Err AddressTooLong ≡ Err Memory = sym is ∙ e in cc) in
     ap (λ (x : Result (List ℕ) AddressFault). number_or_name x named) (sym (h other) ∙ is)
 
 pub says_number : (r : Result AddressValue AddressFault) (digits found : Result (List ℕ) AddressFault) (kind : ℕ) → r ≡ number_of kind digits → (digits ≢ Err Memory → digits ≡ found) → r ≢ Err Memory → r ≡ number_of kind found

@@ -16,7 +16,7 @@ use Rattle.sms_field.specs.RelayAddress.{last_digits, relay_digits}
 use Rattle.sms_field.proofs.DigitLoop.{with_front, two_at, regroup}
 use Rattle.sms_field.proofs.DigitsRead.{IsDigit, chosen, then_found, judged_found, both, same_value}
 
-abbrev last_at : ℕ → List ℕ → Outcome (List ℕ) FieldFault
+abbrev pub last_at : ℕ → List ℕ → Outcome (List ℕ) FieldFault
 last_at at input = (octet_by Short last_digits).read at input
 
 pub goes_on : (front : List ℕ) (count i at : ℕ) (input : List ℕ) (two : ℕ × ℕ) (after : ℕ) (rest : List ℕ) (total : Outcome (List ℕ) FieldFault) → i < count - 1 → two_at at input ≡ found two after rest

@@ -10,7 +10,7 @@ use Rattle.sms_field.specs.declared.fault.FieldFault.{FieldFault}
 use Rattle.sms_field.specs.declared.fault.FieldFault.TheVariants.{Short, AddressTooLong}
 pub use Rattle.sms_field.specs.SingleFields.{up_to}
 
--- so many semi-octets: a name, or digits
+-- semi-octets, as many as are counted: a name, or digits
 unfoldable pub symbols_by : Bool → ℕ → Field Symbols FieldFault
 symbols_by true count = do
   septets ← name count
@@ -18,6 +18,10 @@ symbols_by true count = do
 symbols_by false count = do
   values ← digits count
   always (Digits values)
+
+-- the symbols of a type of number
+abbrev pub symbols_of : ℕ → ℕ → Field Symbols FieldFault
+symbols_of kind count = symbols_by (kind == alphanumeric) count
 
 -- the number of semi-octets; the type octet, of which bits 6 to 4 are the type of number and bits 3 to 0 the plan; the symbols
 unfoldable pub address : Field AddressValue FieldFault

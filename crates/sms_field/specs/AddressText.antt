@@ -1,4 +1,4 @@
--- The text of an address. Its digits are shown as 3GPP TS 23.040, 9.1.2.3 has them, an international number (9.1.2.5) behind +; a name is its own text.
+-- The text of an address. Its digits are shown as 3GPP TS 23.040, 9.1.2.3 has them, an international number (9.1.2.5) after +; a name is its own text.
 use Rattle.std.specs.Prelude.{ℕ, List, [], ◌∷◌, ◌++◌, length, Option, Some, None, Result, Ok, Err, ◌==◌, nat_le, if◌then◌else◌}
 use Rattle.sms_text.specs.SeptetsOfText.{septets_of_text}
 use Rattle.sms_text.specs.TextOfSeptets.{text_of_septets}
@@ -7,7 +7,7 @@ use Rattle.sms_field.specs.DigitText.{text_of_digits, digits_of_text}
 use Rattle.sms_field.specs.declared.symbols.Symbols.{Symbols}
 use Rattle.sms_field.specs.declared.symbols.Symbols.TheVariants.{Digits, Name}
 use Rattle.sms_field.specs.declared.fault.AddressFault.{AddressFault}
-use Rattle.sms_field.specs.declared.fault.AddressFault.TheVariants.{BadDigit, TooLong}
+use Rattle.sms_field.specs.declared.fault.AddressFault.TheVariants.{BadDigit, AddressTooLong}
 
 -- the character +
 abbrev pub plus : ℕ
@@ -27,7 +27,7 @@ address_text address = symbols_text address.kind address.symbols
 -- up to 20 digits, and each character one
 abbrev pub few_digits : Option (List ℕ) → Result (List ℕ) AddressFault
 few_digits None = Err BadDigit
-few_digits (Some digits) = if nat_le (length digits) 20 then Ok digits else Err TooLong
+few_digits (Some digits) = if nat_le (length digits) 20 then Ok digits else Err AddressTooLong
 
 -- digits of this type of number, in plan 1 (telephone numbers)
 abbrev pub number : ℕ → List ℕ → AddressValue
@@ -40,7 +40,7 @@ number_of kind (Err why) = Err why
 -- a name of up to 11 septets, in plan 0 (unknown)
 abbrev pub name_of : Option (List ℕ) → Result AddressValue AddressFault
 name_of None = Err BadDigit
-name_of (Some septets) = if nat_le (length septets) 11 then Ok (record { kind = alphanumeric; plan = 0; symbols = Name septets }) else Err TooLong
+name_of (Some septets) = if nat_le (length septets) 11 then Ok (record { kind = alphanumeric; plan = 0; symbols = Name septets }) else Err AddressTooLong
 
 -- a number of unknown type, 0; a text with another character than digits is a name
 abbrev pub number_or_name : Result (List ℕ) AddressFault → Result AddressValue AddressFault → Result AddressValue AddressFault
@@ -51,7 +51,7 @@ number_or_name (Err why) named = Err why
 abbrev pub without_plus : List ℕ → Result AddressValue AddressFault
 without_plus text = number_or_name (few_digits (digits_of_text text)) (name_of (septets_of_text text))
 
--- the address that a text says: behind + an international number, 1, else a number of unknown type or a name
+-- the address that a text says: after + an international number, 1, else a number of unknown type or a name
 unfoldable pub address_of_text : List ℕ → Result AddressValue AddressFault
 address_of_text [] = without_plus []
 address_of_text (c ∷ text) = if c == plus then number_of 1 (few_digits (digits_of_text text)) else without_plus (c ∷ text)

@@ -12,7 +12,7 @@ low_digit octet = if nat_lt (octet % 16) 15 then Ok (octet % 16) else Err BadDig
 abbrev pub both_digits : ℕ → Result (ℕ × ℕ) FieldFault
 both_digits octet = if nat_lt (octet % 16) 15 && nat_lt (octet / 16) 15 then Ok (octet % 16, octet / 16) else Err BadDigit
 
--- so many digits, two an octet; behind an odd last one the high half is not used
+-- digits, as many as are counted, two an octet; after an odd last one the high half is not used
 unfoldable pub digits : ℕ → Field (List ℕ) FieldFault
 digits zero = always []
 digits (suc zero) = do
@@ -25,7 +25,7 @@ digits (suc (suc n)) = do
   others ← digits n
   always (two.0 ∷ two.1 ∷ others)
 
--- how digits are written: behind an odd last one the high half is 15
+-- how digits are written: after an odd last one the high half is 15
 unfoldable pub digit_octets : List ℕ → List ℕ
 digit_octets [] = []
 digit_octets (digit ∷ []) = (240 + digit) ∷ []

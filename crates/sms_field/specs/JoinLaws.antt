@@ -4,7 +4,7 @@ use Rattle.sms_text.specs.Octets.{IsOctets}
 use Rattle.sms_field.specs.OctetLists.{octets-append, octets_front, octets_back}
 use Rattle.sms_field.specs.Field.{Outcome, found, refused, Field, HasReading, CanContinue, IsReading, IsAnswer, IsSelfContained, IsLawful, read_then, ◌>>=◌}
 
--- a list has one part behind a front
+-- a list has one part after a front
 pub same_back : (xs ys zs : List ℕ) → xs ++ ys ≡ xs ++ zs → ys ≡ zs
 same_back [] ys zs e = e
 same_back (x ∷ xs) ys zs e = same_back xs ys zs cc
@@ -26,7 +26,7 @@ agree {A} {W} short f law a b xs ys s t fits p q e = go (f.read 0 (xs ++ s)) (la
           reading = record { value = a; octets = xs; rest = s; parts = append_assoc h.front (h.octet ∷ []) h.rest ∙ sym h.parts; read = p };
         }))
 
--- where one list is cut in two ways, one cut is behind the other
+-- where one list is cut in two ways, one cut is after the other
 pub cuts : (xs ys zs ws : List ℕ) → xs ++ ys ≡ zs ++ ws → ((d : List ℕ) × (zs ≡ xs ++ d) × (ys ≡ d ++ ws)) ⊎ ((d : List ℕ) × (xs ≡ zs ++ d) × (ws ≡ d ++ ys))
 cuts [] ys zs ws e = inl (zs, refl, e)
 cuts (x ∷ xs) ys [] ws e = inr (x ∷ xs, refl, sym e)

@@ -17,7 +17,7 @@ name count = do
   octets ← octets_of Short ((count + 1) / 2)
   always (unpacked 0 (4 * count / 7) octets)
 
--- so many octets of a list of bits, the lowest bit first
+-- the octets of a list of bits, the lowest bit first
 unfoldable pub octets_from : ℕ → List ℕ → List ℕ
 octets_from zero rest = []
 octets_from (suc count) rest = number (take 8 rest) ∷ octets_from count (drop 8 rest)

@@ -6,7 +6,7 @@ use Rattle.std.proofs.Math.Seq.{take-add, take-append-add, take_at, drop_at}
 use Rattle.std.proofs.lemmas.List.{append-nil, length-take, length-drop, length-replicate, take-replicate}
 use Rattle.sms_text.specs.Bits.{bits, number, octet_bits, septet_bits, AreSeptets, PackedPlain, unpacked}
 use Rattle.sms_text.specs.Octets.{IsOctets}
-use Rattle.sms_text.proofs.ReadingBits.{length-bits, number-bits, length-octet_bits, length-septet_bits, plain_is_packed, unpacked-packed, unpacked_septets}
+use Rattle.sms_text.specs.PackingLaws.{length-bits, number-bits, length-octet_bits, length-septet_bits, plain_is_packed, unpacked-packed, unpacked_septets}
 use Rattle.sms_field.specs.Name.{IsName, name, octets_from, name_octets, name_length}
 
 abbrev AreBits : List ℕ → Type 0
@@ -120,7 +120,7 @@ pub name_octets_are : (septets : List ℕ) → IsOctets (name_octets septets)
 unfolding name_octets padded
 name_octets_are septets = from_are_octets ((7 * length septets + 7) / 8) (padded septets) (padded_are septets)
 
-length-name_octets : (septets : List ℕ) → length (name_octets septets) ≡ (7 * length septets + 7) / 8
+pub length-name_octets : (septets : List ℕ) → length (name_octets septets) ≡ (7 * length septets + 7) / 8
 unfolding name_octets
 length-name_octets septets = length-octets_from ((7 * length septets + 7) / 8) (septet_bits septets ++ replicate 7 0)
 
@@ -167,3 +167,41 @@ pub name_fits : (count n : ℕ) (octets septets : List ℕ) → count ≤ 20 →
 name_fits count n octets septets le is e =
     let h = unpacked_septets 0 n octets in
     record { few = omega (arith, ap length e, h.1); each = subst AreSeptets (sym e) h.0 }
+
+-- ---- septets after fill bits
+
+filled : ℕ → List ℕ → List ℕ
+filled fill septets = replicate fill 0 ++ septet_bits septets
+
+length-filled : (fill : ℕ) (septets : List ℕ) → length (filled fill septets) ≡ fill + 7 * length septets
+unfolding filled
+length-filled fill septets = length-append (replicate fill 0) (septet_bits septets) ∙ omega (arith, length-septet_bits septets, length-replicate {A = ℕ} fill 0)
+
+filled_are : (fill : ℕ) (septets : List ℕ) → AreBits (filled fill septets)
+unfolding filled
+filled_are fill septets = bits-append (replicate fill 0) (septet_bits septets) (zeros_are fill) (septet_bits_are septets)
+
+-- octets in which septets lie plainly after fill bits
+pub plain_octets : ℕ → List ℕ → List ℕ
+plain_octets fill septets = octets_from ((fill + 7 * length septets + 7) / 8) (filled fill septets ++ replicate 7 0)
+
+pub plain_octets_are : (fill : ℕ) (septets : List ℕ) → IsOctets (plain_octets fill septets)
+unfolding plain_octets
+plain_octets_are fill septets = from_are_octets ((fill + 7 * length septets + 7) / 8) (filled fill septets ++ replicate 7 0) (bits-append (filled fill septets) (replicate 7 0) (filled_are fill septets) (zeros_are 7))
+
+pub plainly_packed : (fill : ℕ) (septets : List ℕ) → PackedPlain fill septets (plain_octets fill septets)
+unfolding plain_octets filled
+plainly_packed fill septets =
+    let front : List ℕ = filled fill septets in
+    let k : ℕ = (fill + 7 * length septets + 7) / 8 in
+    let spare : ℕ = 8 * k - (fill + 7 * length septets) in
+    let all : length (front ++ replicate 7 0) ≡ fill + 7 * length septets + 7 = length-append front (replicate 7 0) ∙ omega (arith, length-filled fill septets, length-replicate {A = ℕ} 7 0) in
+    let enough : 8 * k ≤ length (front ++ replicate 7 0) = omega (arith, all) in
+    let cut : 8 * k ≡ length front + spare = omega (arith, length-filled fill septets) in
+    let few : spare ≤ 7 = omega arith in
+    let are : AreBits (front ++ replicate 7 0) = bits-append front (replicate 7 0) (filled_are fill septets) (zeros_are 7) in
+    record {
+      spare = spare;
+      few = omega (arith, few);
+      parts = bits_of_octets k (front ++ replicate 7 0) enough are ∙ ap (λ (n : ℕ). take n (front ++ replicate 7 0)) cut ∙ take-append-add front (replicate 7 0) spare ∙ ap (λ (l : List ℕ). front ++ l) (take-replicate {X = ℕ} spare 7 0 few);
+    }

@@ -26,7 +26,7 @@ module _ {V W : Type 0} (short : W) (tag : ℕ) (small : tag < 256) (part : Fiel
   tagged_starts : CanContinue (tagged tag part) []
   tagged_starts = record { more = []; are_octets = tt; reading = record { value = None; octets = []; rest = []; parts = refl; read = (refl, tt) } }
 
-  -- behind the tag a reading is one of the part
+  -- after the tag a reading is one of the part
   inner : (xs : List ℕ) → HasReading (tagged tag part) (tag ∷ xs) → HasReading part xs
   inner xs r = go r.value r.octets r.rest r.parts r.read
     where

@@ -20,7 +20,7 @@ pub record IsReadable {V : Type 0} (reads : V → List ℕ → ℕ → Type 0) (
   pub read : reads value input used
 
 -- Some continuation has one. It consists of octets, since only octets can follow: a continuation by other numbers would be none.
--- Of the front nothing is asked, here and where an input has a reading: inputs consist of octets already.
+-- The front need not be said to consist of octets, here and where an input has a reading: each input of a reader does.
 pub record IsViable {V : Type 0} (reads : V → List ℕ → ℕ → Type 0) (front : List ℕ) : Type 0 where
   pub more : List ℕ
   pub are_octets : IsOctets more

@@ -1,13 +1,14 @@
 -- What a lawful field promises of a reader that answers as its plain reader does.
-use Rattle.std.proofs.Common.{◌≡◌, ℕ, ◌+◌, ◌<◌, List, [], ◌∷◌, ◌++◌, length, take, refl, sym, ap, subst, ◌∙◌, append_assoc, arith, inl, inr, length-append, get_or}
-use Rattle.std.proofs.lemmas.List.{take_at}
+use Rattle.std.proofs.Common.{◌≡◌, ℕ, ◌+◌, ◌<◌, List, [], ◌∷◌, ◌++◌, length, take, drop, Ok, Err, refl, sym, ap, subst, ◌∙◌, append_assoc, arith, inl, inr, length-append, get_or}
+use Rattle.std.proofs.lemmas.List.{take_at, take-append-drop}
 use Rattle.sms_field.specs.declared.refusal.Refusal.{Refusal}
 use Rattle.sms_field.specs.declared.refusal.Refusal.TheVariants.{Memory, At}
 use Rattle.sms_text.specs.Octets.{IsOctets}
 use Rattle.sms_field.specs.Field.{found, refused, Field, HasReading, CanContinue, IsAnswer, IsLawful}
 use Rattle.sms_field.specs.Reading.{Reads, IsReadable, IsViable, IsRefused}
-use Rattle.sms_field.specs.Answer.{Refuses}
-use Rattle.sms_field.specs.OctetLists.{octets_are}
+use Rattle.sms_field.specs.Answer.{Refuses, Takes}
+use Rattle.sms_field.specs.Spot.{Spot}
+use Rattle.sms_field.specs.OctetLists.{octets_are, octets_back}
 use Rattle.sms_field.specs.JoinLaws.{agree}
 
 get_or-append_here : (xs : List ℕ) (y : ℕ) (ys : List ℕ) → get_or (xs ++ (y ∷ ys)) (length xs) 0 ≡ y
@@ -70,3 +71,26 @@ module _ {V W : Type 0} (f : Field V W) where
   promise_refused short law input fits at start at_is start_is (At place why) h =
       let whole : f.read 0 input ≡ refused place why = ap (f.read 0) (sym start_is) ∙ ap (λ (k : ℕ). f.read k start) (sym at_is) ∙ h in
       refused_is short law.never_short input place why (subst (IsAnswer short f 0 input) whole (law.answers 0 input (octets_are input fits)))
+
+-- What a reader from the start of an input answered, against what is read.
+module _ {V W : Type 0} (f : Field V W) (short : W) (law : IsLawful short f) (input : List ℕ) (fits : (i : ℕ) → get_or input i 0 < 256) (start next : Spot) (at : start.place ≡ 0) (whole : start.rest ≡ input) where
+  pub read_found : (v : V) (used : ℕ) → used ≡ next.place → Takes f start (Ok v) next → Reads f v input used
+  read_found v used is e = subst (Reads f v input) (sym is) (promise_found f short law input fits start.place start.rest at whole v next.place next.rest e)
+
+  pub read_refused : (e : Refusal W) → Takes f start (Err e) next → IsRefused (Reads f) f.reason short input e
+  read_refused e r = promise_refused f short law input fits start.place start.rest at whole e r
+
+  -- what has a reading is refused only for want of memory
+  pub read_exact : (v w : V) (n used : ℕ) → Reads f v input n → used ≡ next.place → Takes f start (Ok w) next → (w ≡ v) × (used ≡ n)
+  read_exact v w n used r is e = one_reading f short law v w input n used (octets_are input fits) r (read_found w used is e)
+
+  pub refused_without : (v : V) (n : ℕ) → Reads f v input n → (e : Refusal W) → Takes f start (Err e) next → e ≡ Memory
+  refused_without v n r Memory e = refl
+  refused_without v n r (At place why) e =
+      let named : why ≡ short → ⊥ = λ is. ((read_refused (At place why) e).0 is).unread (record { value = v; used = n; read = r }) in
+      let back : take (place + 1) input ++ drop (place + 1) input ≡ input = take-append-drop (place + 1) input in
+      absurd (((read_refused (At place why) e).1 named).behind (record {
+        more = drop (place + 1) input;
+        are_octets = octets_back (take (place + 1) input) (drop (place + 1) input) (subst IsOctets (sym back) (octets_are input fits));
+        readable = record { value = v; used = n; read = subst (λ (l : List ℕ). Reads f v l n) (sym back) r };
+      }))

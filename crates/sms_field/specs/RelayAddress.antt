@@ -10,7 +10,7 @@ use Rattle.sms_field.specs.declared.fault.FieldFault.TheVariants.{Short, Address
 abbrev pub last_digits : ℕ → Result (List ℕ) FieldFault
 last_digits octet = if nat_lt (octet % 16) 15 then Ok (if nat_lt (octet / 16) 15 then octet % 16 ∷ octet / 16 ∷ [] else octet % 16 ∷ []) else Err BadDigit
 
--- the digits in so many octets
+-- the digits in octets, as many as are counted
 unfoldable pub relay_digits : ℕ → Field (List ℕ) FieldFault
 relay_digits zero = always []
 -- BadDigit: the low half is 15

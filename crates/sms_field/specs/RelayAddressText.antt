@@ -1,4 +1,4 @@
--- The text of a relay address: its digits as 3GPP TS 23.040, 9.1.2.3 has them, an international number behind +.
+-- The text of a relay address: its digits as 3GPP TS 23.040, 9.1.2.3 has them, an international number after +.
 use Rattle.std.specs.Prelude.{ℕ, List, [], ◌∷◌, ◌++◌, Result, Ok, Err, ◌==◌, if◌then◌else◌}
 use Rattle.sms_field.specs.DigitText.{text_of_digits, digits_of_text}
 use Rattle.sms_field.specs.AddressText.{plus, sign, few_digits}
@@ -13,7 +13,7 @@ abbrev pub relay_number_of : ℕ → Result (List ℕ) AddressFault → Result R
 relay_number_of kind (Ok digits) = Ok (record { kind = kind; plan = 1; digits = digits })
 relay_number_of kind (Err why) = Err why
 
--- the address that a text says: behind + an international number, 1, else a number of unknown type, 0
+-- the address that a text says: after + an international number, 1, else a number of unknown type, 0
 unfoldable pub relay_address_of_text : List ℕ → Result RelayAddressValue AddressFault
 relay_address_of_text [] = relay_number_of 0 (few_digits (digits_of_text []))
 relay_address_of_text (c ∷ text) = if c == plus then relay_number_of 1 (few_digits (digits_of_text text)) else relay_number_of 0 (few_digits (digits_of_text (c ∷ text)))

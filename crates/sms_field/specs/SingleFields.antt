@@ -46,16 +46,16 @@ octets_of short n = record {
   read = λ at input. (if nat_lt (length input) n then refused (at + length input) short else found (take n input) (at + n) (drop n input));
 }
 
-abbrev pub renamed_outcome : {V W X : Type 0} → (W → X) → Outcome V W → Outcome V X
-renamed_outcome name (found value after rest) = found value after rest
-renamed_outcome name (refused place why) = refused place (name why)
+abbrev pub map_reason_outcome : {V W X : Type 0} → (W → X) → Outcome V W → Outcome V X
+map_reason_outcome name (found value after rest) = found value after rest
+map_reason_outcome name (refused place why) = refused place (name why)
 
 -- the same field within another, whose refusals have names of their own
-abbrev pub renamed : {V W X : Type 0} → (W → X) → Field V W → Field V X
-renamed {V} {W} name f = record {
+abbrev pub map_reason : {V W X : Type 0} → (W → X) → Field V W → Field V X
+map_reason {V} {W} name f = record {
   reads = f.reads;
   reason = λ front octet other. (why : W) × (f.reason front octet why) × (other ≡ name why);
-  read = λ at input. renamed_outcome name (f.read at input);
+  read = λ at input. map_reason_outcome name (f.read at input);
 }
 
 -- the meaning of an octet that is a number up to a limit

@@ -3,7 +3,7 @@ use Rattle.std.proofs.Common.{◌≡◌, ℕ, zero, suc, ◌+◌, ◌-◌, ◌<�
 use Rattle.std.proofs.lemmas.Bool.{ltb-true, ltb-false}
 use Rattle.std.proofs.lemmas.List.{take_at, take-append-drop, length-take, length-replicate, append-nil}
 use Rattle.sms_text.specs.Octets.{IsOctets}
-use Rattle.sms_field.specs.Field.{Outcome, found, refused, Field, HasReading, CanContinue, IsAnswer, IsSelfContained, IsLawful, always, octet_at, octet, found_if, judged, octet_by, octets_of, renamed_outcome, renamed}
+use Rattle.sms_field.specs.Field.{Outcome, found, refused, Field, HasReading, CanContinue, IsAnswer, IsSelfContained, IsLawful, always, octet_at, octet, found_if, judged, octet_by, octets_of, map_reason_outcome, map_reason}
 
 nothing_left : (xs ys : List ℕ) → [] ≡ xs ++ ys → xs ≡ []
 nothing_left [] ys e = refl
@@ -130,41 +130,41 @@ octets_of_lawful short n = record {
 }
 
 module _ {V W X : Type 0} (short : W) (name : W → X) (apart : (why : W) → name short ≡ name why → short ≡ why) (f : Field V W) (law : IsLawful short f) where
-  renamed_reading : (input : List ℕ) → HasReading (renamed name f) input → HasReading f input
-  renamed_reading input r = record { value = r.value; octets = r.octets; rest = r.rest; parts = r.parts; read = r.read }
+  map_reason_reading : (input : List ℕ) → HasReading (map_reason name f) input → HasReading f input
+  map_reason_reading input r = record { value = r.value; octets = r.octets; rest = r.rest; parts = r.parts; read = r.read }
 
-  reading_renamed : (input : List ℕ) → HasReading f input → HasReading (renamed name f) input
-  reading_renamed input r = record { value = r.value; octets = r.octets; rest = r.rest; parts = r.parts; read = r.read }
+  reading_map_reason : (input : List ℕ) → HasReading f input → HasReading (map_reason name f) input
+  reading_map_reason input r = record { value = r.value; octets = r.octets; rest = r.rest; parts = r.parts; read = r.read }
 
-  renamed_goes_on : (front : List ℕ) → CanContinue (renamed name f) front → CanContinue f front
-  renamed_goes_on front c = record { more = c.more; are_octets = c.are_octets; reading = renamed_reading (front ++ c.more) c.reading }
+  map_reason_goes_on : (front : List ℕ) → CanContinue (map_reason name f) front → CanContinue f front
+  map_reason_goes_on front c = record { more = c.more; are_octets = c.are_octets; reading = map_reason_reading (front ++ c.more) c.reading }
 
-  goes_on_renamed : (front : List ℕ) → CanContinue f front → CanContinue (renamed name f) front
-  goes_on_renamed front c = record { more = c.more; are_octets = c.are_octets; reading = reading_renamed (front ++ c.more) c.reading }
+  goes_on_map_reason : (front : List ℕ) → CanContinue f front → CanContinue (map_reason name f) front
+  goes_on_map_reason front c = record { more = c.more; are_octets = c.are_octets; reading = reading_map_reason (front ++ c.more) c.reading }
 
-  renamed_answers : (at : ℕ) (input : List ℕ) (o : Outcome V W) → IsAnswer short f at input o → IsAnswer (name short) (renamed name f) at input (renamed_outcome name o)
-  renamed_answers at input (found value after rest) h = record { octets = h.octets; parts = h.parts; after_is = h.after_is; read = h.read; only = h.only }
-  renamed_answers at input (refused place why) (inl h) = inl (record {
+  map_reason_answers : (at : ℕ) (input : List ℕ) (o : Outcome V W) → IsAnswer short f at input o → IsAnswer (name short) (map_reason name f) at input (map_reason_outcome name o)
+  map_reason_answers at input (found value after rest) h = record { octets = h.octets; parts = h.parts; after_is = h.after_is; read = h.read; only = h.only }
+  map_reason_answers at input (refused place why) (inl h) = inl (record {
     why_is = ap name h.why_is;
     place_is = h.place_is;
-    none = λ r. h.none (renamed_reading input r);
-    some = goes_on_renamed input h.some;
+    none = λ r. h.none (map_reason_reading input r);
+    some = goes_on_map_reason input h.some;
   })
-  renamed_answers at input (refused place why) (inr h) = inr (record {
+  map_reason_answers at input (refused place why) (inr h) = inr (record {
     front = h.front;
     octet = h.octet;
     rest = h.rest;
     parts = h.parts;
     place_is = h.place_is;
-    before = goes_on_renamed h.front h.before;
-    behind = λ c. h.behind (renamed_goes_on (h.front ++ (h.octet ∷ [])) c);
+    before = goes_on_map_reason h.front h.before;
+    behind = λ c. h.behind (map_reason_goes_on (h.front ++ (h.octet ∷ [])) c);
     reason = (why, h.reason, refl);
   })
 
-  pub renamed_lawful : IsLawful (name short) (renamed name f)
-  renamed_lawful = record {
-    starts = goes_on_renamed [] law.starts;
-    answers = λ at input fits. renamed_answers at input (f.read at input) (law.answers at input fits);
+  pub map_reason_lawful : IsLawful (name short) (map_reason name f)
+  map_reason_lawful = record {
+    starts = goes_on_map_reason [] law.starts;
+    answers = λ at input fits. map_reason_answers at input (f.read at input) (law.answers at input fits);
     never_short = λ front octet r. law.never_short front octet (subst (λ (w : W). f.reason front octet w) (sym (apart r.0 r.2)) r.1);
   }
 

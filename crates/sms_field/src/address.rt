@@ -1,17 +1,20 @@
 //! Addresses of the transfer layer (3GPP TS 23.040, 9.1.2.5).
 
-ghost use Rattle.std.specs.Prelude.{◌≡◌, ◌<◌, ◌≤◌, ◌/◌, ◌%◌, ◌==◌, ℕ, List, ◌++◌, IfOk, IfErr, OnOk};
-ghost use Rattle.sms_field.specs.Field.{IsLawful};
-ghost use Rattle.sms_field.specs.AddressValue.{AddressValue, HasSpelling, AreSymbolsOf, alphanumeric};
-ghost use Rattle.sms_field.specs.Address.{symbols_by, address, address_octets};
+ghost use Rattle.std.specs.Prelude.{◌≡◌, ◌++◌, IfOk, IfErr, OnOk, OnErr};
+ghost use Rattle.sms_field.specs.Field.{IsLawful, IsSelfContained};
+ghost use Rattle.sms_field.specs.AddressValue.{HasSpelling};
+ghost use Rattle.sms_field.specs.Address.{address, address_octets};
+ghost use Rattle.sms_field.specs.Written.{AreAtMost, AreOctetsOf, AreReadBack};
 ghost use Rattle.sms_field.specs.declared.fault.FieldFault.TheVariants.{Short};
-ghost use Rattle.sms_field.specs.Reading.{Reads, IsRefused};
-ghost use Rattle.sms_field.specs.Answer.{Gives};
+ghost use Rattle.sms_field.specs.Reading.{Reads};
+ghost use Rattle.sms_field.specs.Answer.{Takes};
+ghost use Rattle.sms_field.specs.WholeAnswer.{IsRefusedBy, ReadsExactly};
 
+use crate::address_view::AddressView;
 use crate::cursor::Cursor;
-use crate::digits::{Digits, digits_at};
+use crate::digits::put_number;
 use crate::fault::FieldFault;
-use crate::name::{Name, name_at};
+use crate::name::put_name;
 use crate::refusal::Refusal;
 use crate::symbols::Symbols;
 use std::alloc::{AllocError, Global};
@@ -40,34 +43,17 @@ impl Model for Address {
 }
 
 /// The type of number of names.
-const ALPHANUMERIC: u8 = 5;
+pub(crate) const ALPHANUMERIC: u8 = 5;
 
-/// The symbols in so many semi-octets.
-#[tactic(auto, unfolding(crate::specs::Address::symbols_by))]
-fn symbols_at(
-    alloc: Global,
-    input: &mut Cursor,
-    type_of_number: u8,
-    count: u8,
-) -> Result<Symbols, Refusal<FieldFault>>
-    requires { count ≤ 20 }
-    ensures answer { Gives (λ s. s) result input.new.place input.new.rest.now ((symbols_by (type_of_number == alphanumeric) count).read input.old.place input.old.rest.now) }
-    ensures fits { IfOk result (λ s. AreSymbolsOf type_of_number s) }
-{
-    if type_of_number == ALPHANUMERIC {
-        let septets = name_at(alloc, input, count)?;
-        Ok(Symbols::Name(Name::new(septets)))
-    } else {
-        let values = digits_at(alloc, input, count)?;
-        Ok(Symbols::Digits(Digits::new(values)))
-    }
-}
-
-/// Does nothing: its contract says that an address is a lawful field, and that what is written is read back.
-#[tactic(auto, using(crate::specs::AddressLaws::address_lawful, crate::specs::AddressSpelling::address_again))]
+/// Does nothing: its contract says that an address is a lawful field that does not look at what
+/// follows it, and that it is written in at most 12 octets, which are read back.
+#[tactic(auto, using(crate::specs::AddressLengthLaws::address_few, crate::specs::AddressLaws::address_lawful, crate::specs::AddressLaws::address_self, crate::specs::AddressSpelling::address_are_octets, crate::specs::AddressSpelling::address_again))]
 pub fn address_laws()
+    ensures self_contained { IsSelfContained address }
+    ensures few { AreAtMost 12 HasSpelling address_octets }
+    ensures octets { AreOctetsOf HasSpelling address_octets }
     ensures lawful { IsLawful Short address }
-    ensures read_back { (value : AddressValue) (rest : List ℕ) → HasSpelling value → address.reads value (address_octets value) rest }
+    ensures read_back { AreReadBack address HasSpelling address_octets }
 {}
 
 impl Address {
@@ -91,47 +77,36 @@ impl Address {
         Ok(octets)
     }
 
-    /// Adds the octets of the address.
+    /// Adds the octets of the address; none where memory runs out.
     #[tactic(auto, unfolding(crate::specs::Address::address_octets))]
     pub fn write_to(&self, out: &mut Vec<u8>) -> Result<(), AllocError>
-        ensures { OnOk result (out.new.items ≡ out.old.items ++ address_octets self.now) }
+        ensures ok { OnOk result (out.new.items ≡ out.old.items ++ address_octets self.now) }
+        ensures err { OnErr result (out.new.items ≡ out.old.items) }
     {
-        out.push(self.symbols.length())?;
-        out.push(128 + 16 * self.type_of_number + self.plan)?;
-        self.symbols.write_to(out)
+        let length = self.symbols.length();
+        let kind = 128 + 16 * self.type_of_number + self.plan;
+        match &self.symbols {
+            Symbols::Digits(digits) => put_number(out, length, kind, digits.as_slice()),
+            Symbols::Name(name) => put_name(out, length, kind, name),
+        }
     }
 
     /// Reads an address at the front of the octets, and says how many it takes.
     pub fn read(alloc: Global, input: &[u8]) -> Result<(Address, usize), Refusal<FieldFault>>
         ensures found { IfOk result (λ x. Reads address x.0 input.now x.1) }
-        ensures refused { IfErr result (IsRefused (Reads address) address.reason Short input.now) }
+        ensures refused { IfErr result (IsRefusedBy address Short input.now) }
+        ensures exact { ReadsExactly address input.now result }
     {
-        let mut cursor = Cursor::new(input);
-        let address = Address::read_at(alloc, &mut cursor)?;
-        Ok((address, cursor.place))
+        let (view, used) = AddressView::read(input)?;
+        Ok((view.to_value(alloc)?, used))
     }
 
     /// Reads an address at a cursor.
-    #[tactic(auto, unfolding(crate::specs::Address::address))]
     pub fn read_at(alloc: Global, input: &mut Cursor) -> Result<Address, Refusal<FieldFault>>
-        ensures { Gives (λ a. a) result input.new.place input.new.rest.now (address.read input.old.place input.old.rest.now) }
+        ensures { Takes address input.old result input.new }
     {
-        let place = input.place;
-        let count = input.octet()?;
-        if count > 20 {
-            return Err(Refusal::At {
-                place,
-                why: FieldFault::AddressTooLong,
-            });
-        }
-        let kind = input.octet()?;
-        let type_of_number = kind / 16 % 8;
-        let symbols = symbols_at(alloc, input, type_of_number, count)?;
-        Ok(Address {
-            type_of_number,
-            plan: kind % 16,
-            symbols,
-        })
+        let view = AddressView::read_at(input)?;
+        Ok(view.to_value(alloc)?)
     }
 }
 

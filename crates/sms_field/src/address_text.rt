@@ -16,9 +16,10 @@ use crate::symbols::Symbols;
 use sms_text::{gsm_of, text_of_gsm};
 use std::alloc::{AllocError, Global};
 
-/// What stands behind a `+` at the front of a text.
+/// What stands after a `+` at the front of a text.
 pub fn international(text: &str) -> Option<&str>
-    ensures { MatchOption result ((rest : List ℕ) → chars text.now ≢ plus ∷ rest) (λ rest. chars text.now ≡ plus ∷ chars rest.now) }
+    ensures { MatchOption result ((rest : List ℕ) → chars text.now ≢ plus ∷ rest)
+        (λ rest. chars text.now ≡ plus ∷ chars rest.now) }
 {
     text.strip_prefix('+')
 }
@@ -31,18 +32,19 @@ pub fn digits_of_number(alloc: Global, text: &str) -> Result<Digits, AddressFaul
         return Err(AddressFault::BadDigit);
     };
     if values.len() > 20 {
-        return Err(AddressFault::TooLong);
+        return Err(AddressFault::AddressTooLong);
     }
     Ok(Digits::new(values))
 }
 
-/// The text of digits, behind a `+` where the type of number is 1.
+/// The text of digits, after a `+` where the type of number is 1.
 pub fn text_of_number(
     alloc: Global,
     type_of_number: u8,
     digits: &Digits,
 ) -> Result<String, AllocError>
-    ensures { IfOk result (λ text. chars (string_bytes text) ≡ sign type_of_number ++ text_of_digits digits.now) }
+    ensures { IfOk result (λ text.
+        chars (string_bytes text) ≡ sign type_of_number ++ text_of_digits digits.now) }
 {
     let mut text = String::new(alloc);
     if type_of_number == 1 {
@@ -82,7 +84,7 @@ fn name(alloc: Global, text: &str) -> Result<Address, AddressFault>
         return Err(AddressFault::BadDigit);
     };
     if septets.len() > 11 {
-        return Err(AddressFault::TooLong);
+        return Err(AddressFault::AddressTooLong);
     }
     Ok(Address {
         type_of_number: 5,
@@ -98,7 +100,7 @@ fn number_or_name(alloc: Global, text: &str) -> Result<Address, AddressFault>
     match digits_of_number(alloc, text) {
         Ok(digits) => Ok(number(0, digits)),
         Err(AddressFault::BadDigit) => name(alloc, text),
-        Err(AddressFault::TooLong) => Err(AddressFault::TooLong),
+        Err(AddressFault::AddressTooLong) => Err(AddressFault::AddressTooLong),
         Err(AddressFault::Memory) => Err(AddressFault::Memory),
     }
 }
@@ -116,7 +118,7 @@ impl Address {
         }
     }
 
-    /// The text of the address: its name, or its digits, behind a `+` where the type of number is 1.
+    /// The text of the address: its name, or its digits, after a `+` where the type of number is 1.
     #[tactic(auto, unfolding(crate::specs::AddressText::address_text))]
     pub fn to_text(&self, alloc: Global) -> Result<String, AllocError>
         ensures { IfOk result (λ text. chars (string_bytes text) ≡ address_text self.now) }

@@ -1,24 +1,19 @@
 //! The digits of an address: in octets, two an octet, and in texts.
 
-ghost use Rattle.std.specs.Prelude.{◌≡◌, ℕ, ◌+◌, ◌*◌, ◌<◌, ◌≤◌, List, ◌∷◌, ◌++◌, length, Some, None, IfOk, IfSome, MatchOption, OnOk, All, position, ◌==◌};
+ghost use Rattle.std.specs.Prelude.{◌≡◌, ℕ, ◌+◌, ◌*◌, ◌/◌, ◌<◌, ◌≤◌, List, ◌∷◌, ◌++◌, length, Some, None, IfOk, IfSome, MatchOption, OnOk, OnErr, All, vec_len, vec_capacity, position, ◌==◌};
 ghost use Rattle.std.specs.List.{AllByRecursion};
 ghost use Rattle.std.specs.Str.{chars};
 ghost use Rattle.std.specs.String.{string_bytes};
-ghost use Rattle.sms_field.specs.Field.{octet_by};
 ghost use Rattle.sms_field.specs.Digits.{AreDigits};
 ghost use Rattle.sms_field.specs.DigitText.{digit_characters, digit_of_character, character_of_digit, digits_of_text, text_of_digits};
-ghost use Rattle.sms_field.specs.DigitOctets.{low_digit, both_digits, digits, digit_octets};
-ghost use Rattle.sms_field.specs.declared.fault.FieldFault.TheVariants.{Short};
+ghost use Rattle.sms_field.specs.DigitOctets.{low_digit, both_digits, digit_octets};
 ghost use Rattle.std.specs.Prelude.{nat_eq};
 ghost use Rattle.std.specs.Cmp.Lexicographic.{pointwise};
 ghost use Rattle.std.specs.Cmp.Rules.{comparing, hashing};
 ghost use Rattle.std.specs.Hash as fed;
 ghost use Rattle.std.proofs.Common.{rules};
-ghost use Rattle.sms_field.specs.Answer.{Gives};
 
-use crate::cursor::Cursor;
 use crate::fault::FieldFault;
-use crate::refusal::Refusal;
 use std::alloc::{AllocError, Global};
 use std::hash::{Hash, Hasher};
 use std::marker::Model;
@@ -92,73 +87,57 @@ impl Digits {
     }
 }
 
-/// A digit in the low half of an octet.
-fn low_digit_at(input: &mut Cursor) -> Result<u8, Refusal<FieldFault>>
-    ensures { Gives (λ d. d) result input.new.place input.new.rest.now ((octet_by Short low_digit).read input.old.place input.old.rest.now) }
+/// The digit in the low half of an octet.
+pub fn low_digit_of(octet: u8) -> Result<u8, FieldFault>
+    ensures { result ≡ low_digit octet }
 {
-    let place = input.place;
-    let octet = input.octet()?;
     let low = octet % 16;
     if low < 15 {
         Ok(low)
     } else {
-        Err(Refusal::At {
-            place,
-            why: FieldFault::BadDigit,
-        })
+        Err(FieldFault::BadDigit)
     }
 }
 
-/// Two digits in an octet, the one in the low half first.
-pub fn both_digits_at(input: &mut Cursor) -> Result<(u8, u8), Refusal<FieldFault>>
-    ensures { Gives (λ d. d) result input.new.place input.new.rest.now ((octet_by Short both_digits).read input.old.place input.old.rest.now) }
+/// The digits in both halves of an octet, the low half first.
+pub fn both_digits_of(octet: u8) -> Result<(u8, u8), FieldFault>
+    ensures { result ≡ both_digits octet }
 {
-    let place = input.place;
-    let octet = input.octet()?;
     let (low, high) = (octet % 16, octet / 16);
     if low < 15 && high < 15 {
         Ok((low, high))
     } else {
-        Err(Refusal::At {
-            place,
-            why: FieldFault::BadDigit,
-        })
+        Err(FieldFault::BadDigit)
     }
 }
 
-/// The digits of an address, two an octet.
-pub fn digits_at(
-    alloc: Global,
-    input: &mut Cursor,
-    count: u8,
-) -> Result<Vec<u8>, Refusal<FieldFault>>
-    ensures { Gives (λ v. v.items) result input.new.place input.new.rest.now ((digits count).read input.old.place input.old.rest.now) }
-{
-    let mut digits = Vec::new(alloc);
-    for _ in 0..count / 2 {
-        let (low, high) = both_digits_at(input)?;
-        digits.push(low)?;
-        digits.push(high)?;
-    }
-    if count % 2 == 1 {
-        digits.push(low_digit_at(input)?)?;
-    }
-    Ok(digits)
-}
-
-/// Writes digits, two an octet.
-pub fn put_digits(out: &mut Vec<u8>, digits: &[u8]) -> Result<(), AllocError>
-    requires { All (λ digit. digit < 15) digits.now }
-    ensures { OnOk result (out.new.items ≡ out.old.items ++ digit_octets digits.now) }
+/// Writes digits, two an octet, where there is room for them.
+fn put_digits(out: &mut Vec<u8>, digits: &[u8])
+    requires digits { All (λ digit. digit < 15) digits.now }
+    requires room { vec_len out.old + (length digits.now + 1) / 2 ≤ vec_capacity out.old }
+    ensures { out.new.items ≡ out.old.items ++ digit_octets digits.now }
 {
     let mut rest = digits;
     while let [low, high, others @ ..] = rest {
-        out.push(16 * *high + *low)?;
+        out.push_reserved(16 * *high + *low);
         rest = others;
     }
     if rest.len() == 1 {
-        out.push(240 + rest[0])?;
+        out.push_reserved(240 + rest[0]);
     }
+}
+
+/// Adds two octets, and digits, two an octet.
+pub fn put_number(out: &mut Vec<u8>, first: u8, second: u8, digits: &[u8]) -> Result<(), AllocError>
+    requires { All (λ digit. digit < 15) digits.now }
+    ensures ok { OnOk result (out.new.items ≡ out.old.items ++
+        first ∷ second ∷ digit_octets digits.now) }
+    ensures err { OnErr result (out.new.items ≡ out.old.items) }
+{
+    out.reserve(2 + digits.len().div_ceil(2))?;
+    out.push_reserved(first);
+    out.push_reserved(second);
+    put_digits(out, digits);
     Ok(())
 }
 
@@ -195,8 +174,11 @@ fn character_of(digit: u8) -> char
 
 /// The digits of a text, or `None` where one of its characters is no digit.
 pub fn digits_of(alloc: Global, text: &str) -> Result<Option<Vec<u8>>, AllocError>
-    ensures exact { IfOk result (λ found. MatchOption found (digits_of_text (chars text.now) ≡ None) (λ digits. digits_of_text (chars text.now) ≡ Some digits.items)) }
-    ensures digits { IfOk result (λ found. IfSome found (λ digits. AllByRecursion (λ digit. digit < 15) digits.items)) }
+    ensures exact { IfOk result (λ found. MatchOption found
+        (digits_of_text (chars text.now) ≡ None)
+        (λ digits. digits_of_text (chars text.now) ≡ Some digits.items)) }
+    ensures digits { IfOk result (λ found. IfSome found
+        (λ digits. AllByRecursion (λ digit. digit < 15) digits.items)) }
 {
     let mut digits = Vec::new(alloc);
     for c in text.chars() {
@@ -211,7 +193,8 @@ pub fn digits_of(alloc: Global, text: &str) -> Result<Option<Vec<u8>>, AllocErro
 /// Adds the characters of digits to a text.
 pub fn push_digits(text: &mut String, digits: &[u8]) -> Result<(), AllocError>
     requires { All (λ digit. digit < 15) digits.now }
-    ensures { OnOk result (chars (string_bytes text.new) ≡ chars (string_bytes text.old) ++ text_of_digits digits.now) }
+    ensures { OnOk result (chars (string_bytes text.new) ≡
+        chars (string_bytes text.old) ++ text_of_digits digits.now) }
 {
     for digit in digits {
         text.push(character_of(*digit))?;

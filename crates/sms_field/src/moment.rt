@@ -3,6 +3,8 @@
 ghost use Rattle.std.specs.Prelude.{◌≡◌, ◌↔◌, ◌+◌, ◌*◌, ◌<◌, ◌*ℤ◌, ◌≤ℤ◌, pos, negsuc, IsSome, IfSome};
 ghost use Rattle.sms_field.specs.StampDate.{HasTwoDigits, number_in};
 ghost use Rattle.sms_field.specs.Moment.{MomentIs};
+ghost use Rattle.sms_field.specs.Stamp.{IsStamp};
+ghost use Rattle.sms_field.specs.Times.{stamp_octets, moment_of};
 ghost use Rattle.sms_field.specs.Stamping.{HasStamp, IsStampAt, zone_octet};
 
 use crate::calendar::{date_of, days_since_2000};
@@ -49,6 +51,8 @@ impl Stamp {
     pub fn at(seconds: u64, quarters: i8) -> Option<Stamp>
         ensures found { IsSome result ↔ HasStamp seconds quarters }
         ensures value { IfSome result (IsStampAt seconds quarters) }
+        ensures octets { quarters ≡ pos 0 → IfSome result (λ stamp. stamp ≡ stamp_octets seconds) }
+        ensures in_range { IfSome result IsStamp }
     {
         if quarters < -79 || quarters > 79 {
             return None;
@@ -74,21 +78,14 @@ impl Stamp {
     ///
     /// None where the stamp is no date, or the moment lies before 2000.
     pub fn moment(&self) -> Option<u64>
-        ensures { MomentIs self.now result }
+        ensures is { MomentIs self.now result }
+        ensures value { result ≡ moment_of self.now }
     {
         let date = self.date()?;
         let days = days_since_2000(date.year, date.month, date.day)?;
         let time = seconds_of_day(date.hour, date.minute, date.second);
         (days * 86_400 + time).checked_sub_signed(seconds_of_zone(date.quarters))
     }
-}
-
-/// The moment of the stamp of a moment: that moment, wherever it has a stamp.
-pub fn moment_of_stamp_at(seconds: u64, quarters: i8) -> Option<u64>
-    ensures found { IsSome result ↔ HasStamp seconds quarters }
-    ensures value { IfSome result (λ moment. moment ≡ seconds) }
-{
-    Stamp::at(seconds, quarters)?.moment()
 }
 
 #[cfg(test)]

@@ -1,19 +1,15 @@
 //! The name in an alphanumeric address.
 
-ghost use Rattle.std.specs.Prelude.{◌≡◌, ℕ, ◌≤◌, ◌++◌, length, IfOk, OnOk};
+ghost use Rattle.std.specs.Prelude.{◌≡◌, ℕ, ◌≤◌, ◌∷◌, ◌++◌, length, IfOk, OnOk, OnErr};
 ghost use Rattle.sms_text.specs.Bits.{AreSeptets};
-ghost use Rattle.sms_field.specs.Name.{IsName, name, name_octets};
+ghost use Rattle.sms_field.specs.Name.{IsName, name_octets};
 ghost use Rattle.std.specs.Prelude.{nat_eq};
 ghost use Rattle.std.specs.Cmp.Lexicographic.{pointwise};
 ghost use Rattle.std.specs.Cmp.Rules.{comparing, hashing};
 ghost use Rattle.std.specs.Hash as fed;
 ghost use Rattle.std.proofs.Common.{rules};
-ghost use Rattle.sms_field.specs.Answer.{Gives};
 
-use crate::cursor::Cursor;
-use crate::fault::FieldFault;
-use crate::refusal::Refusal;
-use sms_text::{pack, unpack};
+use sms_text::pack;
 use std::alloc::{AllocError, Global};
 use std::hash::{Hash, Hasher};
 use std::marker::Model;
@@ -87,20 +83,6 @@ impl Name {
     }
 }
 
-/// The septets of a name that lie whole in so many semi-octets.
-#[tactic(auto, unfolding(crate::specs::Name::name))]
-pub fn name_at(alloc: Global, input: &mut Cursor, count: u8) -> Result<Vec<u8>, Refusal<FieldFault>>
-    requires { count ≤ 20 }
-    ensures name { IfOk result (λ septets. IsName septets.items) }
-    ensures answer { Gives (λ septets. septets.items) result input.new.place input.new.rest.now ((name count).read input.old.place input.old.rest.now) }
-{
-    let octets = input.octets(usize::from(count).div_ceil(2))?;
-    match unpack(alloc, octets, 0, usize::from(4 * count / 7))? {
-        Some(septets) => Ok(septets),
-        None => unreachable!(),
-    }
-}
-
 /// The octets of a name.
 fn octets_of_name(alloc: Global, name: &Name) -> Result<Vec<u8>, AllocError>
     ensures { IfOk result (λ octets. octets.items ≡ name_octets name.now) }
@@ -109,10 +91,15 @@ fn octets_of_name(alloc: Global, name: &Name) -> Result<Vec<u8>, AllocError>
     Ok(octets)
 }
 
-/// Adds the octets of a name.
-pub fn put_name(alloc: Global, out: &mut Vec<u8>, name: &Name) -> Result<(), AllocError>
-    ensures { OnOk result (out.new.items ≡ out.old.items ++ name_octets name.now) }
+/// Adds two octets, and those of a name.
+pub fn put_name(out: &mut Vec<u8>, first: u8, second: u8, name: &Name) -> Result<(), AllocError>
+    ensures ok { OnOk result (out.new.items ≡ out.old.items ++
+        first ∷ second ∷ name_octets name.now) }
+    ensures err { OnErr result (out.new.items ≡ out.old.items) }
 {
-    let octets = octets_of_name(alloc, name)?;
+    let octets = octets_of_name(*out.allocator(), name)?;
+    out.reserve(2 + octets.len())?;
+    out.push_reserved(first);
+    out.push_reserved(second);
     out.extend_from_slice(&octets)
 }

@@ -1,27 +1,30 @@
 //! Addresses of the relay layer (3GPP TS 24.011, 8.2.5.1 and 8.2.5.2).
 
-ghost use Rattle.std.specs.Prelude.{◌≡◌, ◌≢◌, ◌<◌, ◌≤◌, ℕ, List, ◌++◌, Option, Ok, Err, IfOk, IfErr, OnOk};
+ghost use Rattle.std.specs.Prelude.{◌≡◌, ◌≢◌, ◌<◌, ◌++◌, Ok, Err, IfOk, IfErr, OnOk, OnErr};
 ghost use Rattle.std.specs.Str.{chars};
 ghost use Rattle.std.specs.String.{string_bytes};
-ghost use Rattle.sms_field.specs.Field.{IsLawful, octet_by};
-ghost use Rattle.sms_field.specs.RelayAddressValue.{RelayAddressValue, HasOptionalSpelling};
-ghost use Rattle.sms_field.specs.RelayAddress.{last_digits, relay_digits, relay_address, relay_address_octets, optional_address_octets};
+ghost use Rattle.sms_field.specs.Field.{IsLawful, IsSelfContained};
+ghost use Rattle.sms_field.specs.RelayAddressValue.{HasOptionalSpelling};
+ghost use Rattle.sms_field.specs.RelayAddress.{relay_address, relay_address_octets, optional_address_octets};
 ghost use Rattle.sms_field.specs.RelayAddressText.{relay_address_text, relay_number_of, relay_address_of_text};
+ghost use Rattle.sms_field.specs.Written.{AreAtMost, AreOctetsOf, AreReadBack};
 ghost use Rattle.sms_field.specs.declared.fault.FieldFault.TheVariants.{Short};
 ghost use Rattle.sms_field.specs.declared.fault.AddressFault.TheVariants.{Memory};
-ghost use Rattle.sms_field.specs.Reading.{Reads, IsRefused};
+ghost use Rattle.sms_field.specs.Reading.{Reads};
+ghost use Rattle.sms_field.specs.WholeAnswer.{IsRefusedBy, ReadsExactly};
 ghost use Rattle.std.specs.Prelude.{nat_eq, ◌&&◌};
 ghost use Rattle.std.specs.Cmp.Lexicographic.{pointwise};
 ghost use Rattle.std.specs.Cmp.Rules.{comparing, hashing};
 ghost use Rattle.std.specs.Hash as fed;
 ghost use Rattle.std.proofs.Common.{rules};
-ghost use Rattle.sms_field.specs.Answer.{Gives};
+ghost use Rattle.sms_field.specs.Answer.{Takes};
 
 use crate::address_text::{digits_of_number, international, text_of_number};
 use crate::cursor::Cursor;
-use crate::digits::{Digits, both_digits_at, put_digits};
+use crate::digits::{Digits, put_number};
 use crate::fault::{AddressFault, FieldFault};
 use crate::refusal::Refusal;
+use crate::relay_address_view::RpAddressView;
 use std::alloc::{AllocError, Global};
 use std::hash::{Hash, Hasher};
 use std::marker::Model;
@@ -76,48 +79,6 @@ impl Hash for RpAddress {
     }
 }
 
-/// The digits in the last octet.
-fn last_digits_at(alloc: Global, input: &mut Cursor) -> Result<Vec<u8>, Refusal<FieldFault>>
-    ensures { Gives (λ v. v.items) result input.new.place input.new.rest.now ((octet_by Short last_digits).read input.old.place input.old.rest.now) }
-{
-    let place = input.place;
-    let octet = input.octet()?;
-    let (low, high) = (octet % 16, octet / 16);
-    if low == 15 {
-        return Err(Refusal::At {
-            place,
-            why: FieldFault::BadDigit,
-        });
-    }
-    let mut digits = Vec::new(alloc);
-    digits.push(low)?;
-    if high < 15 {
-        digits.push(high)?;
-    }
-    Ok(digits)
-}
-
-/// The digits in so many octets.
-fn relay_digits_at(
-    alloc: Global,
-    input: &mut Cursor,
-    count: u8,
-) -> Result<Vec<u8>, Refusal<FieldFault>>
-    ensures { Gives (λ v. v.items) result input.new.place input.new.rest.now ((relay_digits count).read input.old.place input.old.rest.now) }
-{
-    let mut digits = Vec::new(alloc);
-    for _ in 0..count.saturating_sub(1) {
-        let (low, high) = both_digits_at(input)?;
-        digits.push(low)?;
-        digits.push(high)?;
-    }
-    if count > 0 {
-        let last = last_digits_at(alloc, input)?;
-        digits.extend_from_slice(&last)?;
-    }
-    Ok(digits)
-}
-
 /// A telephone number.
 fn number(
     type_of_number: u8,
@@ -136,12 +97,15 @@ fn number(
     }
 }
 
-/// Does nothing: its contract says that a relay address, or none, is a lawful field, and that what is written is
-/// read back.
-#[tactic(auto, using(crate::specs::RelayAddressLaws::relay_address_lawful, crate::specs::RelayAddressLaws::relay_address_again))]
+/// Does nothing: its contract says that a relay address, or none, is a lawful field that does not
+/// look at what follows it, and that it is written in at most 12 octets, which are read back.
+#[tactic(auto, using(crate::specs::AddressLengthLaws::relay_address_few, crate::specs::RelayAddressLaws::relay_address_lawful, crate::specs::RelayAddressLaws::relay_address_self, crate::specs::RelayAddressLaws::relay_address_are_octets, crate::specs::RelayAddressLaws::relay_address_again))]
 pub fn relay_address_laws()
+    ensures self_contained { IsSelfContained relay_address }
+    ensures few { AreAtMost 12 HasOptionalSpelling optional_address_octets }
+    ensures octets { AreOctetsOf HasOptionalSpelling optional_address_octets }
     ensures lawful { IsLawful Short relay_address }
-    ensures read_back { (value : Option RelayAddressValue) (rest : List ℕ) → HasOptionalSpelling value → relay_address.reads value (optional_address_octets value) rest }
+    ensures read_back { AreReadBack relay_address HasOptionalSpelling optional_address_octets }
 {}
 
 impl RpAddress {
@@ -156,7 +120,7 @@ impl RpAddress {
         }
     }
 
-    /// The text of the address: its digits, behind a `+` where the type of number is 1.
+    /// The text of the address: its digits, after a `+` where the type of number is 1.
     #[tactic(auto, unfolding(crate::specs::RelayAddressText::relay_address_text))]
     pub fn to_text(&self, alloc: Global) -> Result<String, AllocError>
         ensures { IfOk result (λ text. chars (string_bytes text) ≡ relay_address_text self.now) }
@@ -175,7 +139,7 @@ impl RpAddress {
         })
     }
 
-    /// The octets of the address: the number of octets behind, the type octet with bit 7 set, and the digits.
+    /// The octets of the address: the number of octets that follow, the type octet with bit 7 set, and the digits.
     pub fn write(&self, alloc: Global) -> Result<Vec<u8>, AllocError>
         ensures { IfOk result (λ octets. octets.items ≡ relay_address_octets self.now) }
     {
@@ -184,15 +148,16 @@ impl RpAddress {
         Ok(octets)
     }
 
-    /// Adds the octets of the address.
+    /// Adds the octets of the address; none where memory runs out.
     #[tactic(auto, unfolding(crate::specs::RelayAddress::relay_address_octets))]
     pub fn write_to(&self, out: &mut Vec<u8>) -> Result<(), AllocError>
-        ensures { OnOk result (out.new.items ≡ out.old.items ++ relay_address_octets self.now) }
+        ensures ok { OnOk result (out.new.items ≡ out.old.items ++ relay_address_octets self.now) }
+        ensures err { OnErr result (out.new.items ≡ out.old.items) }
     {
         let digits = self.digits.as_slice();
-        out.push((digits.len() as u8).div_ceil(2) + 1)?;
-        out.push(128 + 16 * self.type_of_number + self.plan)?;
-        put_digits(out, digits)
+        let length = (digits.len() as u8).div_ceil(2) + 1;
+        let kind = 128 + 16 * self.type_of_number + self.plan;
+        put_number(out, length, kind, digits)
     }
 
     /// Reads an address, or none where the length octet is 0, at the front of the octets, and says how many octets
@@ -202,39 +167,22 @@ impl RpAddress {
         input: &[u8],
     ) -> Result<(Option<RpAddress>, usize), Refusal<FieldFault>>
         ensures found { IfOk result (λ x. Reads relay_address x.0 input.now x.1) }
-        ensures refused { IfErr result (IsRefused (Reads relay_address) relay_address.reason Short input.now) }
+        ensures refused { IfErr result (IsRefusedBy relay_address Short input.now) }
+        ensures exact { ReadsExactly relay_address input.now result }
     {
-        let mut cursor = Cursor::new(input);
-        let address = RpAddress::read_at(alloc, &mut cursor)?;
-        Ok((address, cursor.place))
+        let (view, used) = RpAddressView::read(input)?;
+        Ok((RpAddressView::some_to_value(alloc, &view)?, used))
     }
 
     /// Reads an address, or none, at a cursor.
-    #[tactic(auto, unfolding(crate::specs::RelayAddress::relay_address, crate::specs::RelayAddress::relay_part))]
     pub fn read_at(
         alloc: Global,
         input: &mut Cursor,
     ) -> Result<Option<RpAddress>, Refusal<FieldFault>>
-        ensures { Gives (λ a. a) result input.new.place input.new.rest.now (relay_address.read input.old.place input.old.rest.now) }
+        ensures { Takes relay_address input.old result input.new }
     {
-        let place = input.place;
-        let count = input.octet()?;
-        if count > 11 {
-            return Err(Refusal::At {
-                place,
-                why: FieldFault::AddressTooLong,
-            });
-        }
-        if count == 0 {
-            return Ok(None);
-        }
-        let kind = input.octet()?;
-        let values = relay_digits_at(alloc, input, count - 1)?;
-        Ok(Some(RpAddress {
-            type_of_number: kind / 16 % 8,
-            plan: kind % 16,
-            digits: Digits::new(values),
-        }))
+        let view = RpAddressView::read_at(input)?;
+        Ok(RpAddressView::some_to_value(alloc, &view)?)
     }
 }
 

@@ -3,8 +3,9 @@
 ghost use Rattle.std.specs.Prelude.{◌≡◌, ◌↔◌, ◌<◌, ◌/◌, IsSome, IfSome, IfOk, IfErr};
 ghost use Rattle.sms_field.specs.Field.{IsLawful};
 ghost use Rattle.sms_field.specs.declared.fault.FieldFault.TheVariants.{Short};
-ghost use Rattle.sms_field.specs.Reading.{Reads, IsRefused};
-ghost use Rattle.sms_field.specs.Answer.{Gives};
+ghost use Rattle.sms_field.specs.Reading.{Reads};
+ghost use Rattle.sms_field.specs.Answer.{Sees};
+ghost use Rattle.sms_field.specs.WholeAnswer.{IsFaultOf, SeesExactly};
 ghost use Rattle.sms_field.specs.Stamp.{stamp, IsStamp};
 ghost use Rattle.sms_field.specs.StampDate.{HasTwoDigits, number_in, quarters_in, date_in, IsDate};
 
@@ -12,7 +13,7 @@ use crate::bit::has_bit;
 use crate::calendar::days_since_2000;
 use crate::cursor::Cursor;
 use crate::fault::FieldFault;
-use crate::refusal::{Reason, Refusal};
+use crate::refusal::{Fault, Reason};
 use std::marker::Model;
 
 /// A time stamp: seven octets, kept as they came.
@@ -127,23 +128,24 @@ impl Stamp {
     }
 
     /// Reads a stamp at the front of the octets, and says how many it takes.
-    pub fn read(input: &[u8]) -> Result<(Stamp, usize), Refusal<FieldFault>>
+    pub fn read(input: &[u8]) -> Result<(Stamp, usize), Fault<FieldFault>>
         ensures found { IfOk result (λ x. Reads (stamp Short) x.0 input.now x.1) }
-        ensures refused { IfErr result (IsRefused (Reads (stamp Short)) (stamp Short).reason Short input.now) }
+        ensures refused { IfErr result (IsFaultOf (stamp Short) Short input.now) }
+        ensures exact { SeesExactly (λ stamp. stamp) (stamp Short) input.now result }
         ensures lawful { IsLawful Short (stamp Short) }
     {
         let mut cursor = Cursor::new(input);
         let stamp = Stamp::read_at(&mut cursor)?;
-        Ok((stamp, cursor.place))
+        Ok((stamp, cursor.place()))
     }
 
     /// Reads a stamp at a cursor.
-    pub fn read_at<W: Reason>(input: &mut Cursor) -> Result<Stamp, Refusal<W>>
+    pub fn read_at<W: Reason>(input: &mut Cursor) -> Result<Stamp, Fault<W>>
         ensures in_range { IfOk result IsStamp }
-        ensures read { Gives (λ s. s) result input.new.place input.new.rest.now ((stamp W.short).read input.old.place input.old.rest.now) }
+        ensures read { Sees (stamp W.short) input.old result input.new }
     {
         let mut octets = [0; 7];
-        octets.copy_from_slice(input.octets(7)?);
+        octets.copy_from_slice(input.take_octets(7)?);
         Ok(Stamp::new(octets))
     }
 }

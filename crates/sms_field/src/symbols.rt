@@ -1,10 +1,10 @@
 //! What stands in an address: digits or a name.
 
-ghost use Rattle.std.specs.Prelude.{◌≡◌, ◌++◌, IfOk, OnOk};
-ghost use Rattle.sms_field.specs.Address.{symbols_length, symbols_octets};
+ghost use Rattle.std.specs.Prelude.{◌≡◌, IfOk};
+ghost use Rattle.sms_field.specs.Address.{symbols_length};
 
-use crate::digits::{Digits, put_digits};
-use crate::name::{Name, put_name};
+use crate::digits::Digits;
+use crate::name::Name;
 use std::alloc::{AllocError, Global};
 
 /// The digits of an address, or the name where its type of number is 5, alphanumeric.
@@ -22,16 +22,6 @@ impl Symbols {
         match self {
             Symbols::Digits(digits) => digits.as_slice().len() as u8,
             Symbols::Name(name) => (7 * name.as_slice().len() as u8).div_ceil(4),
-        }
-    }
-
-    /// Adds the octets of the symbols.
-    pub(crate) fn write_to(&self, out: &mut Vec<u8>) -> Result<(), AllocError>
-        ensures { OnOk result (out.new.items ≡ out.old.items ++ symbols_octets self.now) }
-    {
-        match self {
-            Symbols::Digits(digits) => put_digits(out, digits.as_slice()),
-            Symbols::Name(name) => put_name(*out.allocator(), out, name),
         }
     }
 

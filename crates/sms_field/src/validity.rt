@@ -1,6 +1,7 @@
 //! Validity periods (3GPP TS 23.040, 9.2.3.12).
 
 ghost use Rattle.std.specs.Prelude.{◌≡◌, ◌<◌, ◌^◌};
+ghost use Rattle.sms_field.specs.Times.{end_of};
 ghost use Rattle.sms_field.specs.Validity.{relative_seconds, EndIs};
 
 use crate::stamp::Stamp;
@@ -49,7 +50,8 @@ impl Validity {
     /// Moments are seconds from 2000-01-01 00:00:00 UTC.
     pub fn ends(&self, accepted: u64) -> Result<u64, ValidityFault>
         requires { accepted < 2 ^ 63 }
-        ensures { EndIs self.now accepted result }
+        ensures is { EndIs self.now accepted result }
+        ensures value { result ≡ end_of self.now accepted }
     {
         match self {
             Validity::Absent => Ok(accepted + DEFAULT_PERIOD),

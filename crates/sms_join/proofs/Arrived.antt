@@ -4,7 +4,7 @@ use Rattle.std.proofs.lemmas.Bool.{eqb-true, eqb-false, and_parts, or_right, and
 use Rattle.sms_join.specs.declared.key.Key.{Key}
 use Rattle.sms_join.specs.Key.{same_key}
 use Rattle.sms_join.specs.Joiner.{is_among}
-use Rattle.sms_join.specs.Arrivals.{Arrival, has_piece, has_pieces, is_done, completed, open_pieces, is_listed}
+use Rattle.sms_join.specs.Arrivals.{Arrival, has_text, has_piece, has_pieces, is_done, completed, open_pieces, is_listed}
 use Rattle.sms_join.proofs.SameKeys.{same_key_refl}
 
 pub or_absorbs : (x y : Bool) → (x ≡ true → y ≡ true) → (x || y) ≡ y
@@ -52,11 +52,6 @@ pub open_pieces-same : (size : ℕ → ℕ) (all all' : List Arrival) (bs : List
     → ((t : ℕ) → is_done size all t ≡ is_done size all' t) → open_pieces size all bs ≡ open_pieces size all' bs
 open_pieces-same size all all' [] h = refl
 open_pieces-same size all all' (b ∷ bs) h = rw (h b.text, open_pieces-same size all all' bs h) refl
-
--- some piece of the text has arrived
-abbrev pub has_text : List Arrival → ℕ → Bool
-has_text [] t = false
-has_text (a ∷ past) t = eqb a.text t || has_text past t
 
 -- a completed text has arrived whole, and some piece of it is among the arrivals
 pub listed_done : (size : ℕ → ℕ) (past : List Arrival) (t : ℕ) → is_listed (completed size past) t ≡ true

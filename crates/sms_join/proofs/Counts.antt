@@ -5,7 +5,9 @@ use Rattle.sms_join.specs.declared.key.Key.{Key}
 use Rattle.sms_join.specs.Key.{same_key, maximum_of}
 use Rattle.sms_join.specs.Piece.{Piece}
 use Rattle.sms_join.specs.Sets.{has, has_all, without, units_upto}
-use Rattle.sms_join.specs.Joiner.{Joiner, is_among, is_repeat, is_whole, has_room, decided, answer, answered, offered, offered_all, new_joiner}
+use Rattle.sms_join.specs.Joiner.{Joiner, is_among, is_repeat, is_whole, has_room, decided, answer, answered, offered, new_joiner}
+use Rattle.sms_join.specs.Aging.{is_old, young, aged}
+use Rattle.sms_join.specs.Acts.{Act, Brings, Ages, brought, acted_all}
 use Rattle.sms_join.specs.Counts.{count_of, IsInSet, AreInSets, WholeByCount}
 use Rattle.sms_join.proofs.SameKeys.{same_key_refl, same_key_true}
 
@@ -135,14 +137,37 @@ offer_distinct open_max remembered j p is h k = go (is_repeat j p) (is_whole j p
     go false false true e = one_more_distinct p j.kept k is (or_parts (is_among j.finished p.key) (has j.kept p.key p.sequence) e).1 (h k)
     go false false false e = h k
 
-all_distinct : (open_max remembered : ℕ) (ps : List Piece) → AreInSets ps → (k : Key) → AreDistinct (offered_all open_max remembered new_joiner ps).kept k (maximum_of k)
-unfolding new_joiner
+has-none_young : (old : Key → Bool) (ps : List Piece) (k : Key) (n : ℕ) → has ps k n ≡ false → has (young old ps) k n ≡ false
+has-none_young old [] k n h = refl
+has-none_young old (p ∷ ps) k n h =
+    let q = or_parts (same_key p.key k && eqb p.sequence n) (has ps k n) h in
+    go (old p.key) q.0 (has-none_young old ps k n q.1)
+  where
+    go : (b : Bool) → (same_key p.key k && eqb p.sequence n) ≡ false → has (young old ps) k n ≡ false
+        → has (cond b (young old ps) (p ∷ young old ps)) k n ≡ false
+    go true e ih = ih
+    go false e ih = rw (e, ih) refl
+
+distinct_young : (old : Key → Bool) (ps : List Piece) (k : Key) (n : ℕ) → AreDistinct ps k n → AreDistinct (young old ps) k n
+distinct_young old [] k n h = tt
+distinct_young old (p ∷ ps) k n h = go (old p.key) (distinct_young old ps k n h.1)
+  where
+    go : (b : Bool) → AreDistinct (young old ps) k n → AreDistinct (cond b (young old ps) (p ∷ young old ps)) k n
+    go true ih = ih
+    go false ih = ((λ e. let q = h.0 e in (q.0, q.1, has-none_young old ps k p.sequence q.2)), ih)
+
+all_distinct : (open_max remembered : ℕ) (acts : List (Act Piece)) → AreInSets (brought acts) → (k : Key)
+    → AreDistinct (acted_all open_max remembered new_joiner acts).kept k (maximum_of k)
+unfolding new_joiner aged
 all_distinct open_max remembered [] is k = tt
-all_distinct open_max remembered (p ∷ ps) is k =
-    offer_distinct open_max remembered (offered_all open_max remembered new_joiner ps) p is.0 (all_distinct open_max remembered ps is.1) k
+all_distinct open_max remembered (Brings p ∷ acts) is k =
+    offer_distinct open_max remembered (acted_all open_max remembered new_joiner acts) p is.0 (all_distinct open_max remembered acts is.1) k
+all_distinct open_max remembered (Ages now ∷ acts) is k =
+    distinct_young (is_old now (acted_all open_max remembered new_joiner acts).kept) (acted_all open_max remembered new_joiner acts).kept k (maximum_of k)
+    (all_distinct open_max remembered acts is k)
 
 pub whole_by_count : WholeByCount
-whole_by_count open_max remembered p ps is new =
-    whole_if_many (offered_all open_max remembered new_joiner ps) p
-    (subst (λ n. AreDistinct (offered_all open_max remembered new_joiner ps).kept p.key n) (sym is.0.maximum) (all_distinct open_max remembered ps is.1 p.key))
+whole_by_count open_max remembered p acts is new =
+    whole_if_many (acted_all open_max remembered new_joiner acts) p
+    (subst (λ n. AreDistinct (acted_all open_max remembered new_joiner acts).kept p.key n) (sym is.0.maximum) (all_distinct open_max remembered acts is.1 p.key))
     is.0.from_one is.0.within new

@@ -5,10 +5,10 @@ use Rattle.sms_join.specs.declared.key.Key.{Key}
 use Rattle.sms_join.specs.Key.{same_key}
 use Rattle.sms_join.specs.Sets.{has, units_at, without}
 use Rattle.sms_join.specs.Joiner.{is_among}
-use Rattle.sms_join.specs.Arrivals.{Arrival, Texts, AllOf, has_piece, is_done, completed, open_pieces, is_listed}
+use Rattle.sms_join.specs.Arrivals.{Arrival, has_text, Texts, AllOf, has_piece, is_done, completed, open_pieces, is_listed}
 use Rattle.sms_join.specs.Joining.{is_clear}
 use Rattle.sms_join.proofs.SameKeys.{same_key_refl, same_key_true}
-use Rattle.sms_join.proofs.Arrived.{or_absorbs, has_text, listed_done, listed-of_take}
+use Rattle.sms_join.proofs.Arrived.{or_absorbs, listed_done, listed-of_take}
 
 -- what the premise says of each text with the key of a
 pub record Clear (remembered : ℕ) (size : ℕ → ℕ) (all : List Arrival) (t : ℕ) : Type 0 where

@@ -6,14 +6,17 @@ use Rattle.sms_join.specs.declared.key.Key.{Key}
 use Rattle.sms_join.specs.Piece.{Piece}
 use Rattle.sms_join.specs.Sets.{has, has_all, units_at, units_upto}
 use Rattle.sms_join.specs.Joiner.{Joiner, Repeat, Kept, Finished, TooManyOpen, is_among, answer, answered, offered, decided, is_repeat, is_whole, has_room, new_joiner}
+use Rattle.sms_join.specs.Aging.{is_old}
+use Rattle.sms_join.specs.Acts.{Act, Brings, Ages}
 use Rattle.sms_join.specs.Pieces.{finished_now}
 use Rattle.sms_join.specs.Arrivals.{Arrival, Texts, has_piece, has_pieces, is_done, completed, open_pieces, is_listed, IsOf, AllOf, units_of, whole_text}
-use Rattle.sms_join.specs.Joining.{is_clear, is_recent, HoldsOpen, Delivers, Whole, Nothing, JoinsOne, joined, delivered, AllInOrder, JoinsInOrder}
+use Rattle.sms_join.specs.Joining.{is_clear, is_recent, HoldsOpen, Delivers, Whole, Nothing, JoinsOne, joined, counting, delivered, AllInOrder, JoinsInOrder}
 use Rattle.sms_join.proofs.SameKeys.{same_key_refl}
 use Rattle.sms_join.proofs.Arrived.{has_piece-of_all, is_done-other, is_done-repeat, open_pieces-same, is_among-listed}
+use Rattle.sms_join.proofs.Aging.{all_remaining, ages_one}
 use Rattle.sms_join.proofs.Held.{Around, held_same, held_units, held_without, not_remembered}
 
-repeated : (open_max remembered : ℕ) (x : Texts) (past : List Arrival) (a : Arrival) (j : Joiner)
+pub repeated : (open_max remembered : ℕ) (x : Texts) (past : List Arrival) (a : Arrival) (j : Joiner)
     → AllOf x past → IsOf x a → is_clear remembered x.size past past a ≡ true → is_recent remembered x.size past a ≡ true
     → HoldsOpen remembered x past j → has_piece past a.text a.piece.sequence ≡ true → answer open_max j a.piece ≡ Repeat
 unfolding answer decided is_repeat is_recent
@@ -34,10 +37,10 @@ repeated open_max remembered x past a j o i clear recent v seen =
         or_right (is_among j.finished a.piece.key) (has j.kept a.piece.key a.piece.sequence) m'
 
 -- a new piece of a text that is not done
-record New (open_max remembered : ℕ) (x : Texts) (past : List Arrival) (a : Arrival) (j : Joiner) : Type 0 where
-  fresh : is_repeat j a.piece ≡ false
-  whole : is_whole j a.piece ≡ is_done x.size (a ∷ past) a.text
-  units : is_done x.size (a ∷ past) a.text ≡ true → units_upto (a.piece ∷ j.kept) a.piece.key a.piece.maximum ≡ whole_text x a.text
+pub record New (open_max remembered : ℕ) (x : Texts) (past : List Arrival) (a : Arrival) (j : Joiner) : Type 0 where
+  pub fresh : is_repeat j a.piece ≡ false
+  pub whole : is_whole j a.piece ≡ is_done x.size (a ∷ past) a.text
+  pub units : is_done x.size (a ∷ past) a.text ≡ true → units_upto (a.piece ∷ j.kept) a.piece.key a.piece.maximum ≡ whole_text x a.text
 
 units_upto_are : (ps : List Piece) (k : Key) (x : Texts) (bs : List Arrival) (t n : ℕ)
     → ((i : ℕ) → has_piece bs t i ≡ true → units_at ps k i ≡ x.units t i)
@@ -47,7 +50,7 @@ units_upto_are ps k x bs t (suc n) right h =
     let p = and_parts (has_piece bs t (suc n)) (has_pieces bs t n) h in
     rw (units_upto_are ps k x bs t n right p.1, right (suc n) p.0) refl
 
-new_piece : (open_max remembered : ℕ) (x : Texts) (past : List Arrival) (a : Arrival) (j : Joiner)
+pub new_piece : (open_max remembered : ℕ) (x : Texts) (past : List Arrival) (a : Arrival) (j : Joiner)
     → AllOf x past → IsOf x a → is_clear remembered x.size past past a ≡ true
     → HoldsOpen remembered x past j → has_piece past a.text a.piece.sequence ≡ false → is_done x.size past a.text ≡ false
     → New open_max remembered x past a j
@@ -213,9 +216,13 @@ joins_one open_max remembered x past a j o v i clear recent taken =
     let s = join_one open_max remembered x past a j o v i clear recent taken in
     (s.state, s.delivers)
 
-all_of : (open_max remembered : ℕ) (x : Texts) (past : List Arrival) → AllInOrder open_max remembered x past → AllOf x past
+all_of : (open_max remembered : ℕ) (x : Texts) (acts : List (Act Arrival)) → AllInOrder open_max remembered x acts
+    → AllOf x (counting open_max remembered x.size acts)
 all_of open_max remembered x [] h = h
-all_of open_max remembered x (a ∷ past) h = (h.0.is_of, all_of open_max remembered x past h.1)
+all_of open_max remembered x (Brings a ∷ acts) h = (h.0.is_of, all_of open_max remembered x acts h.1)
+all_of open_max remembered x (Ages now ∷ acts) h =
+    all_remaining x (is_old now (joined open_max remembered acts).kept) (counting open_max remembered x.size acts) (counting open_max remembered x.size acts)
+    (all_of open_max remembered x acts h)
 
 delivers_more : (open_max : ℕ) (x : Texts) (past : List Arrival) (a : Arrival) (j : Joiner) → Delivers open_max x past a j
     → finished_now (answer open_max j a.piece) ++ map (whole_text x) (completed x.size past) ≡ map (whole_text x) (completed x.size (a ∷ past))
@@ -223,19 +230,26 @@ delivers_more open_max x past a j (Whole e list) = rw (e, list) refl
 delivers_more open_max x past a j (Nothing e list) = rw (e, list) refl
 
 pub joins_in_order : JoinsInOrder
-unfolding joined new_joiner
+unfolding new_joiner
 joins_in_order open_max remembered x [] h = (record { kept = refl; finished = rw (take-nil remembered) refl }, refl)
   where
     take-nil : (n : ℕ) → take n (let l : List ℕ = [] in l) ≡ []
     take-nil zero = refl
     take-nil (suc n) = refl
-joins_in_order open_max remembered x (a ∷ past) h = go (joins_in_order open_max remembered x past h.1)
+joins_in_order open_max remembered x (Ages now ∷ acts) h =
+    let ih = joins_in_order open_max remembered x acts h in
+    let s = ages_one now remembered x (counting open_max remembered x.size acts) (joined open_max remembered acts) (all_of open_max remembered x acts h) ih.0 in
+    (s.holds, ih.1 ∙ ap (map (whole_text x)) (sym s.completed))
+joins_in_order open_max remembered x (Brings a ∷ acts) h = go (joins_in_order open_max remembered x acts h.1)
   where
-    go : HoldsOpen remembered x past (joined open_max remembered past)
-        × (delivered open_max remembered past ≡ map (whole_text x) (completed x.size past))
-        → HoldsOpen remembered x (a ∷ past) (joined open_max remembered (a ∷ past))
-        × (delivered open_max remembered (a ∷ past) ≡ map (whole_text x) (completed x.size (a ∷ past)))
+    past : List Arrival
+    past = counting open_max remembered x.size acts
+
+    go : HoldsOpen remembered x past (joined open_max remembered acts)
+        × (delivered open_max remembered acts ≡ map (whole_text x) (completed x.size past))
+        → HoldsOpen remembered x (a ∷ past) (joined open_max remembered (Brings a ∷ acts))
+        × (delivered open_max remembered (Brings a ∷ acts) ≡ map (whole_text x) (completed x.size (a ∷ past)))
     go ih =
-        let s = join_one open_max remembered x past a (joined open_max remembered past) (all_of open_max remembered x past h.1)
+        let s = join_one open_max remembered x past a (joined open_max remembered acts) (all_of open_max remembered x acts h.1)
         ih.0 h.0.is_of h.0.clear h.0.recent h.0.taken in
-        (s.state, rw ih.1 (delivers_more open_max x past a (joined open_max remembered past) s.delivers))
+        (s.state, rw ih.1 (delivers_more open_max x past a (joined open_max remembered acts) s.delivers))

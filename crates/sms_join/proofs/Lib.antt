@@ -3,15 +3,21 @@ pub mod Sets
 pub mod Counts
 pub mod Pieces
 pub mod Same
+pub mod Young
 pub mod History
 pub mod Arrived
 pub mod Held
+pub mod Aging
 pub mod Joining
+pub mod Rooms
+pub mod Turned
+pub mod Completion
 pub mod SetPieces
 pub mod Rising
 pub mod Moving
 pub mod OneSet
 pub mod Outcomes
+pub mod AgedSets
 pub mod CutLaws
 pub mod GroupLaws
 pub mod OneCut
@@ -23,3 +29,4 @@ pub mod SegmentTexts
 pub mod Sendable
 pub mod Places
 pub mod Offers
+pub mod Finishing

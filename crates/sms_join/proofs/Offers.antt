@@ -7,14 +7,15 @@ use Rattle.std.specs.List.{insert, remove, position}
 use Rattle.std.specs.Str.{chars}
 use Rattle.std.specs.String.{string_bytes}
 use Rattle.sms_field.specs.AddressValue.{AddressValue}
-use Rattle.sms_tpdu.specs.declared.concat.Concat.{Concat}
+use Rattle.sms_tpdu.specs.declared.user_data.concat.Concat.{Concat}
 use Rattle.sms_join.specs.declared.key.Key.{Key}
 use Rattle.sms_join.specs.declared.units.Units.{Units}
 use Rattle.sms_join.specs.declared.offer.Offer.{Offer}
 use Rattle.sms_join.specs.declared.offer.Offer.TheVariants as offers
 use Rattle.sms_join.specs.declared.offer.OfferFault.TheVariants as faults
 use Rattle.sms_join.specs.Key.{same_key, maximum_of}
-use Rattle.sms_join.specs.Piece.{Piece, piece_of, key_of, size_of, IsPlace}
+use Rattle.sms_join.specs.Piece.{Piece, piece_of, key_of, size_of}
+use Rattle.sms_tpdu.specs.UserData.ConcatenationFound.{IsPlace}
 use Rattle.sms_join.specs.Sets.{is_open}
 use Rattle.sms_join.specs.Joiner.{Joiner, Answer, Repeat, Kept, Finished, TooManyOpen, is_among, is_repeat, answer, offered}
 use Rattle.sms_join.specs.Same.{IsSame}
@@ -146,7 +147,7 @@ module _ (open_max remembered : ℕ) (ss : List SetValue) (ks : List Key) (i : �
   pub set_goes : AreOpen (remove (set ss i t) i)
   set_goes = subst AreOpen (sym (remove_set ss i t)) (are_open_without (take i ss) s (drop (suc i) ss) (subst AreOpen split o))
 
-  pub set_finishes : is_in p.sequence s.sequences ≡ false → eqb (suc (length s.sequences)) (maximum_of s.key) ≡ true → t ≡ with_piece s p.sequence p.units
+  pub set_finishes : is_in p.sequence s.sequences ≡ false → eqb (suc (length s.sequences)) (maximum_of s.key) ≡ true → t ≡ s
       → (answer open_max (joiner_of ss ks) p ≡ Finished (with_piece s p.sequence p.units).units)
       × IsSame (joiner_of (remove (set ss i t) i) (take remembered (t.key ∷ ks))) (offered open_max remembered (joiner_of ss ks) p)
   set_finishes new full e =
@@ -222,14 +223,6 @@ module _ (m : ℕ) (l : LastKeysValue) (ss : List SetValue) (o : AreOpen ss) (p 
       → answer v.open_max v.holds p ≡ TooManyOpen) view
       (λ fresh closed more full. too_many ss l.keys p place fresh (none_open ss p.key o closed) m o (ne_eqb _ _ more) full)
 
-pub taken_out : (s t v : SetValue) (i n : ℕ) (u : Units) → t ≡ record s { sequences = insert s.sequences i n; units = insert s.units i u }
-    → v ≡ record t { sequences = remove t.sequences i; units = remove t.units i } → i ≤ length s.sequences → length s.units ≡ length s.sequences → v ≡ s
-taken_out s t v i n u e f h g =
-    let a : remove (insert s.sequences i n) i ≡ s.sequences = remove_inserted s.sequences i n h in
-    let b : remove (insert s.units i u) i ≡ s.units = remove_inserted s.units i u (omega arith) in
-    f ∙ (ap (λ (w : SetValue). record w { sequences = remove w.sequences i; units = remove w.units i }) e
-    ∙ (λ j. record s { sequences = a j; units = b j }))
-
 -- what a set says, by its answer
 
 pub set_repeat : (s t : SetValue) (n m : ℕ) (u : Units) (o : Offer) → SetSays s n u t (Ok o) → o ≡ offers.Repeat → n ≡ m
@@ -244,10 +237,10 @@ set_kept s t n m u o h e f =
     (subst (λ (r : Offer). SetSays s n u t (Ok r)) e h)
 
 pub set_finished : (s t : SetValue) (n m : ℕ) (u : Units) (o : Offer) (text : _) → SetSays s n u t (Ok o) → o ≡ offers.Finished text → n ≡ m
-    → (is_in m s.sequences ≡ false) × (eqb (suc (length s.sequences)) (maximum_of s.key) ≡ true) × (t ≡ with_piece s m u)
+    → (is_in m s.sequences ≡ false) × (eqb (suc (length s.sequences)) (maximum_of s.key) ≡ true) × (t ≡ s)
     × (chars (string_bytes text) ≡ text_of_segments (with_piece s m u).units)
 set_finished s t n m u o text h e f =
-    subst (λ (i : ℕ). (is_in i s.sequences ≡ false) × (eqb (suc (length s.sequences)) (maximum_of s.key) ≡ true) × (t ≡ with_piece s i u)
+    subst (λ (i : ℕ). (is_in i s.sequences ≡ false) × (eqb (suc (length s.sequences)) (maximum_of s.key) ≡ true) × (t ≡ s)
     × (chars (string_bytes text) ≡ text_of_segments (with_piece s i u).units)) f
     (subst (λ (r : Offer). SetSays s n u t (Ok r)) e h)
 

@@ -133,6 +133,19 @@ older p ps k h = rw h (go (same_key p.key k))
     go true = refl
     go false = refl
 
+-- when a set was opened
+pub opened_of : (ls : List SetValue) (s : SetValue) (rs : List SetValue) → has_set ls s.key ≡ false → has_set rs s.key ≡ false
+    → length s.units ≡ length s.sequences → 0 < length s.sequences → opened_at (all_pieces (ls ++ s ∷ rs)) s.key ≡ s.opened
+opened_of ls s rs before behind as_many some =
+    ap (λ l. opened_at l s.key) (all-append ls (s ∷ rs))
+    ∙ (opened-append (all_pieces ls) (pieces_in s ++ all_pieces rs) s.key
+    ∙ (rw (open-append (pieces_in s) (all_pieces rs) s.key, own) refl
+    ∙ (opened-append (pieces_in s) (all_pieces rs) s.key
+    ∙ (rw (others_closed rs s.key behind) (own_opened s.key s.opened s.sequences s.units own)))))
+  where
+    own : is_open (pieces_in s) s.key ≡ true
+    own = own_open s.key s.opened s.sequences s.units as_many some
+
 -- one more piece of a set
 module _ (ls : List SetValue) (s : SetValue) (rs : List SetValue) (before : has_set ls s.key ≡ false) (behind : has_set rs s.key ≡ false)
     (o : IsSet s) (some : 0 < length s.sequences) (p : Piece) (key : p.key ≡ s.key) (new : is_in p.sequence s.sequences ≡ false) where
@@ -178,15 +191,7 @@ module _ (ls : List SetValue) (s : SetValue) (rs : List SetValue) (before : has_
       ∙ (ap (λ l. all_pieces ls ++ (l ++ all_pieces rs)) parts_more ∙ simp append_assoc)
 
   set_opened : opened_at (all_pieces (ls ++ s ∷ rs)) s.key ≡ s.opened
-  set_opened =
-      ap (λ l. opened_at l s.key) (all-append ls (s ∷ rs))
-      ∙ (opened-append (all_pieces ls) (pieces_in s ++ all_pieces rs) s.key
-      ∙ (rw (open-append (pieces_in s) (all_pieces rs) s.key, own) refl
-      ∙ (opened-append (pieces_in s) (all_pieces rs) s.key
-      ∙ (rw (others_closed rs s.key behind) (own_opened s.key s.opened s.sequences s.units own)))))
-    where
-      own : is_open (pieces_in s) s.key ≡ true
-      own = own_open s.key s.opened s.sequences s.units o.as_many some
+  set_opened = opened_of ls s rs before behind o.as_many some
 
   pub set_is_open : is_open (all_pieces (ls ++ s ∷ rs)) s.key ≡ true
   set_is_open =

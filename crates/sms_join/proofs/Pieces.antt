@@ -8,11 +8,14 @@ use Rattle.sms_join.specs.declared.units.Units.TheVariants.{Gsm}
 use Rattle.sms_join.specs.Key.{same_key}
 use Rattle.sms_join.specs.Piece.{Piece}
 use Rattle.sms_join.specs.Sets.{has, has_all, units_at, units_upto, without, is_open}
-use Rattle.sms_join.specs.Joiner.{Joiner, Repeat, Finished, TooManyOpen, is_among, answer, answered, offered, offered_all, decided, is_repeat, is_whole, has_room}
-use Rattle.sms_join.specs.Pieces.{IsPiece, ArePieces, finished_now, finishes, others_finished, NoneRefused, FinishesOnce, FinishesText}
+use Rattle.sms_join.specs.Joiner.{Joiner, Repeat, Finished, TooManyOpen, is_among, answer, answered, offered, decided, is_repeat, is_whole, has_room}
+use Rattle.sms_join.specs.Aging.{is_old, young, aged}
+use Rattle.sms_join.specs.Acts.{Act, Brings, Ages, brought, acted, acted_all}
+use Rattle.sms_join.specs.Pieces.{IsPiece, ArePieces, finished_now, finishes, others_finished, NoneRefused, NoneDropped, FinishesOnce, FinishesText}
 use Rattle.sms_join.specs.Reading.{text_of_segments}
 use Rattle.sms_join.proofs.ReadingLaws.{cut_read}
 use Rattle.sms_join.proofs.SameKeys.{same_key_refl, same_key_true}
+use Rattle.sms_join.proofs.Young.{has-young, has-gone, units_at-young}
 use Rattle.sms_join.proofs.Sets.{has-without, units_at-without, has_all-same, is_among-take}
 
 -- what the joiner holds of a set that has not finished: just the pieces that came
@@ -159,25 +162,50 @@ next_other open_max remembered j k us os o v e = go (is_repeat j o) (is_whole j 
     go false false true = holds_other_kept j k us os o v e
     go false false false = holds_other j k us os o v e
 
--- all that came so far is held, and nothing finished
-before_whole : (open_max remembered : ℕ) (j : Joiner) (k : Key) (us : List Units) (os : List Piece)
-    → is_open j.kept k ≡ false → is_among j.finished k ≡ false → ArePieces k us os
-    → NoneRefused open_max remembered j k os → has_all os k (length us) ≡ false
-    → Holds (offered_all open_max remembered j os) k us os × (finishes open_max remembered j k os ≡ [])
-before_whole open_max remembered j k us [] a b c d e =
-    (record { fresh = b; same = λ n. has-closed j.kept k n a; right = λ n h. let z = has-closed j.kept k n a in cc }, refl)
-before_whole open_max remembered j k us (o ∷ os) a b c d e =
-    go (before_whole open_max remembered j k us os a b c.1 d.1 (has_all-fewer o os k (length us) e)) (same_key o.key k) refl
+-- an aging that does not drop the set
+holds_aged : (now : ℕ) (j : Joiner) (k : Key) (us : List Units) (os : List Piece) → Holds j k us os
+    → (is_open j.kept k ≡ true → is_old now j.kept k ≡ false) → Holds (aged now j) k us os
+unfolding aged
+holds_aged now j k us os v stays =
+    record {
+      fresh = v.fresh;
+      same = λ n. there n (is_old now j.kept k) refl (is_open j.kept k) refl ∙ v.same n;
+      right = λ n h. right' n (is_old now j.kept k) refl h;
+    }
   where
-    go : Holds (offered_all open_max remembered j os) k us os × (finishes open_max remembered j k os ≡ [])
+    there : (n : ℕ) (b : Bool) → is_old now j.kept k ≡ b → (c : Bool) → is_open j.kept k ≡ c → has (young (is_old now j.kept) j.kept) k n ≡ has j.kept k n
+    there n false e c f = has-young (is_old now j.kept) k j.kept n e
+    there n true e true f = let z = stays f in let q : true ≡ false = sym e ∙ z in cc
+    there n true e false f = has-gone (is_old now j.kept) k j.kept n e ∙ sym (has-closed j.kept k n f)
+
+    right' : (n : ℕ) (b : Bool) → is_old now j.kept k ≡ b → has (young (is_old now j.kept) j.kept) k n ≡ true
+        → units_at (young (is_old now j.kept) j.kept) k n ≡ get_or us (n - 1) (Gsm [])
+    right' n false e h =
+        units_at-young (is_old now j.kept) k j.kept n e ∙ v.right n (sym (has-young (is_old now j.kept) k j.kept n e) ∙ h)
+    right' n true e h = let z = has-gone (is_old now j.kept) k j.kept n e in let q : true ≡ false = sym h ∙ z in cc
+
+-- all that came so far is held, and nothing finished
+before_whole : (open_max remembered : ℕ) (j : Joiner) (k : Key) (us : List Units) (os : List (Act Piece))
+    → is_open j.kept k ≡ false → is_among j.finished k ≡ false → ArePieces k us os
+    → NoneRefused open_max remembered j k os → NoneDropped open_max remembered j k os → has_all (brought os) k (length us) ≡ false
+    → Holds (acted_all open_max remembered j os) k us (brought os) × (finishes open_max remembered j k os ≡ [])
+before_whole open_max remembered j k us [] a b c d f e =
+    (record { fresh = b; same = λ n. has-closed j.kept k n a; right = λ n h. let z = has-closed j.kept k n a in cc }, refl)
+before_whole open_max remembered j k us (Ages now ∷ os) a b c d f e =
+    let ih = before_whole open_max remembered j k us os a b c d f.1 e in
+    (holds_aged now (acted_all open_max remembered j os) k us (brought os) ih.0 f.0, ih.1)
+before_whole open_max remembered j k us (Brings o ∷ os) a b c d f e =
+    go (before_whole open_max remembered j k us os a b c.1 d.1 f (has_all-fewer o (brought os) k (length us) e)) (same_key o.key k) refl
+  where
+    go : Holds (acted_all open_max remembered j os) k us (brought os) × (finishes open_max remembered j k os ≡ [])
         → (s : Bool) → same_key o.key k ≡ s
-        → Holds (offered_all open_max remembered j (o ∷ os)) k us (o ∷ os)
-        × (cond s (finished_now (answer open_max (offered_all open_max remembered j os) o) ++ finishes open_max remembered j k os)
+        → Holds (acted_all open_max remembered j (Brings o ∷ os)) k us (o ∷ brought os)
+        × (cond s (finished_now (answer open_max (acted_all open_max remembered j os) o) ++ finishes open_max remembered j k os)
         (finishes open_max remembered j k os) ≡ [])
     go ih true s =
-        let n = next_same open_max remembered (offered_all open_max remembered j os) k us os o ih.0 (same_key_true o.key k s) c.0 (d.0 s) e in
+        let n = next_same open_max remembered (acted_all open_max remembered j os) k us (brought os) o ih.0 (same_key_true o.key k s) c.0 (d.0 s) e in
         (n.holds, rw (n.none s, ih.1) refl)
-    go ih false s = (next_other open_max remembered (offered_all open_max remembered j os) k us os o ih.0 s, ih.1)
+    go ih false s = (next_other open_max remembered (acted_all open_max remembered j os) k us (brought os) o ih.0 s, ih.1)
 
 -- the pieces in order
 pub units_upto_is : (ps : List Piece) (k : Key) (us : List Units) (n : ℕ)
@@ -248,8 +276,8 @@ is_among-of_take (suc n) (x ∷ ks) k h = go (same_key x k) h (is_among-of_take 
     go false h f = f h
 
 -- the key is still remembered, and its offers are repeats
-record Closed (open_max remembered : ℕ) (j : Joiner) (k : Key) (os : List Piece) : Type 0 where
-  recent : is_among (take (suc (others_finished open_max remembered j k os)) (offered_all open_max remembered j os).finished) k ≡ true
+record Closed (open_max remembered : ℕ) (j : Joiner) (k : Key) (os : List (Act Piece)) : Type 0 where
+  recent : is_among (take (suc (others_finished open_max remembered j k os)) (acted_all open_max remembered j os).finished) k ≡ true
   none : finishes open_max remembered j k os ≡ []
 
 closed_same : (open_max remembered : ℕ) (j : Joiner) (k : Key) (o : Piece) → o.key ≡ k → is_among j.finished k ≡ true
@@ -287,98 +315,108 @@ closed_other open_max remembered j k o c h less =
         take-take (suc (1 + c)) remembered (o.key ∷ j.finished) below in
         rw t (rw e (or_right (same_key o.key k) _ h))
 
-after_whole : (open_max remembered : ℕ) (j : Joiner) (k : Key) (os : List Piece)
+aged_closed : (open_max remembered : ℕ) (j : Joiner) (k : Key) (now : ℕ) (os : List (Act Piece)) → Closed open_max remembered j k os
+    → Closed open_max remembered j k (Ages now ∷ os)
+unfolding aged
+aged_closed open_max remembered j k now os c = record { recent = c.recent; none = c.none }
+
+after_whole : (open_max remembered : ℕ) (j : Joiner) (k : Key) (os : List (Act Piece))
     → is_among (take 1 j.finished) k ≡ true → others_finished open_max remembered j k os < remembered
     → Closed open_max remembered j k os
 after_whole open_max remembered j k [] h less = record { recent = h; none = refl }
-after_whole open_max remembered j k (o ∷ os) h less =
+after_whole open_max remembered j k (Ages now ∷ os) h less =
+    aged_closed open_max remembered j k now os (after_whole open_max remembered j k os h less)
+after_whole open_max remembered j k (Brings o ∷ os) h less =
     go (same_key o.key k) refl less (after_whole open_max remembered j k os h)
   where
     go : (s : Bool) → same_key o.key k ≡ s
         → cond s (others_finished open_max remembered j k os)
-        (length (finished_now (answer open_max (offered_all open_max remembered j os) o)) + others_finished open_max remembered j k os) < remembered
+        (length (finished_now (answer open_max (acted_all open_max remembered j os) o)) + others_finished open_max remembered j k os) < remembered
         → (others_finished open_max remembered j k os < remembered → Closed open_max remembered j k os)
-        → Closed open_max remembered j k (o ∷ os)
+        → Closed open_max remembered j k (Brings o ∷ os)
     go true s l ih =
         let c = ih l in
-        let here = closed_same open_max remembered (offered_all open_max remembered j os) k o (same_key_true o.key k s)
-        (is_among-of_take (suc (others_finished open_max remembered j k os)) (offered_all open_max remembered j os).finished k c.recent) in
+        let here = closed_same open_max remembered (acted_all open_max remembered j os) k o (same_key_true o.key k s)
+        (is_among-of_take (suc (others_finished open_max remembered j k os)) (acted_all open_max remembered j os).finished k c.recent) in
         record { recent = rw (s, here.1) c.recent; none = rw (s, here.0) c.none }
     go false s l ih =
         let c = ih (omega arith) in
         record {
-          recent = rw s (closed_other open_max remembered (offered_all open_max remembered j os) k o
+          recent = rw s (closed_other open_max remembered (acted_all open_max remembered j os) k o
               (others_finished open_max remembered j k os) c.recent l);
           none = rw s c.none;
         }
 
-offered_all-append : (open_max remembered : ℕ) (j : Joiner) (os ps : List Piece)
-    → offered_all open_max remembered j (os ++ ps) ≡ offered_all open_max remembered (offered_all open_max remembered j ps) os
-offered_all-append open_max remembered j [] ps = refl
-offered_all-append open_max remembered j (o ∷ os) ps =
-    ap (λ i. offered open_max remembered i o) (offered_all-append open_max remembered j os ps)
+acted_all-append : (open_max remembered : ℕ) (j : Joiner) (os ps : List (Act Piece))
+    → acted_all open_max remembered j (os ++ ps) ≡ acted_all open_max remembered (acted_all open_max remembered j ps) os
+acted_all-append open_max remembered j [] ps = refl
+acted_all-append open_max remembered j (a ∷ os) ps =
+    ap (λ i. acted open_max remembered i a) (acted_all-append open_max remembered j os ps)
 
-finishes-append : (open_max remembered : ℕ) (j : Joiner) (k : Key) (os ps : List Piece)
+finishes-append : (open_max remembered : ℕ) (j : Joiner) (k : Key) (os ps : List (Act Piece))
     → finishes open_max remembered j k (os ++ ps)
-    ≡ finishes open_max remembered (offered_all open_max remembered j ps) k os ++ finishes open_max remembered j k ps
+    ≡ finishes open_max remembered (acted_all open_max remembered j ps) k os ++ finishes open_max remembered j k ps
 finishes-append open_max remembered j k [] ps = refl
-finishes-append open_max remembered j k (o ∷ os) ps =
-    go (same_key o.key k) (finishes-append open_max remembered j k os ps) (offered_all-append open_max remembered j os ps)
+finishes-append open_max remembered j k (Ages now ∷ os) ps = finishes-append open_max remembered j k os ps
+finishes-append open_max remembered j k (Brings o ∷ os) ps =
+    go (same_key o.key k) (finishes-append open_max remembered j k os ps) (acted_all-append open_max remembered j os ps)
   where
     go : (s : Bool)
         → finishes open_max remembered j k (os ++ ps)
-        ≡ finishes open_max remembered (offered_all open_max remembered j ps) k os ++ finishes open_max remembered j k ps
-        → offered_all open_max remembered j (os ++ ps) ≡ offered_all open_max remembered (offered_all open_max remembered j ps) os
-        → cond s (finished_now (answer open_max (offered_all open_max remembered j (os ++ ps)) o) ++ finishes open_max remembered j k (os ++ ps))
+        ≡ finishes open_max remembered (acted_all open_max remembered j ps) k os ++ finishes open_max remembered j k ps
+        → acted_all open_max remembered j (os ++ ps) ≡ acted_all open_max remembered (acted_all open_max remembered j ps) os
+        → cond s (finished_now (answer open_max (acted_all open_max remembered j (os ++ ps)) o) ++ finishes open_max remembered j k (os ++ ps))
         (finishes open_max remembered j k (os ++ ps))
-        ≡ cond s (finished_now (answer open_max (offered_all open_max remembered (offered_all open_max remembered j ps) os) o) ++ finishes open_max remembered (offered_all open_max remembered j ps) k os)
-        (finishes open_max remembered (offered_all open_max remembered j ps) k os) ++ finishes open_max remembered j k ps
+        ≡ cond s (finished_now (answer open_max (acted_all open_max remembered (acted_all open_max remembered j ps) os) o) ++ finishes open_max remembered (acted_all open_max remembered j ps) k os)
+        (finishes open_max remembered (acted_all open_max remembered j ps) k os) ++ finishes open_max remembered j k ps
     go true f g = rw (f, g) (simp append_assoc)
     go false f g = f
 
-pieces_later : (k : Key) (us : List Units) (os ps : List Piece) → ArePieces k us (os ++ ps) → ArePieces k us ps
+pieces_later : (k : Key) (us : List Units) (os ps : List (Act Piece)) → ArePieces k us (os ++ ps) → ArePieces k us ps
 pieces_later k us [] ps h = h
-pieces_later k us (o ∷ os) ps h = pieces_later k us os ps h.1
+pieces_later k us (Ages now ∷ os) ps h = pieces_later k us os ps h
+pieces_later k us (Brings o ∷ os) ps h = pieces_later k us os ps h.1
 
-none_refused_later : (open_max remembered : ℕ) (j : Joiner) (k : Key) (os ps : List Piece)
+none_refused_later : (open_max remembered : ℕ) (j : Joiner) (k : Key) (os ps : List (Act Piece))
     → NoneRefused open_max remembered j k (os ++ ps) → NoneRefused open_max remembered j k ps
 none_refused_later open_max remembered j k [] ps h = h
-none_refused_later open_max remembered j k (o ∷ os) ps h = none_refused_later open_max remembered j k os ps h.1
+none_refused_later open_max remembered j k (Ages now ∷ os) ps h = none_refused_later open_max remembered j k os ps h
+none_refused_later open_max remembered j k (Brings o ∷ os) ps h = none_refused_later open_max remembered j k os ps h.1
 
 pub finishes_once : FinishesOnce
 unfolding answered
 finishes_once open_max remembered j k us after o before come = (
   whole.0,
-  finishes-append open_max remembered j k after (o ∷ before)
+  finishes-append open_max remembered j k after (Brings o ∷ before)
       ∙ rw (later.none, come.under_key, whole.0, prior.1) refl,
 )
   where
-    pieces : ArePieces k us (o ∷ before)
-    pieces = pieces_later k us after (o ∷ before) come.are_pieces
+    pieces : ArePieces k us (Brings o ∷ before)
+    pieces = pieces_later k us after (Brings o ∷ before) come.are_pieces
 
-    allowed : NoneRefused open_max remembered j k (o ∷ before)
-    allowed = none_refused_later open_max remembered j k after (o ∷ before) come.none_refused
+    allowed : NoneRefused open_max remembered j k (Brings o ∷ before)
+    allowed = none_refused_later open_max remembered j k after (Brings o ∷ before) come.none_refused
 
-    prior : Holds (offered_all open_max remembered j before) k us before × (finishes open_max remembered j k before ≡ [])
-    prior = before_whole open_max remembered j k us before come.not_open come.not_remembered pieces.1 allowed.1 come.missing
+    prior : Holds (acted_all open_max remembered j before) k us (brought before) × (finishes open_max remembered j k before ≡ [])
+    prior = before_whole open_max remembered j k us before come.not_open come.not_remembered pieces.1 allowed.1 come.none_dropped come.missing
 
     is_key : o.key ≡ k
     is_key = same_key_true o.key k come.under_key
 
-    whole : (answer open_max (offered_all open_max remembered j before) o ≡ Finished us)
-        × (offered open_max remembered (offered_all open_max remembered j before) o
-        ≡ answered remembered (offered_all open_max remembered j before) o (Finished us))
-    whole = at_whole open_max remembered (offered_all open_max remembered j before) k us before o prior.0 is_key pieces.0 come.missing come.all
+    whole : (answer open_max (acted_all open_max remembered j before) o ≡ Finished us)
+        × (offered open_max remembered (acted_all open_max remembered j before) o
+        ≡ answered remembered (acted_all open_max remembered j before) o (Finished us))
+    whole = at_whole open_max remembered (acted_all open_max remembered j before) k us (brought before) o prior.0 is_key pieces.0 come.missing come.all
 
-    newest : is_among (take 1 (take remembered (o.key ∷ (offered_all open_max remembered j before).finished))) k ≡ true
+    newest : is_among (take 1 (take remembered (o.key ∷ (acted_all open_max remembered j before).finished))) k ≡ true
     newest =
         let few = come.few in
-        let t : take 1 (take remembered (o.key ∷ (offered_all open_max remembered j before).finished))
-        ≡ take 1 (o.key ∷ (offered_all open_max remembered j before).finished) = take-take 1 remembered _ (omega (arith, few)) in
+        let t : take 1 (take remembered (o.key ∷ (acted_all open_max remembered j before).finished))
+        ≡ take 1 (o.key ∷ (acted_all open_max remembered j before).finished) = take-take 1 remembered _ (omega (arith, few)) in
         rw t (rw come.under_key refl)
 
-    later : Closed open_max remembered (offered_all open_max remembered j (o ∷ before)) k after
-    later = after_whole open_max remembered (offered_all open_max remembered j (o ∷ before)) k after
+    later : Closed open_max remembered (acted_all open_max remembered j (Brings o ∷ before)) k after
+    later = after_whole open_max remembered (acted_all open_max remembered j (Brings o ∷ before)) k after
         (rw whole.1 newest) come.few
 
 same_units : (us vs : List Units) → Finished us ≡ Finished vs → us ≡ vs

@@ -1,10 +1,10 @@
 -- Lists around one of their places.
-use Rattle.std.proofs.Common.{◌≡◌, ℕ, zero, suc, ◌+◌, ◌<◌, ◌≤◌, Bool, true, false, cond, not, ◌||◌, ltb, List, [], ◌∷◌, ◌++◌, take, drop, length, reverse, get_or, Some, None, refl, sym, ap, ◌∙◌, arith}
+use Rattle.std.proofs.Common.{◌≡◌, ℕ, zero, suc, ◌+◌, ◌-◌, ◌<◌, ◌≤◌, ◌⊎◌, inl, inr, Bool, true, false, cond, not, ◌||◌, ltb, List, [], ◌∷◌, ◌++◌, take, drop, length, reverse, get_or, Some, None, refl, sym, ap, ◌∙◌, arith, length-drop}
 use Rattle.std.proofs.Math.ListN.{set}
-use Rattle.std.proofs.lemmas.Bool.{ltb-false}
-use Rattle.std.proofs.lemmas.List.{take_all, length-reverse, reverse-append}
-use Rattle.std.proofs.Math.Seq.{take-append_seam}
+use Rattle.std.proofs.lemmas.Bool.{ltb-false, cases_lt}
+use Rattle.std.proofs.lemmas.List.{take_all, take_at, take-append-drop, length-reverse, reverse-append}
 use Rattle.std.specs.List.{insert, remove, position, position_or_len, prefix_len, list_any}
+use Rattle.circular_buffer.specs.Buffer.{Buffer, buffer, keep_last}
 use Rattle.sms_join.specs.declared.key.Key.{Key}
 use Rattle.sms_join.specs.Key.{same_key}
 use Rattle.sms_join.specs.Joiner.{is_among}
@@ -95,19 +95,27 @@ among_reversed (x ∷ xs) k =
     swap false true = refl
     swap false false = refl
 
--- a key more, where there is room for it, and where there is none
-pub pushed_short : (ks : List Key) (x : Key) (limit : ℕ) → length ks < limit → reverse (ks ++ x ∷ []) ≡ take limit (x ∷ reverse ks)
-pushed_short ks x limit h =
-    reverse-append ks (x ∷ [])
-    ∙ sym (take_all limit (x ∷ reverse ks) (let e = length-reverse ks in omega arith))
-
-pub pushed_full : (ks : List Key) (x : Key) (limit : ℕ) → 0 < limit → length ks ≡ limit → reverse (remove ks 0 ++ x ∷ []) ≡ take limit (x ∷ reverse ks)
-pushed_full [] x limit h e = absurd (omega arith)
-pushed_full (y ∷ ys) x zero h e = absurd (omega arith)
-pushed_full (y ∷ ys) x (suc limit) h e =
-    reverse-append ys (x ∷ [])
-    ∙ ap (λ l. x ∷ l) (sym (ap (take limit) (reverse-append (y ∷ []) ys)
-    ∙ (ap (λ n. take n (reverse ys ++ y ∷ [])) same ∙ take-append_seam (reverse ys) (y ∷ []))))
+-- the last of a list are the first of the reversed one
+last_first : {X : Type 0} (n : ℕ) (ys : List X) → reverse (drop (length ys - n) ys) ≡ take n (reverse ys)
+last_first n ys = go (cases_lt (length ys) n)
   where
-    same : limit ≡ length (reverse ys)
-    same = let a = length-reverse ys in omega arith
+    go : (length ys < n) ⊎ (n ≤ length ys) → reverse (drop (length ys - n) ys) ≡ take n (reverse ys)
+    go (inl more) =
+        let none : length ys - n ≡ 0 = omega arith in
+        let few : length (reverse ys) ≤ n = let e = length-reverse ys in omega arith in
+        ap (λ m. reverse (drop m ys)) none ∙ sym (take_all n (reverse ys) few)
+    go (inr enough) =
+        let m : ℕ = length ys - n in
+        let len : length (reverse (drop m ys)) ≡ n =
+        let a = length-reverse (drop m ys) in let b = length-drop m ys in omega arith in
+        sym (ap (take n) (ap reverse (sym (take-append-drop m ys)) ∙ reverse-append (take m ys) (drop m ys))
+        ∙ take_at (reverse (drop m ys)) (reverse (take m ys)) n len)
+
+-- the ring after a key more
+pub ring_pushed : (b c : Buffer Key) (k : Key) → c ≡ buffer (keep_last b.capacity (b.items ++ k ∷ [])) b.capacity
+    → (c.capacity ≡ b.capacity) × (reverse c.items ≡ take b.capacity (k ∷ reverse b.items))
+ring_pushed b c k e = (
+  ap (λ (r : Buffer Key). r.capacity) e,
+  ap (λ (r : Buffer Key). reverse r.items) e
+      ∙ (last_first b.capacity (b.items ++ k ∷ []) ∙ ap (take b.capacity) (reverse-append b.items (k ∷ []))),
+)

@@ -12,7 +12,7 @@ use Rattle.sms_join.proofs.Sets.{has-without, has-without_same, units_at-without
 
 -- dropping a set
 
-open-without : (ps : List Piece) (k l : Key) → same_key k l ≡ false → is_open (without ps k) l ≡ is_open ps l
+pub open-without : (ps : List Piece) (k l : Key) → same_key k l ≡ false → is_open (without ps k) l ≡ is_open ps l
 open-without [] k l h = refl
 open-without (p ∷ ps) k l h = go (same_key p.key k) refl (open-without ps k l h)
   where
@@ -23,7 +23,7 @@ open-without (p ∷ ps) k l h = go (same_key p.key k) refl (open-without ps k l 
         let f : same_key p.key l ≡ false = rw (same_key_true p.key k e) h in
         rw (f, ih) refl
 
-open-without_same : (ps : List Piece) (k : Key) → is_open (without ps k) k ≡ false
+pub open-without_same : (ps : List Piece) (k : Key) → is_open (without ps k) k ≡ false
 open-without_same [] k = refl
 open-without_same (p ∷ ps) k = go (same_key p.key k) refl (open-without_same ps k)
   where
@@ -32,7 +32,7 @@ open-without_same (p ∷ ps) k = go (same_key p.key k) refl (open-without_same p
     go true e ih = ih
     go false e ih = rw (e, ih) refl
 
-opened_at-closed : (ps : List Piece) (k : Key) → is_open ps k ≡ false → opened_at ps k ≡ 0
+pub opened_at-closed : (ps : List Piece) (k : Key) → is_open ps k ≡ false → opened_at ps k ≡ 0
 opened_at-closed [] k h = refl
 opened_at-closed (p ∷ ps) k h =
     let q = or_parts (same_key p.key k) (is_open ps k) h in

@@ -4,44 +4,19 @@ use Rattle.std.proofs.lemmas.Bool.{eqb-true, eq-eqb, and_parts, and_from}
 use Rattle.std.proofs.lemmas.Slice.Eq.{bytes_eq-Decides}
 use Rattle.std.specs.Str.{bytes_eq}
 use Rattle.sms_field.specs.AddressValue.{AddressValue}
-use Rattle.sms_field.specs.declared.symbols.Symbols.{Symbols}
-use Rattle.sms_field.specs.declared.symbols.Symbols.TheVariants.{Digits, Name}
-use Rattle.sms_tpdu.specs.declared.concat.Width.{Width}
-use Rattle.sms_tpdu.specs.declared.concat.Width.TheVariants.{Eight, Sixteen}
+use Rattle.sms_field.specs.SameAddress.{same_address}
+use Rattle.sms_field.specs.SameAddressLaws.{same_address_refl, same_address_true}
+use Rattle.sms_tpdu.specs.declared.user_data.concat.Width.{Width}
+use Rattle.sms_tpdu.specs.declared.user_data.concat.Width.TheVariants.{Eight, Sixteen}
 use Rattle.sms_join.specs.declared.key.Key.{Key}
 use Rattle.sms_join.specs.declared.key.Key.TheVariants.{Single, Segmented}
-use Rattle.sms_join.specs.Key.{same_symbols, same_address, same_width, same_key}
+use Rattle.sms_join.specs.Key.{same_width, same_key}
 
 bytes_refl : (xs : List ℕ) → bytes_eq xs xs ≡ true
 bytes_refl xs = (bytes_eq-Decides xs xs).1 refl
 
 bytes_true : (xs ys : List ℕ) → bytes_eq xs ys ≡ true → xs ≡ ys
 bytes_true xs ys = (bytes_eq-Decides xs ys).0
-
-same_symbols_refl : (s : Symbols) → same_symbols s s ≡ true
-same_symbols_refl (Digits xs) = bytes_refl xs
-same_symbols_refl (Name xs) = bytes_refl xs
-
-same_symbols_true : (s t : Symbols) → same_symbols s t ≡ true → s ≡ t
-same_symbols_true (Digits xs) (Digits ys) h = ap Digits (bytes_true xs ys h)
-same_symbols_true (Name xs) (Name ys) h = ap Name (bytes_true xs ys h)
-same_symbols_true (Digits xs) (Name ys) h = cc
-same_symbols_true (Name xs) (Digits ys) h = cc
-
-pub same_address_refl : (a : AddressValue) → same_address a a ≡ true
-unfolding same_address
-same_address_refl a =
-    and_from _ _ (eq-eqb a.kind a.kind refl) (and_from _ _ (eq-eqb a.plan a.plan refl) (same_symbols_refl a.symbols))
-
-pub same_address_true : (a b : AddressValue) → same_address a b ≡ true → a ≡ b
-unfolding same_address
-same_address_true a b h =
-    let p = and_parts (eqb a.kind b.kind) (eqb a.plan b.plan && same_symbols a.symbols b.symbols) h in
-    let q = and_parts (eqb a.plan b.plan) (same_symbols a.symbols b.symbols) p.1 in
-    let x : a.kind ≡ b.kind = eqb-true _ _ p.0 in
-    let y : a.plan ≡ b.plan = eqb-true _ _ q.0 in
-    let z : a.symbols ≡ b.symbols = same_symbols_true _ _ q.1 in
-    λ i. record { kind = x i; plan = y i; symbols = z i }
 
 same_width_refl : (w : Width) → same_width w w ≡ true
 unfolding same_width

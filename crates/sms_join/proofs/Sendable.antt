@@ -7,10 +7,10 @@ use Rattle.std.proofs.lemmas.List.Elements.{All-from_recursion}
 use Rattle.std.specs.Global.{Vec}
 use Rattle.std.specs.List.{flat_map, AllByRecursion, range_with_len}
 use Rattle.sms_text.specs.Utf16.{octets_high_first}
-use Rattle.sms_tpdu.specs.declared.concat.Width.{Width}
-use Rattle.sms_tpdu.specs.declared.concat.Width.TheVariants.{Eight, Sixteen}
-use Rattle.sms_tpdu.specs.Elements.{element_octets}
-use Rattle.sms_tpdu.specs.Concatenation.{element_for}
+use Rattle.sms_tpdu.specs.declared.user_data.concat.Width.{Width}
+use Rattle.sms_tpdu.specs.declared.user_data.concat.Width.TheVariants.{Eight, Sixteen}
+use Rattle.sms_tpdu.specs.UserData.Elements.{element_octets}
+use Rattle.sms_tpdu.specs.UserData.Concatenation.{element_for}
 use Rattle.sms_tpdu.specs.UserData.{BodyFits, header_octets}
 use Rattle.sms_join.specs.declared.units.Units.{Units}
 use Rattle.sms_join.specs.declared.units.Units.TheVariants.{Gsm, Ucs2}

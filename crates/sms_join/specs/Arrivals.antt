@@ -1,6 +1,6 @@
 -- Pieces of texts that arrive at one joiner, each with the text that it is of: which texts have arrived whole, and which
 -- in part. Texts are numbers. All lists have the newest entry first.
-use Rattle.std.specs.Prelude.{◌≡◌, ℕ, zero, suc, ◌<◌, ◌≤◌, Bool, true, false, ◌&&◌, ◌||◌, if◌then◌else◌, ◌==◌, List, [], ◌∷◌, ◌++◌}
+use Rattle.std.specs.Prelude.{◌≡◌, ℕ, zero, suc, ◌<◌, ◌≤◌, Bool, true, false, not, ◌&&◌, ◌||◌, if◌then◌else◌, ◌==◌, List, [], ◌∷◌, ◌++◌}
 use Rattle.sms_join.specs.declared.key.Key.{Key}
 use Rattle.sms_join.specs.declared.units.Units.{Units}
 use Rattle.sms_join.specs.Piece.{Piece}
@@ -57,6 +57,30 @@ open_pieces size all (a ∷ past) =
     if has_piece past a.text a.piece.sequence || is_done size all a.text
     then open_pieces size all past
     else a.piece ∷ open_pieces size all past
+
+-- Some piece of the text has arrived.
+abbrev pub has_text : List Arrival → ℕ → Bool
+has_text [] t = false
+has_text (a ∷ past) t = a.text == t || has_text past t
+
+-- Of the second list, the texts that the first list does not complete, each once.
+abbrev pub open_texts : (ℕ → ℕ) → List Arrival → List Arrival → List ℕ
+open_texts size all [] = []
+open_texts size all (a ∷ past) =
+    if has_text past a.text || is_done size all a.text then open_texts size all past else a.text ∷ open_texts size all past
+
+-- No two open texts have one key.
+abbrev pub OpenApart : (ℕ → Key) → (ℕ → ℕ) → List Arrival → Type 0
+OpenApart key size past =
+    (t u : ℕ) → has_text past t ≡ true → has_text past u ≡ true → is_done size past t ≡ false → is_done size past u ≡ false
+    → key t ≡ key u → t ≡ u
+
+-- Of the second list, the arrivals that still count: those of texts that the first list does not complete and whose set
+-- was dropped no longer do.
+abbrev pub remaining : (ℕ → ℕ) → (Key → Bool) → List Arrival → List Arrival → List Arrival
+remaining size old all [] = []
+remaining size old all (a ∷ past) =
+    if not (is_done size all a.text) && old a.piece.key then remaining size old all past else a ∷ remaining size old all past
 
 abbrev pub is_listed : List ℕ → ℕ → Bool
 is_listed [] t = false

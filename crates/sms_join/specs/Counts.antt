@@ -3,7 +3,8 @@ use Rattle.std.specs.Prelude.{◌≡◌, ℕ, suc, ◌<◌, ◌≤◌, false, if
 use Rattle.sms_join.specs.declared.key.Key.{Key}
 use Rattle.sms_join.specs.Key.{same_key, maximum_of}
 use Rattle.sms_join.specs.Piece.{Piece}
-use Rattle.sms_join.specs.Joiner.{is_repeat, is_whole, offered_all, new_joiner}
+use Rattle.sms_join.specs.Joiner.{is_repeat, is_whole, new_joiner}
+use Rattle.sms_join.specs.Acts.{Act, brought, acted_all}
 
 -- How many pieces the set has.
 abbrev pub count_of : List Piece → Key → ℕ
@@ -20,11 +21,11 @@ abbrev pub AreInSets : List Piece → Type 0
 AreInSets [] = Unit {0}
 AreInSets (p ∷ ps) = IsInSet p × AreInSets ps
 
--- After any offers to a new joiner, the newest first, a piece that is no repeat makes its set whole just where the set
+-- After any offers to a new joiner and agings, the newest first, a piece that is no repeat makes its set whole just where the set
 -- then has as many pieces as its maximum.
 abbrev pub WholeByCount : Type 0
 WholeByCount =
-    (open_max remembered : ℕ) (p : Piece) (ps : List Piece) → AreInSets (p ∷ ps)
-    → is_repeat (offered_all open_max remembered new_joiner ps) p ≡ false
-    → is_whole (offered_all open_max remembered new_joiner ps) p
-    ≡ (suc (count_of (offered_all open_max remembered new_joiner ps).kept p.key) == p.maximum)
+    (open_max remembered : ℕ) (p : Piece) (acts : List (Act Piece)) → AreInSets (p ∷ brought acts)
+    → is_repeat (acted_all open_max remembered new_joiner acts) p ≡ false
+    → is_whole (acted_all open_max remembered new_joiner acts) p
+    ≡ (suc (count_of (acted_all open_max remembered new_joiner acts).kept p.key) == p.maximum)

@@ -64,8 +64,3 @@ answered remembered j p TooManyOpen = j
 
 unfoldable pub offered : ℕ → ℕ → Joiner → Piece → Joiner
 offered open_max remembered j p = answered remembered j p (answer open_max j p)
-
--- after a list of pieces that were offered, the newest first
-abbrev pub offered_all : ℕ → ℕ → Joiner → List Piece → Joiner
-offered_all open_max remembered j [] = j
-offered_all open_max remembered j (p ∷ ps) = offered open_max remembered (offered_all open_max remembered j ps) p

@@ -1,11 +1,13 @@
--- The law of arrivals in order: what a joiner holds and delivers where no two texts are mixed up. All lists have the
--- newest entry first.
+-- The law of arrivals in order: what a joiner holds and delivers where no two texts are mixed up, and open sets age. All
+-- lists have the newest entry first.
 use Rattle.std.specs.Prelude.{◌≡◌, ◌≢◌, ℕ, Bool, true, not, ◌&&◌, ◌||◌, ◌==◌, List, [], ◌∷◌, ◌++◌, map, take}
 use Rattle.sms_join.specs.declared.units.Units.{Units}
 use Rattle.sms_join.specs.Key.{same_key}
-use Rattle.sms_join.specs.Joiner.{Joiner, Finished, TooManyOpen, answer, offered, offered_all, new_joiner}
+use Rattle.sms_join.specs.Joiner.{Joiner, Finished, TooManyOpen, answer, offered, new_joiner}
+use Rattle.sms_join.specs.Aging.{is_old, aged}
+use Rattle.sms_join.specs.Acts.{Act, Brings, Ages}
 use Rattle.sms_join.specs.Pieces.{finished_now}
-use Rattle.sms_join.specs.Arrivals.{Arrival, Texts, IsOf, AllOf, is_done, completed, open_pieces, is_listed, whole_text}
+use Rattle.sms_join.specs.Arrivals.{Arrival, Texts, IsOf, AllOf, is_done, completed, open_pieces, is_listed, remaining, whole_text}
 
 -- Of the second list, no other text with the key of the arrival is open in the first, or among the last that the first
 -- completes.
@@ -47,32 +49,46 @@ JoinsOne =
     → answer open_max j a.piece ≢ TooManyOpen
     → HoldsOpen remembered x (a ∷ past) (offered open_max remembered j a.piece) × Delivers open_max x past a j
 
--- The joiner after these arrivals.
-unfoldable pub joined : ℕ → ℕ → List Arrival → Joiner
-joined open_max remembered past = offered_all open_max remembered new_joiner (map (λ (a : Arrival). a.piece) past)
+-- The joiner after these arrivals and agings.
+abbrev pub joined : ℕ → ℕ → List (Act Arrival) → Joiner
+joined open_max remembered [] = new_joiner
+joined open_max remembered (Brings a ∷ acts) = offered open_max remembered (joined open_max remembered acts) a.piece
+joined open_max remembered (Ages now ∷ acts) = aged now (joined open_max remembered acts)
+
+-- The arrivals that count: an aging takes away those of the open texts whose set it drops.
+abbrev pub counting : ℕ → ℕ → (ℕ → ℕ) → List (Act Arrival) → List Arrival
+counting open_max remembered size [] = []
+counting open_max remembered size (Brings a ∷ acts) = a ∷ counting open_max remembered size acts
+counting open_max remembered size (Ages now ∷ acts) =
+    remaining size (is_old now (joined open_max remembered acts).kept) (counting open_max remembered size acts)
+    (counting open_max remembered size acts)
 
 -- What it finished, the last first.
-abbrev pub delivered : ℕ → ℕ → List Arrival → List (List Units)
+abbrev pub delivered : ℕ → ℕ → List (Act Arrival) → List (List Units)
 delivered open_max remembered [] = []
-delivered open_max remembered (a ∷ past) =
-    finished_now (answer open_max (joined open_max remembered past) a.piece) ++ delivered open_max remembered past
+delivered open_max remembered (Brings a ∷ acts) =
+    finished_now (answer open_max (joined open_max remembered acts) a.piece) ++ delivered open_max remembered acts
+delivered open_max remembered (Ages now ∷ acts) = delivered open_max remembered acts
 
-pub record InOrder (open_max remembered : ℕ) (x : Texts) (a : Arrival) (past : List Arrival) : Type 0 where
+pub record InOrder (open_max remembered : ℕ) (x : Texts) (a : Arrival) (past : List Arrival) (j : Joiner) : Type 0 where
   pub is_of : IsOf x a
   pub clear : is_clear remembered x.size past past a ≡ true
   pub recent : is_recent remembered x.size past a ≡ true
-  pub taken : answer open_max (joined open_max remembered past) a.piece ≢ TooManyOpen
+  pub taken : answer open_max j a.piece ≢ TooManyOpen
 
-abbrev pub AllInOrder : ℕ → ℕ → Texts → List Arrival → Type 0
+abbrev pub AllInOrder : ℕ → ℕ → Texts → List (Act Arrival) → Type 0
 AllInOrder open_max remembered x [] = Unit {0}
-AllInOrder open_max remembered x (a ∷ past) = InOrder open_max remembered x a past × AllInOrder open_max remembered x past
+AllInOrder open_max remembered x (Brings a ∷ acts) =
+    InOrder open_max remembered x a (counting open_max remembered x.size acts) (joined open_max remembered acts)
+    × AllInOrder open_max remembered x acts
+AllInOrder open_max remembered x (Ages now ∷ acts) = AllInOrder open_max remembered x acts
 
--- After any list of arrivals in order the open sets are those of the open texts, with just their pieces; the remembered
--- keys are those of the last completed texts; and what was delivered is each completed text once, whole, in order of
--- completion.
+-- After any list of arrivals in order and agings the open sets are those of the open texts, with just their pieces; the
+-- remembered keys are those of the last completed texts; and what was delivered is each completed text once, whole, in
+-- order of completion.
 abbrev pub JoinsInOrder : Type 0
 JoinsInOrder =
-    (open_max remembered : ℕ) (x : Texts) (past : List Arrival)
-    → AllInOrder open_max remembered x past
-    → HoldsOpen remembered x past (joined open_max remembered past)
-    × (delivered open_max remembered past ≡ map (whole_text x) (completed x.size past))
+    (open_max remembered : ℕ) (x : Texts) (acts : List (Act Arrival))
+    → AllInOrder open_max remembered x acts
+    → HoldsOpen remembered x (counting open_max remembered x.size acts) (joined open_max remembered acts)
+    × (delivered open_max remembered acts ≡ map (whole_text x) (completed x.size (counting open_max remembered x.size acts)))

@@ -2,22 +2,11 @@
 use Rattle.std.specs.Prelude.{ℕ, Bool, true, false, ◌&&◌, ◌==◌}
 use Rattle.std.specs.Str.{bytes_eq}
 use Rattle.sms_field.specs.AddressValue.{AddressValue}
-use Rattle.sms_field.specs.declared.symbols.Symbols.{Symbols}
-use Rattle.sms_field.specs.declared.symbols.Symbols.TheVariants.{Digits, Name}
-use Rattle.sms_tpdu.specs.declared.concat.Width.{Width}
-use Rattle.sms_tpdu.specs.declared.concat.Width.TheVariants.{Eight, Sixteen}
+use Rattle.sms_field.specs.SameAddress.{same_address}
+use Rattle.sms_tpdu.specs.declared.user_data.concat.Width.{Width}
+use Rattle.sms_tpdu.specs.declared.user_data.concat.Width.TheVariants.{Eight, Sixteen}
 use Rattle.sms_join.specs.declared.key.Key.{Key}
 use Rattle.sms_join.specs.declared.key.Key.TheVariants.{Single, Segmented}
-
-abbrev pub same_symbols : Symbols → Symbols → Bool
-same_symbols (Digits xs) (Digits ys) = bytes_eq xs ys
-same_symbols (Name xs) (Name ys) = bytes_eq xs ys
-same_symbols (Digits xs) (Name ys) = false
-same_symbols (Name xs) (Digits ys) = false
-
--- Two addresses are the same where type of number, plan and digits or name are.
-unfoldable pub same_address : AddressValue → AddressValue → Bool
-same_address a b = a.kind == b.kind && (a.plan == b.plan && same_symbols a.symbols b.symbols)
 
 unfoldable pub same_width : Width → Width → Bool
 same_width Eight Eight = true

@@ -4,10 +4,14 @@ pub mod Sets
 pub mod Joiner
 pub mod Counts
 pub mod Same
+pub mod Aging
+pub mod Acts
 pub mod Pieces
 pub mod History
 pub mod Arrivals
 pub mod Joining
+pub mod OpenTexts
+pub mod Completion
 pub mod OpenSet
 pub mod UnitsOfText
 pub mod Cut
@@ -18,3 +22,4 @@ pub mod LastKeys
 pub mod Offering
 pub mod SetOffering
 pub mod JoinerValue
+pub mod Finishing

@@ -1,9 +1,7 @@
 -- What is offered to a joiner: one piece of a message (3GPP TS 23.040, 9.2.3.24.1 and 9.2.3.24.8).
-use Rattle.std.specs.Prelude.{ℕ, ◌<◌, ◌≤◌, ◌^◌, List, Option, None, Some}
+use Rattle.std.specs.Prelude.{ℕ, List, Option, None, Some}
 use Rattle.sms_field.specs.AddressValue.{AddressValue}
-use Rattle.sms_tpdu.specs.declared.concat.Concat.{Concat}
-use Rattle.sms_tpdu.specs.declared.concat.Width.{Width}
-use Rattle.sms_tpdu.specs.declared.concat.Width.TheVariants.{Eight, Sixteen}
+use Rattle.sms_tpdu.specs.declared.user_data.concat.Concat.{Concat}
 use Rattle.sms_join.specs.declared.key.Key.{Key}
 use Rattle.sms_join.specs.declared.key.Key.TheVariants.{Single, Segmented}
 use Rattle.sms_join.specs.declared.units.Units.{Units}
@@ -40,12 +38,3 @@ piece_of now origin stamp concat units =
       units = units;
       moment = now;
     }
-
-abbrev pub FitsWidth : Width → ℕ → Type 0
-FitsWidth Eight reference = reference < 2 ^ 8
-FitsWidth Sixteen reference = reference < 2 ^ 16
-
--- A concatenation has a sequence from 1 to its maximum, and a reference of its width.
-abbrev pub IsPlace : Option Concat → Type 0
-IsPlace None = Unit {0}
-IsPlace (Some c) = (0 < c.sequence) × (c.sequence ≤ c.maximum) × FitsWidth c.width c.reference

@@ -1,13 +1,18 @@
 -- What the segments of a message are read as, put together in order (3GPP TS 23.040, 9.2.3.24.1).
-use Rattle.std.specs.Prelude.{◌≡◌, ℕ, Bool, true, false, List, if◌then◌else◌}
+use Rattle.std.specs.Prelude.{◌≡◌, ℕ, Bool, true, false, List, map, if◌then◌else◌}
+use Rattle.std.specs.Borrow.{Bor}
 use Rattle.std.specs.List.{flat_map, list_all}
 use Rattle.std.specs.Char.Utf16.{utf16_lossy_chars}
 use Rattle.sms_text.specs.TextOfSeptets.{text_of_septets}
-use Rattle.sms_tpdu.specs.declared.concat.Width.{Width}
+use Rattle.sms_tpdu.specs.declared.user_data.concat.Width.{Width}
 use Rattle.sms_join.specs.declared.units.Units.{Units}
 use Rattle.sms_join.specs.declared.units.Units.TheVariants.{Gsm, Ucs2}
 use Rattle.sms_join.specs.UnitsOfText.{IsText, numbers}
 use Rattle.sms_join.specs.Cut.{IsCut}
+
+-- segments that are lent
+abbrev pub lent : List (Bor Units) → List Units
+lent segments = map (λ (u : Bor Units). u.now) segments
 
 abbrev pub is_gsm : Units → Bool
 is_gsm (Gsm septets) = true

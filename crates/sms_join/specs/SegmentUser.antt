@@ -5,12 +5,12 @@ use Rattle.sms_text.specs.Octets.{IsOctets}
 use Rattle.sms_text.specs.Utf16.{octets_high_first}
 use Rattle.sms_field.specs.declared.coding.Alphabet.{Alphabet as Coding}
 use Rattle.sms_field.specs.declared.coding.Alphabet.TheVariants as coding
-use Rattle.sms_tpdu.specs.declared.concat.Width.{Width}
-use Rattle.sms_tpdu.specs.declared.user.Body.{Body}
-use Rattle.sms_tpdu.specs.declared.user.Body.TheVariants as body
-use Rattle.sms_tpdu.specs.declared.user.UserData.{UserData}
-use Rattle.sms_tpdu.specs.Elements.{element_octets}
-use Rattle.sms_tpdu.specs.Concatenation.{element_for, IsConcatOf}
+use Rattle.sms_tpdu.specs.declared.user_data.concat.Width.{Width}
+use Rattle.sms_tpdu.specs.declared.user_data.body.Body.{Body}
+use Rattle.sms_tpdu.specs.declared.user_data.body.Body.TheVariants as body
+use Rattle.sms_tpdu.specs.declared.user_data.UserData.{UserData}
+use Rattle.sms_tpdu.specs.UserData.Elements.{element_octets}
+use Rattle.sms_tpdu.specs.UserData.Concatenation.{element_for, IsConcatOf}
 use Rattle.sms_join.specs.declared.units.Units.{Units}
 use Rattle.sms_join.specs.declared.units.Units.TheVariants.{Gsm, Ucs2}
 use Rattle.sms_join.specs.declared.segment.Segment.{Segment}

@@ -16,6 +16,6 @@ SetSays old n u new (Ok Repeat) = (is_in n old.sequences ≡ true) × (new ≡ o
 SetSays old n u new (Ok Kept) =
     (is_in n old.sequences ≡ false) × ((suc (length old.sequences) == maximum_of old.key) ≡ false) × (new ≡ with_piece old n u)
 SetSays old n u new (Ok (Finished text)) =
-    (is_in n old.sequences ≡ false) × ((suc (length old.sequences) == maximum_of old.key) ≡ true) × (new ≡ with_piece old n u)
+    (is_in n old.sequences ≡ false) × ((suc (length old.sequences) == maximum_of old.key) ≡ true) × (new ≡ old)
     × (chars (string_bytes text) ≡ text_of_segments (with_piece old n u).units)
 SetSays old n u new (Err refused) = (is_in n old.sequences ≡ false) × (new ≡ old)

@@ -61,11 +61,13 @@ fn units_of(alloc: Global, text: &str) -> Result<Units, AllocError>
 /// The pieces of a text's units by a room.
 fn parts(alloc: Global, units: &Units, room: usize) -> Result<Vec<Units>, AllocError>
     requires { 2 ≤ room }
-    ensures { (text : List ℕ) → IsText text → units.now ≡ units_of_text text → IfOk result (λ pieces. IsParted room text pieces.items) }
+    ensures { (text : List ℕ) → IsText text → units.now ≡ units_of_text text
+        → IfOk result (λ pieces. IsParted room text pieces.items) }
 {
-    let mut pieces = Vec::new(alloc);
+    let count = units.len();
+    let mut pieces = Vec::with_capacity(alloc, (count / (room - 1)).saturating_add(1))?;
     let mut start = 0;
-    while start < units.len() {
+    while start < count {
         let end = units.piece_end(start, room);
         pieces.push(units.part(alloc, start, end)?)?;
         start = end;
@@ -75,7 +77,8 @@ fn parts(alloc: Global, units: &Units, room: usize) -> Result<Vec<Units>, AllocE
 
 /// The pieces in which a text's units are sent.
 fn pieces(alloc: Global, units: Units, width: Width) -> Result<Vec<Units>, AllocError>
-    ensures { (text : List ℕ) → IsText text → units ≡ units_of_text text → IfOk result (λ pieces. IsCut width text pieces.items) }
+    ensures { (text : List ℕ) → IsText text → units ≡ units_of_text text
+        → IfOk result (λ pieces. IsCut width text pieces.items) }
 {
     if units.len() <= units.room_alone() {
         return Ok(vec![in alloc; units]?);
@@ -92,7 +95,7 @@ fn numbered(alloc: Global, pieces: Vec<Units>) -> Result<Vec<Segment>, SplitFaul
     let Ok(maximum) = u8::try_from(pieces.len()) else {
         return Err(SplitFault::TooManySegments);
     };
-    let mut segments = Vec::new(alloc);
+    let mut segments = Vec::with_capacity(alloc, usize::from(maximum))?;
     for units in pieces {
         let sequence = segments.len() as u8 + 1;
         segments.push(Segment {
@@ -110,7 +113,8 @@ fn numbered(alloc: Global, pieces: Vec<Units>) -> Result<Vec<Segment>, SplitFaul
 /// units. It is one segment where it fits 160 septets or 70 units. Else each segment has as many whole characters as
 /// fit 153 septets or 67 units, or 152 and 66 with `Width::Sixteen`.
 pub fn split(alloc: Global, text: &str, width: Width) -> Result<Vec<Segment>, SplitFault>
-    ensures segments { IfOk result (λ segments. AreSegments width (chars text.now) segments.items) }
+    ensures segments { IfOk result (λ segments.
+        AreSegments width (chars text.now) segments.items) }
     ensures few { IfOk result (λ segments. length segments.items ≤ 255) }
     ensures sendable { IfOk result (λ segments. All (IsSendable width) segments.items) }
     ensures too_many { result ≡ Err TooManySegments

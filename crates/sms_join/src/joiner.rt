@@ -1,8 +1,12 @@
 //! A joiner of segments.
 
-ghost use Rattle.std.specs.Prelude.{◌≡◌, ◌<◌, false, position, IfOk, OnOk, OnErr};
+ghost use Rattle.std.specs.Prelude.{◌≡◌, ℕ, ◌<◌, false, position, IfOk, OnOk, OnErr};
+ghost use Rattle.sms_join.specs.declared.units.Units.{Units as Pieces};
+ghost use Rattle.sms_join.specs.Aging.{aged};
+ghost use Rattle.sms_join.specs.Finishing.{would_finish};
 ghost use Rattle.sms_join.specs.Key.{same_key};
-ghost use Rattle.sms_join.specs.Piece.{piece_of, key_of, sequence_of, size_of, IsPlace};
+ghost use Rattle.sms_join.specs.Piece.{piece_of, key_of, sequence_of, size_of};
+ghost use Rattle.sms_tpdu.specs.UserData.ConcatenationFound.{IsPlace};
 ghost use Rattle.sms_join.specs.Sets.{is_open};
 ghost use Rattle.sms_join.specs.Joiner.{new_joiner, is_among, answer, offered};
 ghost use Rattle.sms_join.specs.JoinerValue.{SameLimits};
@@ -26,6 +30,7 @@ use std::marker::Model;
 /// finishes twice.
 #[derive(Drop)]
 pub struct Joiner {
+    alloc: Global,
     open_max: usize,
     sets: Vec<OpenSet>,
     finished: LastKeys,
@@ -37,14 +42,19 @@ impl Model for Joiner {
 
     ghost Value = { JoinerValue };
 
-    ghost view = { λ j. record { open_max = j.open_max; remembered = j.finished.limit; holds = record { kept = all_pieces j.sets.items; finished = j.finished.keys } } };
+    ghost view = { λ j. record {
+      open_max = j.open_max;
+      remembered = j.finished.limit;
+      holds = record { kept = all_pieces j.sets.items; finished = j.finished.keys };
+    } };
 
     ghost invariant = { λ j. AreOpen j.sets.items };
 }
 
 /// Which of the sets such a message or segment is of.
 fn find(sets: &[OpenSet], origin: &Address, stamp: Stamp, concat: Option<Concat>) -> Option<usize>
-    ensures { result ≡ position (λ set. same_key set.key (key_of origin.now stamp concat)) sets.now }
+    ensures { result
+        ≡ position (λ set. same_key set.key (key_of origin.now stamp concat)) sets.now }
 {
     sets.iter()
         .position(|set| set.key().is_of(origin, stamp, concat))
@@ -76,9 +86,11 @@ impl Joiner {
     pub fn new(alloc: Global, open_max: usize, remembered: usize) -> Result<Joiner, AllocError>
         requires sets { 0 < open_max }
         requires keys { 0 < remembered }
-        ensures { IfOk result (λ joiner. joiner ≡ record { open_max = open_max; remembered = remembered; holds = new_joiner }) }
+        ensures { IfOk result (λ joiner. joiner
+            ≡ record { open_max = open_max; remembered = remembered; holds = new_joiner }) }
     {
         Ok(Joiner {
+            alloc,
             open_max,
             sets: Vec::new(alloc),
             finished: LastKeys::new(alloc, remembered)?,
@@ -92,7 +104,6 @@ impl Joiner {
     /// already, or whose set is among those that finished last, is a repeat.
     pub fn offer(
         &mut self,
-        alloc: Global,
         now: u64,
         origin: &Address,
         stamp: Stamp,
@@ -100,8 +111,11 @@ impl Joiner {
         units: Units,
     ) -> Result<Offer, OfferFault>
         requires { IsPlace concat }
-        ensures says { Says (answer self.old.open_max self.old.holds (piece_of now origin.now stamp concat units)) result }
-        ensures holds { OnOk result (IsSame self.new.holds (offered self.old.open_max self.old.remembered self.old.holds (piece_of now origin.now stamp concat units))) }
+        ensures says { let piece = piece_of now origin.now stamp concat units in
+            Says (answer self.old.open_max self.old.holds piece) result }
+        ensures holds { let piece = piece_of now origin.now stamp concat units in
+            OnOk result (IsSame self.new.holds
+            (offered self.old.open_max self.old.remembered self.old.holds piece)) }
         ensures limits { SameLimits self.new self.old }
         ensures refused { OnErr result (self.new ≡ self.old) }
     {
@@ -109,10 +123,10 @@ impl Joiner {
             return Ok(Offer::Repeat);
         }
         let Some(index) = find(&self.sets, origin, stamp, concat) else {
-            return self.begin(alloc, now, origin, stamp, concat, units);
+            return self.begin(now, origin, stamp, concat, units);
         };
         let set = &mut self.sets[index];
-        match set.offer(alloc, sequence_of(concat), units)? {
+        match set.offer(self.alloc, sequence_of(concat), units)? {
             Offer::Repeat => Ok(Offer::Repeat),
             Offer::Kept => Ok(Offer::Kept),
             Offer::Finished(text) => {
@@ -123,10 +137,33 @@ impl Joiner {
         }
     }
 
+    /// Whether such a message or segment would finish its set. It takes no memory.
+    pub fn would_finish(&self, origin: &Address, stamp: Stamp, concat: Option<Concat>) -> bool
+        requires { IsPlace concat }
+        ensures { (now : ℕ) (units : Pieces)
+            → result ≡ would_finish self.now.holds (piece_of now origin.now stamp concat units) }
+    {
+        if self.finished.contains(origin, stamp, concat) {
+            return false;
+        }
+        let Some(index) = find(&self.sets, origin, stamp, concat) else {
+            return size_of(concat) == 1;
+        };
+        let set = &self.sets[index];
+        set.lacks_only(sequence_of(concat))
+    }
+
+    /// Drops the sets whose first piece came 604,800 seconds before, or earlier. It takes no memory.
+    pub fn age(&mut self, now: u64)
+        ensures holds { IsSame self.new.holds (aged now self.old.holds) }
+        ensures limits { SameLimits self.new self.old }
+    {
+        self.sets.retain(|set| !set.is_old(now));
+    }
+
     /// Takes the first piece of a set.
     fn begin(
         &mut self,
-        alloc: Global,
         now: u64,
         origin: &Address,
         stamp: Stamp,
@@ -136,14 +173,17 @@ impl Joiner {
         requires place { IsPlace concat }
         requires fresh { is_among self.old.holds.finished (key_of origin.now stamp concat) ≡ false }
         requires closed { is_open self.old.holds.kept (key_of origin.now stamp concat) ≡ false }
-        ensures says { Says (answer self.old.open_max self.old.holds (piece_of now origin.now stamp concat units)) result }
-        ensures holds { OnOk result (IsSame self.new.holds (offered self.old.open_max self.old.remembered self.old.holds (piece_of now origin.now stamp concat units))) }
+        ensures says { let piece = piece_of now origin.now stamp concat units in
+            Says (answer self.old.open_max self.old.holds piece) result }
+        ensures holds { let piece = piece_of now origin.now stamp concat units in
+            OnOk result (IsSame self.new.holds
+            (offered self.old.open_max self.old.remembered self.old.holds piece)) }
         ensures limits { SameLimits self.new self.old }
         ensures refused { OnErr result (self.new ≡ self.old) }
     {
         if size_of(concat) == 1 {
-            let key = Key::of(alloc, origin, stamp, concat)?;
-            let text = read_units(alloc, &[units])?;
+            let key = Key::of(self.alloc, origin, stamp, concat)?;
+            let text = read_units(self.alloc, &[units])?;
             self.finished.push(key);
             return Ok(Offer::Finished(text));
         }
@@ -151,8 +191,8 @@ impl Joiner {
             return Err(OfferFault::TooManyOpen);
         }
         self.sets.reserve(1)?;
-        let key = Key::of(alloc, origin, stamp, concat)?;
-        let set = OpenSet::new(alloc, key, now, sequence_of(concat), units)?;
+        let key = Key::of(self.alloc, origin, stamp, concat)?;
+        let set = OpenSet::new(self.alloc, key, now, sequence_of(concat), units)?;
         self.sets.push_reserved(set);
         Ok(Offer::Kept)
     }

@@ -1,7 +1,8 @@
 //! The identity of a set of segments.
 
 ghost use Rattle.std.specs.Prelude.{◌≡◌, IfOk};
-ghost use Rattle.sms_join.specs.Key.{same_address, same_key, maximum_of};
+ghost use Rattle.sms_join.specs.Key.{same_key, maximum_of};
+ghost use Rattle.sms_field.specs.SameAddress.{same_address};
 ghost use Rattle.sms_join.specs.Piece.{key_of};
 
 use sms_field::{Address, Stamp};
@@ -26,7 +27,7 @@ pub enum Key {
 }
 
 /// Whether two addresses are the same.
-#[tactic(auto, unfolding(crate::specs::Key::same_address))]
+#[tactic(auto, unfolding(sms_field::specs::SameAddress::same_address))]
 fn is_same_address(a: &Address, b: &Address) -> bool
     ensures { result ≡ same_address a.now b.now }
 {

@@ -7,6 +7,7 @@ ghost use Rattle.sms_join.specs.Joiner.{is_among};
 ghost use Rattle.sms_join.specs.Piece.{key_of};
 
 use crate::key::Key;
+use circular_buffer::HeapCircularBuffer;
 use sms_field::{Address, Stamp};
 use sms_tpdu::Concat;
 use std::alloc::{AllocError, Global};
@@ -16,24 +17,29 @@ use std::marker::Model;
 #[derive(Drop)]
 pub(crate) struct LastKeys {
     /// The newest is the last.
-    keys: Vec<Key>,
-    limit: usize,
+    keys: HeapCircularBuffer<Key>,
 }
 
 impl Model for LastKeys {
-    ghost use Rattle.std.specs.Prelude.{◌<◌, ◌≤◌, length, reverse, vec_capacity};
+    ghost use Rattle.std.specs.Prelude.{◌<◌, reverse};
     ghost use Rattle.sms_join.specs.LastKeys.{LastKeysValue};
 
     ghost Value = { LastKeysValue };
 
-    ghost view = { λ l. record { limit = l.limit; keys = reverse l.keys.items } };
+    ghost view = { λ l. record { limit = l.keys.capacity; keys = reverse l.keys.items } };
 
-    ghost invariant = { λ l. (0 < l.limit) × (length l.keys.items ≤ l.limit) × (l.limit ≤ vec_capacity l.keys) };
+    ghost invariant = { λ l. 0 < l.keys.capacity };
 }
 
 /// Whether the key of such a message or segment is there.
-fn has_key(keys: &[Key], origin: &Address, stamp: Stamp, concat: Option<Concat>) -> bool
-    ensures { result ≡ list_any (λ key. same_key key (key_of origin.now stamp concat)) keys.now }
+fn has_key(
+    keys: &HeapCircularBuffer<Key>,
+    origin: &Address,
+    stamp: Stamp,
+    concat: Option<Concat>,
+) -> bool
+    ensures { result
+        ≡ list_any (λ key. same_key key (key_of origin.now stamp concat)) keys.now.items }
 {
     keys.iter().any(|key| key.is_of(origin, stamp, concat))
 }
@@ -45,8 +51,7 @@ impl LastKeys {
         ensures { IfOk result (λ keys. keys ≡ record { limit = limit; keys = [] }) }
     {
         Ok(LastKeys {
-            keys: Vec::with_capacity(alloc, limit)?,
-            limit,
+            keys: HeapCircularBuffer::with_capacity(alloc, limit)?,
         })
     }
 
@@ -59,11 +64,11 @@ impl LastKeys {
 
     /// Adds a key. It takes no memory.
     pub(crate) fn push(&mut self, key: Key)
-        ensures { self.new ≡ record { limit = self.old.limit; keys = take self.old.limit (key ∷ self.old.keys) } }
+        ensures { self.new ≡ record {
+          limit = self.old.limit;
+          keys = take self.old.limit (key ∷ self.old.keys);
+        } }
     {
-        if self.keys.len() == self.limit {
-            self.keys.remove(0);
-        }
-        self.keys.push_reserved(key);
+        self.keys.push_back(key);
     }
 }

@@ -1,12 +1,17 @@
-//! The laws of joining the pieces of texts.
+//! What holds of every joiner, whatever comes. Each function does nothing: its contract is the law.
 
+ghost use Rattle.sms_join.specs.Aging.{AgesAlike, SetsStayFew};
+ghost use Rattle.sms_join.specs.Completion.{CompletedAreWhole, CompleteInOrder};
 ghost use Rattle.sms_join.specs.Counts.{WholeByCount};
+ghost use Rattle.sms_join.specs.Finishing.{AnswerFinishes, SameIsEquivalence};
 ghost use Rattle.sms_join.specs.History.{FinishesByHistory};
 ghost use Rattle.sms_join.specs.Joining.{JoinsInOrder, JoinsOne};
+ghost use Rattle.sms_join.specs.OpenTexts.{AgesOne, NewIsFresh, OpenSetsAreOpenTexts, StayApart, TurnsAway};
 ghost use Rattle.sms_join.specs.Pieces.{FinishesOnce, FinishesText};
 ghost use Rattle.sms_join.specs.Same.{AnswersAlike};
 
-/// The pieces of a message that are offered under its key finish it once, by the first offer with which all have come.
+/// The pieces of a message that are offered under its key finish it once, by the first offer with which all have come,
+/// where no aging drops them between.
 pub fn pieces_finish_once()
     ensures { FinishesOnce }
 {}
@@ -16,7 +21,7 @@ pub fn pieces_finish_text()
     ensures { FinishesText }
 {}
 
-/// Which offers of any list finish their set is told by the offers and their answers.
+/// Which offers of any list of offers and agings finish their set is told by these and the answers.
 pub fn finishes_by_history()
     ensures { FinishesByHistory }
 {}
@@ -26,7 +31,7 @@ pub fn arrival_joins_in_order()
     ensures { JoinsOne }
 {}
 
-/// After arrivals in order the open sets are those of the texts that have arrived in part, the remembered keys are those
+/// After arrivals in order and agings the open sets are those of the texts that have arrived in part, the remembered keys are those
 /// of the last texts that have arrived whole, and each of these was delivered once, in order of completion.
 pub fn arrivals_join_in_order()
     ensures { JoinsInOrder }
@@ -40,4 +45,59 @@ pub fn whole_by_count()
 /// The order in which pieces stand shows nowhere.
 pub fn answers_alike()
     ensures { AnswersAlike }
+{}
+
+/// Holding the same is an equivalence.
+pub fn same_is_equivalence()
+    ensures { SameIsEquivalence }
+{}
+
+/// A piece that would finish its set is answered so, and no other one is.
+pub fn answer_finishes()
+    ensures { AnswerFinishes }
+{}
+
+/// An aging leaves joiners that hold the same the same.
+pub fn agings_keep_same()
+    ensures { AgesAlike }
+{}
+
+/// No offer and no aging opens a set too many.
+pub fn sets_stay_few()
+    ensures { SetsStayFew }
+{}
+
+/// One aging leaves just the pieces of the open texts that remain.
+pub fn aging_keeps_texts()
+    ensures { AgesOne }
+{}
+
+/// As many sets are open as texts are.
+pub fn open_sets_are_open_texts()
+    ensures { OpenSetsAreOpenTexts }
+{}
+
+/// An arrival in order leaves no two open texts with one key.
+pub fn open_texts_stay_apart()
+    ensures { StayApart }
+{}
+
+/// A piece that arrives in order and is no repeat is of a text that is not complete.
+pub fn new_piece_is_fresh()
+    ensures { NewIsFresh }
+{}
+
+/// When a piece that arrives in order is turned away.
+pub fn piece_is_turned_away()
+    ensures { TurnsAway }
+{}
+
+/// A completed text has arrived whole.
+pub fn completed_texts_are_whole()
+    ensures { CompletedAreWhole }
+{}
+
+/// One completed text stands before another just where its last missing piece came earlier.
+pub fn texts_complete_in_order()
+    ensures { CompleteInOrder }
 {}

@@ -5,7 +5,7 @@ mod cut;
 mod joiner;
 mod key;
 mod last_keys;
-mod laws;
+pub mod laws;
 mod offer;
 mod reading;
 mod segment;
@@ -15,10 +15,6 @@ mod units;
 pub use cut::{SplitFault, split, texts_have_one_cut};
 pub use joiner::Joiner;
 pub use key::Key;
-pub use laws::{
-    answers_alike, arrival_joins_in_order, arrivals_join_in_order, finishes_by_history,
-    pieces_finish_once, pieces_finish_text, whole_by_count,
-};
 pub use offer::{Offer, OfferFault};
 pub use reading::{cut_is_read_as_text, read_units};
 pub use segment::{Segment, segment_user};

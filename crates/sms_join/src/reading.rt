@@ -6,11 +6,17 @@ ghost use Rattle.std.specs.Str.{chars};
 ghost use Rattle.std.specs.String.{string_bytes};
 ghost use Rattle.sms_text.specs.Bits.{AreSeptets};
 ghost use Rattle.sms_join.specs.UnitsOfText.{numbers};
-ghost use Rattle.sms_join.specs.Reading.{CutIsReadAsText, is_gsm, is_ucs2, text_of_units, text_of_segments};
+ghost use Rattle.sms_join.specs.Reading.{CutIsReadAsText, is_gsm, is_ucs2, lent, text_of_units, text_of_segments};
 
 use crate::units::Units;
 use sms_text::{text_of_gsm, text_of_ucs2};
 use std::alloc::{AllocError, Global};
+
+/// As many septets as a message has room for.
+const SEPTETS: usize = 160;
+
+/// As many 16-bit units as a message has room for.
+const WIDE_UNITS: usize = 70;
 
 /// The pieces of a text, of either width and in order, are read as the text.
 pub fn cut_is_read_as_text()
@@ -18,15 +24,15 @@ pub fn cut_is_read_as_text()
 {}
 
 /// The septets of all segments, where all have septets.
-fn joined_septets(alloc: Global, segments: &[Units]) -> Result<Option<Vec<u8>>, AllocError>
+fn joined_septets(alloc: Global, segments: &[&Units]) -> Result<Option<Vec<u8>>, AllocError>
     ensures { IfOk result (λ found. MatchOption found
-        (list_all is_gsm segments.now ≡ false)
-        (λ septets. (list_all is_gsm segments.now ≡ true) × AreSeptets septets.items
-        × (septets.items ≡ flat_map numbers segments.now))) }
+        (list_all is_gsm (lent segments.now) ≡ false)
+        (λ septets. (list_all is_gsm (lent segments.now) ≡ true) × AreSeptets septets.items
+        × (septets.items ≡ flat_map numbers (lent segments.now)))) }
 {
-    let mut joined = Vec::new(alloc);
+    let mut joined = Vec::with_capacity(alloc, segments.len().saturating_mul(SEPTETS))?;
     for units in segments {
-        let Units::Gsm(septets) = units else {
+        let Units::Gsm(septets) = *units else {
             return Ok(None);
         };
         joined.extend_from_slice(septets.as_slice())?;
@@ -35,14 +41,14 @@ fn joined_septets(alloc: Global, segments: &[Units]) -> Result<Option<Vec<u8>>, 
 }
 
 /// The 16-bit units of all segments, where all have such units.
-fn joined_wide_units(alloc: Global, segments: &[Units]) -> Result<Option<Vec<u16>>, AllocError>
+fn joined_wide_units(alloc: Global, segments: &[&Units]) -> Result<Option<Vec<u16>>, AllocError>
     ensures { IfOk result (λ found. MatchOption found
-        (list_all is_ucs2 segments.now ≡ false)
-        (λ units. (list_all is_ucs2 segments.now ≡ true) × (units.items ≡ flat_map numbers segments.now))) }
+        (list_all is_ucs2 (lent segments.now) ≡ false)
+        (λ units. (list_all is_ucs2 (lent segments.now) ≡ true) × (units.items ≡ flat_map numbers (lent segments.now)))) }
 {
-    let mut joined = Vec::new(alloc);
+    let mut joined = Vec::with_capacity(alloc, segments.len().saturating_mul(WIDE_UNITS))?;
     for units in segments {
-        let Units::Ucs2(units) = units else {
+        let Units::Ucs2(units) = *units else {
             return Ok(None);
         };
         joined.extend_from_slice(units.as_slice())?;
@@ -61,21 +67,33 @@ fn text_of(alloc: Global, units: &Units) -> Result<String, AllocError>
 }
 
 /// The texts of the segments one after another.
-fn joined_texts(alloc: Global, segments: &[Units]) -> Result<String, AllocError>
-    ensures { IfOk result (λ text. chars (string_bytes text) ≡ flat_map text_of_units segments.now) }
+fn joined_texts(alloc: Global, segments: &[&Units]) -> Result<String, AllocError>
+    ensures { IfOk result (λ text.
+        chars (string_bytes text) ≡ flat_map text_of_units (lent segments.now)) }
 {
     let mut joined = String::new(alloc);
     for units in segments {
-        let text = text_of(alloc, units)?;
+        let text = text_of(alloc, *units)?;
         joined.push_str(&text)?;
     }
     Ok(joined)
 }
 
-/// The text of the segments of a message, in order. Segments of one alphabet are joined before they are read, so that a
-/// pair may begin in one and end in the next; with both alphabets each segment is read by itself.
-pub fn read_units(alloc: Global, segments: &[Units]) -> Result<String, AllocError>
-    ensures { IfOk result (λ text. chars (string_bytes text) ≡ text_of_segments segments.now) }
+/// The segments, lent, with room for one more.
+pub(crate) fn lend(alloc: Global, segments: &[Units]) -> Result<Vec<&Units>, AllocError>
+    ensures { IfOk result (λ pieces. lent pieces.items ≡ segments.now) }
+{
+    let mut pieces = Vec::with_capacity(alloc, segments.len() + 1)?;
+    for units in segments {
+        pieces.push(units)?;
+    }
+    Ok(pieces)
+}
+
+/// The text of the segments of a message, in order.
+pub(crate) fn read_lent(alloc: Global, segments: &[&Units]) -> Result<String, AllocError>
+    ensures { IfOk result (λ text.
+        chars (string_bytes text) ≡ text_of_segments (lent segments.now)) }
 {
     if let Some(septets) = joined_septets(alloc, segments)? {
         return text_of_gsm(alloc, &septets);
@@ -84,4 +102,13 @@ pub fn read_units(alloc: Global, segments: &[Units]) -> Result<String, AllocErro
         return text_of_ucs2(alloc, &units);
     }
     joined_texts(alloc, segments)
+}
+
+/// The text of the segments of a message, in order. Segments of one alphabet are joined before they are read, so that a
+/// pair may begin in one and end in the next; with both alphabets each segment is read by itself.
+pub fn read_units(alloc: Global, segments: &[Units]) -> Result<String, AllocError>
+    ensures { IfOk result (λ text. chars (string_bytes text) ≡ text_of_segments segments.now) }
+{
+    let pieces = lend(alloc, segments)?;
+    read_lent(alloc, &pieces)
 }

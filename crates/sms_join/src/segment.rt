@@ -1,7 +1,7 @@
 //! One segment of a message.
 
 ghost use Rattle.std.specs.Prelude.{◌≡◌, ◌<◌, ◌≤◌, IfOk};
-ghost use Rattle.sms_tpdu.specs.declared.concat.Width.TheVariants.{Eight};
+ghost use Rattle.sms_tpdu.specs.declared.user_data.concat.Width.TheVariants.{Eight};
 ghost use Rattle.sms_text.specs.Octets.{IsOctets};
 ghost use Rattle.sms_tpdu.specs.UserData.{FitsAlphabet, header_octets};
 ghost use Rattle.sms_join.specs.SegmentUser.{IsSendable, HasRange, coding_of, body_of, header_of, user_of, TellsPlace};
@@ -47,7 +47,8 @@ fn header_of_place(
     requires reference { width ≡ Eight → reference < 256 }
     requires first { 1 ≤ sequence }
     requires last { sequence ≤ maximum }
-    ensures header { IfOk result (λ header. header ≡ header_of width reference maximum sequence) }
+    ensures header { IfOk result (λ header.
+        header ≡ header_of width reference maximum sequence) }
     ensures octets { IfOk result (λ header. IsOctets (header_octets header)) }
     ensures told { IfOk result (TellsPlace width reference maximum sequence) }
 {
@@ -76,7 +77,8 @@ pub fn segment_user(
     requires sendable { IsSendable width segment.now }
     requires reference { width ≡ Eight → reference < 256 }
     ensures user { IfOk result (λ user. user ≡ user_of width reference segment.now) }
-    ensures told { IfOk result (λ user. TellsPlace width reference segment.now.maximum segment.now.sequence user.header) }
+    ensures told { IfOk result (λ user.
+        TellsPlace width reference segment.now.maximum segment.now.sequence user.header) }
     ensures fits { IfOk result (FitsAlphabet (coding_of segment.now.units)) }
 {
     let body = body_of_units(alloc, &segment.units)?;

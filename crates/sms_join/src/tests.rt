@@ -5,44 +5,121 @@ use sms_tpdu::{Body, Septets, Width};
 use std::alloc::{AllocError, Global};
 use std::test::Fail;
 
-/// A sign so many times, another text, and the sign so many times; how many units the segments have with references of
-/// eight bits, and of sixteen.
-static CUTS: [(&str, usize, &str, usize, &[usize], &[usize]); 14] = [
-    ("a", 0, "", 0, &[0], &[0]),
-    ("a", 160, "", 0, &[160], &[160]),
-    ("a", 161, "", 0, &[153, 8], &[152, 9]),
-    ("a", 306, "", 0, &[153, 153], &[152, 152, 2]),
-    ("a", 151, "€", 10, &[153, 10], &[151, 12]),
-    ("a", 152, "€", 10, &[152, 12], &[152, 12]),
-    ("a", 158, "€", 0, &[160], &[160]),
-    ("a", 159, "€", 0, &[153, 8], &[152, 9]),
-    ("ж", 70, "", 0, &[70], &[70]),
-    ("ж", 71, "", 0, &[67, 4], &[66, 5]),
-    ("ж", 134, "", 0, &[67, 67], &[66, 66, 2]),
-    ("ж", 65, "😀", 4, &[67, 4], &[65, 6]),
-    ("ж", 66, "😀", 3, &[66, 5], &[66, 5]),
-    ("ж", 68, "😀", 0, &[70], &[70]),
+/// A text: a sign a number of times, another text, and the sign a number of times; and how many units its segments have
+/// with references of eight bits, and of sixteen.
+#[derive(Clone, Copy)]
+struct Cut {
+    sign: &'static str,
+    times: usize,
+    then: &'static str,
+    again: usize,
+    eight: &'static [usize],
+    sixteen: &'static [usize],
+}
+
+/// The cut of a sign a number of times, another text, and the sign a number of times.
+fn row(
+    sign: &'static str,
+    times: usize,
+    then: &'static str,
+    again: usize,
+    eight: &'static [usize],
+    sixteen: &'static [usize],
+) -> Cut {
+    Cut {
+        sign,
+        times,
+        then,
+        again,
+        eight,
+        sixteen,
+    }
+}
+
+/// Texts on both sides of each cut.
+fn cuts() -> [Cut; 15] {
+    [
+        row("a", 0, "", 0, &[0], &[0]),
+        row("a", 160, "", 0, &[160], &[160]),
+        row("a", 161, "", 0, &[153, 8], &[152, 9]),
+        row("a", 306, "", 0, &[153, 153], &[152, 152, 2]),
+        row("a", 151, "€", 10, &[153, 10], &[151, 12]),
+        row("a", 152, "€", 10, &[152, 12], &[152, 12]),
+        row("a", 158, "€", 0, &[160], &[160]),
+        row("a", 159, "€", 0, &[153, 8], &[152, 9]),
+        row("ж", 70, "", 0, &[70], &[70]),
+        row("ж", 71, "", 0, &[67, 4], &[66, 5]),
+        row("ж", 134, "", 0, &[67, 67], &[66, 66, 2]),
+        row("ж", 65, "😀", 4, &[67, 4], &[65, 6]),
+        row("ж", 66, "😀", 3, &[66, 5], &[66, 5]),
+        row("ж", 68, "😀", 0, &[70], &[70]),
+        row(
+            "ж",
+            671,
+            "",
+            0,
+            &[67, 67, 67, 67, 67, 67, 67, 67, 67, 67, 1],
+            &[66, 66, 66, 66, 66, 66, 66, 66, 66, 66, 11],
+        ),
+    ]
+}
+
+/// A sign a number of times and another text, and the header and the body of its last segment under reference 7.
+#[derive(Clone, Copy)]
+struct LastSegment {
+    sign: &'static str,
+    times: usize,
+    then: &'static str,
+    width: Width,
+    octets: &'static [u8],
+}
+
+static LAST_SEGMENTS: [LastSegment; 6] = [
+    LastSegment {
+        sign: "a",
+        times: 1,
+        then: "€",
+        width: Width::Eight,
+        octets: &[97, 27, 101],
+    },
+    LastSegment {
+        sign: "a",
+        times: 159,
+        then: "€",
+        width: Width::Eight,
+        octets: &[0, 3, 7, 2, 2, 97, 97, 97, 97, 97, 97, 27, 101],
+    },
+    LastSegment {
+        sign: "a",
+        times: 159,
+        then: "€",
+        width: Width::Sixteen,
+        octets: &[8, 4, 0, 7, 2, 2, 97, 97, 97, 97, 97, 97, 97, 27, 101],
+    },
+    LastSegment {
+        sign: "ж",
+        times: 1,
+        then: "a",
+        width: Width::Eight,
+        octets: &[4, 0x36, 0, 97],
+    },
+    LastSegment {
+        sign: "ж",
+        times: 66,
+        then: "😀aaa",
+        width: Width::Eight,
+        octets: &[0, 3, 7, 2, 2, 0xD8, 0x3D, 0xDE, 0, 0, 97, 0, 97, 0, 97],
+    },
+    LastSegment {
+        sign: "ж",
+        times: 66,
+        then: "😀aaa",
+        width: Width::Sixteen,
+        octets: &[8, 4, 0, 7, 2, 2, 0xD8, 0x3D, 0xDE, 0, 0, 97, 0, 97, 0, 97],
+    },
 ];
 
-/// A sign so many times and another text, and the header and the body of its last segment under reference 7.
-static LAST_OCTETS: [(&str, usize, &str, &[u8]); 4] = [
-    ("a", 1, "€", &[97, 27, 101]),
-    (
-        "a",
-        159,
-        "€",
-        &[0, 3, 7, 2, 2, 97, 97, 97, 97, 97, 97, 27, 101],
-    ),
-    ("ж", 1, "a", &[4, 0x36, 0, 97]),
-    (
-        "ж",
-        66,
-        "😀aaa",
-        &[0, 3, 7, 2, 2, 0xD8, 0x3D, 0xDE, 0, 0, 97, 0, 97, 0, 97],
-    ),
-];
-
-/// A sign so many times, and another text.
+/// A sign a number of times, and another text.
 fn repeated(alloc: Global, sign: &str, count: usize, more: &str) -> Result<String, AllocError> {
     let mut text = String::new(alloc);
     for _ in 0..count {
@@ -52,7 +129,7 @@ fn repeated(alloc: Global, sign: &str, count: usize, more: &str) -> Result<Strin
     Ok(text)
 }
 
-/// Whether the text has segments of so many units, and they are read as the text.
+/// Whether the text has segments of these numbers of units, and they are read as the text.
 fn is_cut(alloc: Global, text: &str, width: Width, counts: &[usize]) -> Result<bool, Fail> {
     let mut found = Vec::new(alloc);
     let mut pieces = Vec::new(alloc);
@@ -64,11 +141,11 @@ fn is_cut(alloc: Global, text: &str, width: Width, counts: &[usize]) -> Result<b
 }
 
 /// The header and the body of the text's last segment under reference 7.
-fn last_octets(alloc: Global, text: &str) -> Result<Vec<u8>, Fail> {
-    let segments = split(alloc, text, Width::Eight)?;
+fn last_octets(alloc: Global, text: &str, width: Width) -> Result<Vec<u8>, Fail> {
+    let segments = split(alloc, text, width)?;
     let mut octets = Vec::new(alloc);
     if let Some(last) = segments.last() {
-        let user = segment_user(alloc, last, Width::Eight, 7)?;
+        let user = segment_user(alloc, last, width, 7)?;
         if let Some(header) = &user.header {
             octets.extend_from_slice(header.as_slice())?;
         }
@@ -83,13 +160,13 @@ fn last_octets(alloc: Global, text: &str) -> Result<Vec<u8>, Fail> {
 #[test]
 fn cuts_texts(rt: HostRuntime) -> Result<(), Fail> {
     let alloc = rt.alloc();
-    for row in CUTS.as_slice() {
-        let front = repeated(alloc, row.0, row.1, row.2)?;
-        let text = repeated(alloc, row.0, row.3, "")?;
+    for row in cuts().as_slice() {
+        let front = repeated(alloc, row.sign, row.times, row.then)?;
+        let text = repeated(alloc, row.sign, row.again, "")?;
         let text = repeated(alloc, &front, 1, &text)?;
-        let eight = is_cut(alloc, &text, Width::Eight, row.4)?;
-        let sixteen = is_cut(alloc, &text, Width::Sixteen, row.5)?;
-        assert!(rt; eight && sixteen);
+        let eight = is_cut(alloc, &text, Width::Eight, row.eight)?;
+        let sixteen = is_cut(alloc, &text, Width::Sixteen, row.sixteen)?;
+        assert!(rt; eight && sixteen, "{text}");
     }
     let longest = repeated(alloc, "a", 39_015, "")?;
     let segments = split(alloc, &longest, Width::Eight)?;
@@ -104,10 +181,10 @@ fn cuts_texts(rt: HostRuntime) -> Result<(), Fail> {
 #[test]
 fn gives_user_data(rt: HostRuntime) -> Result<(), Fail> {
     let alloc = rt.alloc();
-    for row in LAST_OCTETS.as_slice() {
-        let text = repeated(alloc, row.0, row.1, row.2)?;
-        let found = last_octets(alloc, &text)?;
-        assert_eq!(rt; found.as_slice(), row.3);
+    for row in LAST_SEGMENTS.as_slice() {
+        let text = repeated(alloc, row.sign, row.times, row.then)?;
+        let found = last_octets(alloc, &text, row.width)?;
+        assert_eq!(rt; found.as_slice(), row.octets, "{text}");
     }
     Ok(())
 }

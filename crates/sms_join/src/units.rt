@@ -94,7 +94,8 @@ impl Units {
     /// Whether the unit here begins a pair.
     fn begins_pair(&self, place: usize) -> bool
         requires { place < length (numbers self.now) }
-        ensures { result ≡ begins_pair (alphabet_in self.now) (slice_index (numbers self.now) place) }
+        ensures { result
+            ≡ begins_pair (alphabet_in self.now) (slice_index (numbers self.now) place) }
     {
         match self {
             Units::Gsm(septets) => septets.as_slice()[place] == ESCAPE,
@@ -106,8 +107,12 @@ impl Units {
     pub(crate) fn piece_end(&self, start: usize, room: usize) -> usize
         requires start { start < length (numbers self.now) }
         requires room { 2 ≤ room }
-        ensures last { length (numbers self.now) - start ≤ room → result ≡ length (numbers self.now) }
-        ensures other { room < length (numbers self.now) - start → result ≡ (if begins_pair (alphabet_in self.now) (slice_index (numbers self.now) (start + room - 1)) then start + room - 1 else start + room) }
+        ensures last { length (numbers self.now) - start ≤ room
+            → result ≡ length (numbers self.now) }
+        ensures other { room < length (numbers self.now) - start
+            → result ≡ (if begins_pair (alphabet_in self.now)
+            (slice_index (numbers self.now) (start + room - 1))
+            then start + room - 1 else start + room) }
     {
         if self.len() - start <= room {
             return self.len();
@@ -124,7 +129,8 @@ impl Units {
     pub(crate) fn part(&self, alloc: Global, start: usize, end: usize) -> Result<Units, AllocError>
         requires order { start ≤ end }
         requires inside { end ≤ length (numbers self.now) }
-        ensures { IfOk result (λ part. part ≡ units_in (alphabet_in self.now) (slice_range (numbers self.now) start end)) }
+        ensures { IfOk result (λ part. part
+            ≡ units_in (alphabet_in self.now) (slice_range (numbers self.now) start end)) }
     {
         match self {
             Units::Gsm(septets) => {

@@ -1,2 +1,3 @@
 mod PacketRead
 mod Sizes
+pub mod ReadMessages

@@ -1,15 +1,16 @@
 -- What a packet that carries a message is read as.
 use Rattle.std.proofs.Common.{◌≡◌, ℕ, Bool, List, length, Option, Some, None, refl, ap, subst, ◌∙◌}
-use Rattle.sms_field.specs.Reading.{Reads, IsRefused}
+use Rattle.sms_field.specs.Reading.{Reads}
 use Rattle.sms_field.specs.declared.refusal.Refusal.{Refusal}
 use Rattle.sms_field.specs.declared.refusal.Refusal.TheVariants.{Memory, At}
-use Rattle.sms_tpdu.proofs.Laws.{only_memory}
+use Rattle.sms_field.specs.RefusalLaws.{only_memory}
+use Rattle.sms_field.specs.ReadingLaws.{one_reading}
 use Rattle.sms_relay.specs.CpValue.{CpValue}
 use Rattle.sms_relay.specs.Cp.{cp_message, SpellsCp}
-use Rattle.sms_relay.specs.CpLaws as connection
+use Rattle.sms_relay.specs.CpLaws.{cp_laws}
 use Rattle.sms_relay.specs.RpValue.{RpValue}
 use Rattle.sms_relay.specs.Rp.{rp_message, SpellsRp}
-use Rattle.sms_relay.specs.RpLaws as relay
+use Rattle.sms_relay.specs.RpLaws.{rp_laws}
 use Rattle.sms_relay.specs.Carried.{in_transaction, CarriesRelay}
 use Rattle.sms_relay.specs.CarriedLaws.{read_alone, packet_read}
 use Rattle.sms_relay.specs.Unwrapped.{IsReadAs, Holds, IsUnwrapped}
@@ -27,20 +28,21 @@ spells_some : (flag : Bool) (value : ℕ) (m : Option RpValue) (packet : List �
 spells_some flag value None packet p = record { outer = in_transaction flag value cp.Ack; spelled = p }
 spells_some flag value (Some m) packet p = record { outer = in_transaction flag value (cp.Transfer p.0); spelled = p.2 }
 
-pub refused_for_memory : (flag : Bool) (value : ℕ) (m : Option RpValue) (packet : List ℕ) → CarriesRelay flag value m packet → (e : Refusal RelayFault) → IsRefused (Reads cp_message) cp_message.reason Short packet e → e ≡ Memory
-refused_for_memory flag value m packet p e h =
+-- what carries a message is read as a CP message
+pub carrier_read : (flag : Bool) (value : ℕ) (m : Option RpValue) (packet : List ℕ) → CarriesRelay flag value m packet → (outer : CpValue) × Reads cp_message outer packet (length packet)
+carrier_read flag value m packet p =
     let s = spells_some flag value m packet p in
-    only_memory _ _ Short packet packet s.outer (length packet) (connection.spelled_in_octets s.outer packet s.spelled) refl (packet_read s.outer packet s.spelled) e h
+    (s.outer, packet_read s.outer packet s.spelled)
 
 outer_is : (c outer : CpValue) (packet : List ℕ) (used : ℕ) → SpellsCp c packet → Reads cp_message outer packet used → outer ≡ c
-outer_is c outer packet used s r = (connection.one_reading c outer packet (length packet) used (connection.spelled_in_octets c packet s) (packet_read c packet s) r).0
+outer_is c outer packet used s r = (one_reading cp_message Short cp_laws.lawful c outer packet (length packet) used (cp_laws.octets c packet s) (packet_read c packet s) r).0
 
 inner_is : (m : RpValue) (octets : List ℕ) (inner : Inner) → SpellsRp m octets → IsReadAs octets inner → inner ≡ Relay m
 inner_is m octets Empty s h = absurd h
-inner_is m octets (Relay n) s h = ap Relay (relay.one_reading m n octets (length octets) h.0 (relay.spelled_in_octets m octets s) (read_alone m octets s) h.1).0
+inner_is m octets (Relay n) s h = ap Relay (one_reading rp_message Short rp_laws.lawful m n octets (length octets) h.0 (rp_laws.octets m octets s) (read_alone m octets s) h.1).0
 inner_is m octets (Bad place why) s h =
     let refusal : Refusal RelayFault = At place why in
-    let e : refusal ≡ Memory = only_memory (Reads rp_message) rp_message.reason Short octets octets m (length octets) (relay.spelled_in_octets m octets s) refl (read_alone m octets s) (At place why) h in
+    let e : refusal ≡ Memory = only_memory (Reads rp_message) rp_message.reason Short octets octets m (length octets) (rp_laws.octets m octets s) refl (read_alone m octets s) (At place why) h in
     absurd cc
 
 pub unwrapped : (flag : Bool) (value : ℕ) (m : Option RpValue) (packet : List ℕ) (outer : CpValue) (used : ℕ) (inner : Inner) → CarriesRelay flag value m packet → Reads cp_message outer packet used → Holds outer.body inner → IsUnwrapped flag value m outer inner

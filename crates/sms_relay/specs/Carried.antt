@@ -1,5 +1,5 @@
 -- A packet carries a message: octets of the connection, and in them those of the relay (3GPP TS 24.011, 7.2 and 7.3).
-use Rattle.std.specs.Prelude.{ℕ, Bool, List, Option, Some, None}
+use Rattle.std.specs.Prelude.{◌≡◌, ℕ, Bool, List, Option, Some, None}
 use Rattle.sms_field.specs.RelayAddressValue.{RelayAddressValue}
 use Rattle.sms_relay.specs.CpValue.{CpValue}
 use Rattle.sms_relay.specs.Cp.{SpellsCp}
@@ -34,6 +34,12 @@ CarriesRelay flag value (Some message) packet = (octets : List ℕ) × SpellsRp 
 
 abbrev pub Carries : Bool → ℕ → Carried → List ℕ → Type 0
 Carries flag value message packet = CarriesRelay flag value (relay_of message) packet
+
+-- a packet carries at most one message
+abbrev pub OneMessageIsCarried : Type 0
+OneMessageIsCarried =
+    (flag other : Bool) (value number : ℕ) (m n : Carried) (packet : List ℕ) → Carries flag value m packet → Carries other number n packet
+    → (other ≡ flag) × (number ≡ value) × (n ≡ m)
 
 -- how a unit that may be left out is written
 abbrev pub SpellsOptional : {V : Type 0} → (V → List ℕ → Type 0) → Option V → Option (List ℕ) → Type 0

@@ -1,17 +1,20 @@
 -- A packet carries at most one message.
-use Rattle.std.proofs.Common.{◌≡◌, ℕ, Bool, List, [], length, Option, Some, None, refl, ap, subst}
+use Rattle.std.proofs.Common.{◌≡◌, ℕ, Bool, List, [], length, Option, Some, None, refl, sym, ap, subst}
 use Rattle.std.proofs.lemmas.List.{append-nil}
+use Rattle.sms_field.specs.Field.{Field}
 use Rattle.sms_field.specs.Reading.{Reads}
+use Rattle.sms_field.specs.ReadingLaws.{one_reading}
 use Rattle.sms_relay.specs.CpValue.{CpValue}
 use Rattle.sms_relay.specs.Cp.{cp_message, SpellsCp}
-use Rattle.sms_relay.specs.CpLaws as connection
+use Rattle.sms_relay.specs.CpLaws.{cp_laws}
 use Rattle.sms_relay.specs.RpValue.{RpValue}
 use Rattle.sms_relay.specs.Rp.{rp_message, SpellsRp, LacksUserData, MayFollowBody, MayFollow}
-use Rattle.sms_relay.specs.RpLaws as relay
+use Rattle.sms_relay.specs.RpLaws.{rp_laws}
 use Rattle.sms_relay.specs.Carried.{Carried, acknowledgement, transfer, answer, relay_of, CarriesRelay, Carries}
 use Rattle.sms_relay.specs.declared.cp.CpBody.TheVariants as cp
 use Rattle.sms_relay.specs.declared.rp.RpBody.{RpBody}
 use Rattle.sms_relay.specs.declared.rp.RpBody.TheVariants as rp
+use Rattle.sms_relay.specs.declared.fault.RelayFault.TheVariants.{Short}
 
 nothing_lacks : (user : Option (List ℕ)) → LacksUserData user []
 nothing_lacks None = tt
@@ -26,17 +29,20 @@ nothing_follows_body (rp.Fail cause added user) = nothing_lacks user
 pub nothing_follows : (m : RpValue) → MayFollow m []
 nothing_follows m = nothing_follows_body m.body
 
+alone : {V W : Type 0} (field : Field V W) (v : V) (octets : List ℕ) → field.reads v octets [] → Reads field v octets (length octets)
+alone field v octets read = record { octets = octets; rest = []; parts = sym (append-nil octets); used_is = refl; read = read }
+
 pub read_alone : (m : RpValue) (octets : List ℕ) → SpellsRp m octets → Reads rp_message m octets (length octets)
-read_alone m octets s = subst (λ (l : List ℕ). Reads rp_message m l (length octets)) (append-nil octets) (relay.read_back m octets [] s (nothing_follows m))
+read_alone m octets s = alone rp_message m octets (rp_laws.again m octets [] s (nothing_follows m))
 
 pub packet_read : (m : CpValue) (octets : List ℕ) → SpellsCp m octets → Reads cp_message m octets (length octets)
-packet_read m octets s = subst (λ (l : List ℕ). Reads cp_message m l (length octets)) (append-nil octets) (connection.read_back m octets [] s tt)
+packet_read m octets s = alone cp_message m octets (cp_laws.again m octets [] s tt)
 
 one_relay : (m n : RpValue) (octets : List ℕ) → SpellsRp m octets → SpellsRp n octets → n ≡ m
-one_relay m n octets s t = (relay.one_reading m n octets (length octets) (length octets) (relay.spelled_in_octets m octets s) (read_alone m octets s) (read_alone n octets t)).0
+one_relay m n octets s t = (one_reading rp_message Short rp_laws.lawful m n octets (length octets) (length octets) (rp_laws.octets m octets s) (read_alone m octets s) (read_alone n octets t)).0
 
 one_connection : (m n : CpValue) (octets : List ℕ) → SpellsCp m octets → SpellsCp n octets → n ≡ m
-one_connection m n octets s t = (connection.one_reading m n octets (length octets) (length octets) (connection.spelled_in_octets m octets s) (packet_read m octets s) (packet_read n octets t)).0
+one_connection m n octets s t = (one_reading cp_message Short cp_laws.lawful m n octets (length octets) (length octets) (cp_laws.octets m octets s) (packet_read m octets s) (packet_read n octets t)).0
 
 record IsSame (flag other : Bool) (value number : ℕ) (m n : Option RpValue) : Type 0 where
   flags : other ≡ flag

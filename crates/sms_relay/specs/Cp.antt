@@ -11,7 +11,7 @@ use Rattle.sms_relay.specs.declared.cp_kind.CpKind.TheVariants as kind
 use Rattle.sms_relay.specs.declared.fault.RelayFault.{RelayFault}
 use Rattle.sms_relay.specs.declared.fault.RelayFault.TheVariants.{Short}
 
--- CP-DATA has a length octet and so many octets, CP-ACK nothing, CP-ERROR its cause
+-- CP-DATA has a length octet and as many octets as it says, CP-ACK nothing, CP-ERROR its cause
 unfoldable pub cp_body : CpKind → Field CpBody RelayFault
 cp_body kind.Data = do
   count ← octet Short
@@ -24,9 +24,9 @@ cp_body kind.Error = do
 
 unfoldable pub cp_message : Field CpValue RelayFault
 cp_message = do
-  -- another protocol: NotSms; a reserved value: BadTransaction
+  -- protocol discriminator and transaction identifier; another protocol: NotSms; a reserved value: BadTransaction
   named ← octet_by Short transaction
-  -- another type: UnknownType
+  -- message type; another type: UnknownType
   kind ← octet_by Short cp_kind
   content ← cp_body kind
   always (record { flag = named.flag; value = named.value; body = content })

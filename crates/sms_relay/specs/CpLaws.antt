@@ -1,14 +1,13 @@
 -- A CP message is a lawful field, and what is written is read back.
-use Rattle.std.proofs.Common.{◌≡◌, ℕ, ◌+◌, ◌*◌, ◌/◌, ◌%◌, ◌<◌, ◌==◌, Bool, true, false, cond, List, [], ◌∷◌, ◌++◌, length, Ok, Err, refl, sym, ap, subst, lit<, arith}
+use Rattle.std.proofs.Common.{◌≡◌, ℕ, ◌+◌, ◌*◌, ◌/◌, ◌%◌, ◌<◌, ◌==◌, Bool, true, false, cond, List, [], ◌∷◌, length, Ok, Err, refl, sym, ap, lit<, arith}
 use Rattle.std.proofs.lemmas.Bool.{ne_eqb}
-use Rattle.std.proofs.lemmas.List.{append-nil}
 use Rattle.sms_text.specs.Octets.{IsOctets}
 use Rattle.sms_field.specs.Bit.{bit}
 use Rattle.sms_field.specs.Field.{octet, IsLawful}
-use Rattle.sms_field.specs.Reading.{Reads}
-use Rattle.sms_field.specs.ReadingLaws as promise
+use Rattle.sms_field.specs.JoinedReading.{joined, ended}
 use Rattle.sms_field.specs.JoinLaws.{join_lawful, join_self_contained}
 use Rattle.sms_field.specs.SingleLaws.{always_self, always_lawful, octet_self, octet_lawful, octet_by_self, octet_by_lawful, octets_of_self, octets_of_lawful}
+use Rattle.sms_tpdu.specs.UnitLaws.{AreUnitLaws, laws_by}
 use Rattle.sms_relay.specs.Transaction.{transaction, transaction_octet}
 use Rattle.sms_relay.specs.CpKind.{cp_kind, kind_octet}
 use Rattle.sms_relay.specs.CpValue.{CpValue, IsCpBody, IsCpMessage}
@@ -51,7 +50,7 @@ cp_body_lawful kind.Data = join_lawful _ _ Short (octet_self Short) (octet_lawfu
 cp_body_lawful kind.Ack = always_lawful Short _
 cp_body_lawful kind.Error = join_lawful _ _ Short (octet_self Short) (octet_lawful Short) (λ cause _ _ _. always_lawful Short _)
 
-pub cp_lawful : IsLawful Short cp_message
+cp_lawful : IsLawful Short cp_message
 unfolding cp_message
 cp_lawful =
     join_lawful _ _ Short (octet_by_self Short transaction) (octet_by_lawful Short transaction (9, lit< tt, _, refl) transaction_apart) (λ named _ _ _.
@@ -86,43 +85,22 @@ kind_again kind.Error = refl
 
 cp_body_again : (b : CpBody) (rest : List ℕ) → IsCpBody b → (cp_body (kind_of b)).reads b (cp_body_octets b) rest
 unfolding cp_body
-cp_body_again (body.Transfer octets) rest fits = record {
-  choice = length octets;
-  front = length octets ∷ [];
-  back = octets;
-  parts = refl;
-  of_first = refl;
-  of_second = record { choice = octets; front = octets; back = []; parts = sym (append-nil octets); of_first = (refl, refl); of_second = (refl, refl) };
-}
+cp_body_again (body.Transfer octets) rest fits =
+    joined _ _ (length octets) (body.Transfer octets) (length octets ∷ []) octets rest refl (
+    ended _ _ octets (body.Transfer octets) octets rest (refl, refl)
+    (refl, refl))
 cp_body_again body.Ack rest fits = (refl, refl)
-cp_body_again (body.Fail cause) rest fits = record { choice = cause; front = cause ∷ []; back = []; parts = refl; of_first = refl; of_second = (refl, refl) }
+cp_body_again (body.Fail cause) rest fits = ended _ _ cause (body.Fail cause) (cause ∷ []) rest refl (refl, refl)
 
-pub cp_again : (m : CpValue) (rest : List ℕ) → IsCpMessage m → cp_message.reads m (cp_octets m) rest
+cp_again : (m : CpValue) (rest : List ℕ) → IsCpMessage m → cp_message.reads m (cp_octets m) rest
 unfolding cp_message
 cp_again m rest fits =
     let t : Transaction = record { flag = m.flag; value = m.value } in
-    record {
-      choice = t;
-      front = transaction_octet t ∷ [];
-      back = kind_octet (kind_of m.body) ∷ cp_body_octets m.body;
-      parts = refl;
-      of_first = (transaction_octet t, refl, (transaction_again m.flag m.value fits.value).again);
-      of_second = record {
-        choice = kind_of m.body;
-        front = kind_octet (kind_of m.body) ∷ [];
-        back = cp_body_octets m.body;
-        parts = refl;
-        of_first = (kind_octet (kind_of m.body), refl, kind_again (kind_of m.body));
-        of_second = record {
-          choice = m.body;
-          front = cp_body_octets m.body;
-          back = [];
-          parts = sym (append-nil (cp_body_octets m.body));
-          of_first = cp_body_again m.body rest fits.body;
-          of_second = (refl, refl);
-        };
-      };
-    }
+    let k = kind_of m.body in
+    joined _ _ t m (transaction_octet t ∷ []) _ rest (transaction_octet t, refl, (transaction_again m.flag m.value fits.value).again) (
+    joined _ _ k m (kind_octet k ∷ []) _ rest (kind_octet k, refl, kind_again k) (
+    ended _ _ m.body m (cp_body_octets m.body) rest (cp_body_again m.body rest fits.body)
+    (refl, refl)))
 
 kind_small : (k : CpKind) → kind_octet k < 256
 kind_small kind.Data = lit< tt
@@ -136,17 +114,8 @@ cp_body_are_octets (body.Fail cause) fits = (fits, tt)
 
 -- ---- as a unit
 
-pub one_reading : (v w : CpValue) (input : List ℕ) (m n : ℕ) → IsOctets input → Reads cp_message v input m → Reads cp_message w input n → (w ≡ v) × (n ≡ m)
-one_reading = promise.one_reading cp_message Short cp_lawful
+cp_are_octets : (m : CpValue) → IsCpMessage m → IsOctets (cp_octets m)
+cp_are_octets m fits = ((transaction_again m.flag m.value fits.value).small, (kind_small (kind_of m.body), cp_body_are_octets m.body fits.body))
 
-pub spelled_in_octets : (v : CpValue) (octets : List ℕ) → SpellsCp v octets → IsOctets octets
-spelled_in_octets v octets s = subst IsOctets (sym s.1) ((transaction_again v.flag v.value s.0.value).small, (kind_small (kind_of v.body), cp_body_are_octets v.body s.0.body))
-
-pub read_back : (v : CpValue) (octets more : List ℕ) → SpellsCp v octets → Unit {0} → Reads cp_message v (octets ++ more) (length octets)
-read_back v octets more s free = record {
-  octets = octets;
-  rest = more;
-  parts = refl;
-  used_is = refl;
-  read = subst (λ (l : List ℕ). cp_message.reads v l more) (sym s.1) (cp_again v more s.0);
-}
+pub cp_laws : AreUnitLaws Short cp_message SpellsCp (λ _ _. Unit {0})
+cp_laws = laws_by Short cp_message IsCpMessage cp_octets cp_lawful cp_are_octets cp_again

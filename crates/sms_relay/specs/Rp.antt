@@ -1,10 +1,10 @@
 -- RP messages in octets (3GPP TS 24.011, 7.3 and 8.2).
 use Rattle.std.specs.Prelude.{◌≡◌, ℕ, List, ◌∷◌, ◌++◌, Option, Some, None}
-use Rattle.sms_field.specs.Field.{Field, ◌>>=◌, always, octet, octet_by, renamed, up_to}
+use Rattle.sms_field.specs.Field.{Field, ◌>>=◌, always, octet, octet_by, map_reason, up_to}
 use Rattle.sms_field.specs.Optional.{LacksTag}
 use Rattle.sms_field.specs.RelayAddress.{relay_address, optional_address_octets}
 use Rattle.sms_relay.specs.Fault.{relay_fault}
-use Rattle.sms_relay.specs.Mapped.{mapped}
+use Rattle.sms_field.specs.Mapped.{mapped}
 use Rattle.sms_relay.specs.RpKind.{rp_type, type_octet}
 use Rattle.sms_relay.specs.RpUserData.{user_data, optional_user_data, user_data_tag, user_octets, optional_user_octets}
 use Rattle.sms_relay.specs.RpCause.{rp_cause, cause_octets}
@@ -21,21 +21,26 @@ use Rattle.sms_relay.specs.declared.fault.RelayFault.TheVariants.{Short, BadAddr
 -- RP-DATA: the originator address, the destination address and the user data. A phone gives no originator, and is given no destination.
 unfoldable pub rp_data : Side → Field RpBody RelayFault
 rp_data FromPhone = do
-  -- an originator: BadAddress
+  -- RP-Originator Address, of length 0; another: BadAddress
   originator ← octet_by Short (up_to 0 BadAddress)
-  -- too long, or a bad digit: BadAddress
-  destination ← renamed relay_fault relay_address
+  -- RP-Destination Address; too long, or a bad digit: BadAddress
+  destination ← map_reason relay_fault relay_address
+  -- RP-User Data
   user ← user_data
   always (body.Transfer destination user)
 rp_data ToPhone = do
-  originator ← renamed relay_fault relay_address
+  -- RP-Originator Address
+  originator ← map_reason relay_fault relay_address
+  -- RP-Destination Address, of length 0
   destination ← octet_by Short (up_to 0 BadAddress)
+  -- RP-User Data
   user ← user_data
   always (body.Transfer originator user)
 
 -- RP-ERROR: a cause, and user data that may be left out
 unfoldable pub rp_error : Field RpBody RelayFault
 rp_error = do
+  -- RP-Cause
   reason ← rp_cause
   mapped (body.Fail reason.0 reason.1) optional_user_data
 
@@ -49,8 +54,9 @@ rp_value side reference content = record { side = side; reference = reference; b
 
 unfoldable pub rp_message : Field RpValue RelayFault
 rp_message = do
-  -- another type: UnknownType
+  -- RP-MTI; another type: UnknownType
   named ← octet_by Short rp_type
+  -- RP-Message Reference
   reference ← octet Short
   mapped (rp_value named.side reference) (rp_body named.kind named.side)
 
@@ -75,7 +81,7 @@ rp_octets m = type_octet (record { kind = kind_of m.body; side = m.side }) ∷ m
 abbrev pub SpellsRp : RpValue → List ℕ → Type 0
 SpellsRp m octets = IsRpMessage m × (octets ≡ rp_octets m)
 
--- behind an RP-ACK or RP-ERROR without user data stands nothing, or another octet than the tag: with the tag it has user data
+-- after an RP-ACK or RP-ERROR without user data stands nothing, or another octet than the tag: with the tag it has user data
 abbrev pub LacksUserData : Option (List ℕ) → List ℕ → Type 0
 LacksUserData None more = LacksTag user_data_tag more
 LacksUserData (Some user) more = Unit {0}

@@ -17,7 +17,7 @@ diagnostic true = do
 -- a length, the cause, and a diagnostic where the length is 2
 unfoldable pub rp_cause : Field (ℕ × Option ℕ) RelayFault
 rp_cause = do
-  -- another length: BadCause
+  -- the length of RP-Cause; another: BadCause
   more ← octet_by Short has_diagnostic
   cause ← octet Short
   added ← diagnostic more

@@ -1,23 +1,22 @@
 -- An RP message is a lawful field, and what is written is read back.
 use Rattle.std.proofs.Common.{◌≡◌, ℕ, ◌%◌, ◌<◌, ◌≤◌, ◌==◌, Bool, true, false, cond, leb, List, [], ◌∷◌, ◌++◌, length, Option, Some, None, Ok, Err, refl, sym, ap, subst, lit<, arith}
 use Rattle.std.proofs.lemmas.Bool.{le-leb}
-use Rattle.std.proofs.lemmas.List.{append-nil}
 use Rattle.sms_text.specs.Octets.{IsOctets}
 use Rattle.sms_field.specs.Bit.{bit}
-use Rattle.sms_field.specs.Field.{octet_by, renamed, up_to, IsLawful, IsSelfContained}
-use Rattle.sms_field.specs.Reading.{Reads}
-use Rattle.sms_field.specs.ReadingLaws as promise
+use Rattle.sms_field.specs.Field.{octet_by, map_reason, up_to, IsLawful, IsSelfContained}
 use Rattle.sms_field.specs.OptionalLaws.{tagged_lawful}
 use Rattle.sms_field.specs.OctetLists.{octets-append}
+use Rattle.sms_field.specs.JoinedReading.{joined, ended}
 use Rattle.sms_field.specs.JoinLaws.{join_lawful, join_self_contained}
-use Rattle.sms_field.specs.SingleLaws.{always_self, always_lawful, octet_self, octet_lawful, octet_by_self, octet_by_lawful, octets_of_self, octets_of_lawful, renamed_lawful, apart_else}
+use Rattle.sms_field.specs.SingleLaws.{always_self, always_lawful, octet_self, octet_lawful, octet_by_self, octet_by_lawful, octets_of_self, octets_of_lawful, map_reason_lawful, apart_else}
 use Rattle.sms_field.specs.RelayAddressValue.{RelayAddressValue, HasOptionalSpelling}
 use Rattle.sms_field.specs.RelayAddress.{relay_address, optional_address_octets}
 use Rattle.sms_field.specs.RelayAddressLaws.{relay_address_self, relay_address_lawful, relay_address_again, relay_address_are_octets}
 use Rattle.sms_field.specs.declared.fault.FieldFault.TheVariants as fields
+use Rattle.sms_tpdu.specs.UnitLaws.{AreUnitLaws}
 use Rattle.sms_relay.specs.Fault.{relay_fault}
 use Rattle.sms_relay.specs.FaultLaws.{fault_apart}
-use Rattle.sms_relay.specs.MappedLaws.{mapped_lawful}
+use Rattle.sms_field.specs.MappedLaws.{mapped_lawful}
 use Rattle.sms_relay.specs.RpKind.{type_of_bits, rp_type, type_octet}
 use Rattle.sms_relay.specs.RpUserData.{user_data, optional_user_data, user_data_tag, user_octets, optional_user_octets, IsUserData, IsOptionalUserData}
 use Rattle.sms_relay.specs.RpCause.{has_diagnostic, diagnostic, rp_cause, cause_octets, IsCause}
@@ -53,14 +52,7 @@ few_octets n h = rw (le-leb n 233 h) refl
 
 user_data_again : (user rest : List ℕ) → IsUserData user → user_data.reads user (user_octets user) rest
 unfolding user_data
-user_data_again user rest fits = record {
-  choice = length user;
-  front = length user ∷ [];
-  back = user;
-  parts = refl;
-  of_first = (length user, refl, few_octets (length user) fits.0);
-  of_second = (refl, refl);
-}
+user_data_again user rest fits = joined _ _ (length user) user (length user ∷ []) user rest (length user, refl, few_octets (length user) fits.0) (refl, refl)
 
 optional_again : (user : Option (List ℕ)) (rest : List ℕ) → IsOptionalUserData user → LacksUserData user rest → optional_user_data.reads user (optional_user_octets user) rest
 optional_again None rest fits follows = (refl, follows)
@@ -112,43 +104,18 @@ cause_is cause fits = omega arith
 
 cause_again : (cause : ℕ) (added : Option ℕ) (rest : List ℕ) → IsCause cause added → rp_cause.reads (cause, added) (cause_octets cause added) rest
 unfolding rp_cause diagnostic
-cause_again cause None rest fits = record {
-  choice = false;
-  front = 1 ∷ [];
-  back = cause ∷ [];
-  parts = refl;
-  of_first = (1, refl, refl);
-  of_second = record {
-    choice = cause;
-    front = cause ∷ [];
-    back = [];
-    parts = refl;
-    of_first = refl;
-    of_second = record { choice = None; front = []; back = []; parts = refl; of_first = (refl, refl); of_second = (ap (λ (n : ℕ). let p : ℕ × Option ℕ = (n, None) in p) (cause_is cause fits.0), refl) };
-  };
-}
-cause_again cause (Some added) rest fits = record {
-  choice = true;
-  front = 2 ∷ [];
-  back = cause ∷ added ∷ [];
-  parts = refl;
-  of_first = (2, refl, refl);
-  of_second = record {
-    choice = cause;
-    front = cause ∷ [];
-    back = added ∷ [];
-    parts = refl;
-    of_first = refl;
-    of_second = record {
-      choice = Some added;
-      front = added ∷ [];
-      back = [];
-      parts = refl;
-      of_first = record { choice = added; front = added ∷ []; back = []; parts = refl; of_first = refl; of_second = (refl, refl) };
-      of_second = (ap (λ (n : ℕ). let p : ℕ × Option ℕ = (n, Some added) in p) (cause_is cause fits.0), refl);
-    };
-  };
-}
+cause_again cause None rest fits =
+    let value : ℕ × Option ℕ = (cause, None) in
+    joined _ _ false value (1 ∷ []) (cause ∷ []) rest (1, refl, refl) (
+    ended _ _ cause value (cause ∷ []) rest refl (
+    ended _ _ None value [] rest (refl, refl)
+    (ap (λ (n : ℕ). let p : ℕ × Option ℕ = (n, None) in p) (cause_is cause fits.0), refl)))
+cause_again cause (Some added) rest fits =
+    let value : ℕ × Option ℕ = (cause, Some added) in
+    joined _ _ true value (2 ∷ []) (cause ∷ added ∷ []) rest (2, refl, refl) (
+    joined _ _ cause value (cause ∷ []) (added ∷ []) rest refl (
+    ended _ _ (Some added) value (added ∷ []) rest (ended _ _ added (Some added) (added ∷ []) rest refl (refl, refl))
+    (ap (λ (n : ℕ). let p : ℕ × Option ℕ = (n, Some added) in p) (cause_is cause fits.0), refl)))
 
 cause_are_octets : (cause : ℕ) (added : Option ℕ) → IsCause cause added → IsOctets (cause_octets cause added)
 cause_are_octets cause None fits = (lit< tt, (omega (arith, fits.0), tt))
@@ -171,8 +138,8 @@ type_apart o e = type_apart_by (bit 2 o) (bit 1 o) (bit 0 o) e
 absent_lawful : IsLawful Short (octet_by Short (up_to 0 BadAddress))
 absent_lawful = octet_by_lawful Short (up_to 0 BadAddress) (0, lit< tt, 0, refl) (λ o. apart_else Short (leb o 0) o BadAddress (λ e. cc))
 
-address_lawful : IsLawful Short (renamed relay_fault relay_address)
-address_lawful = renamed_lawful fields.Short relay_fault fault_apart relay_address relay_address_lawful
+address_lawful : IsLawful Short (map_reason relay_fault relay_address)
+address_lawful = map_reason_lawful fields.Short relay_fault fault_apart relay_address relay_address_lawful
 
 rp_data_lawful : (side : Side) → IsLawful Short (rp_data side)
 unfolding rp_data
@@ -197,7 +164,7 @@ rp_body_lawful kind.Data side = rp_data_lawful side
 rp_body_lawful kind.Ack side = mapped_lawful Short _ optional_user_data optional_lawful
 rp_body_lawful kind.Error side = rp_error_lawful
 
-pub rp_lawful : IsLawful Short rp_message
+rp_lawful : IsLawful Short rp_message
 unfolding rp_message
 rp_lawful =
     join_lawful _ _ Short (octet_by_self Short rp_type) (octet_by_lawful Short rp_type (0, lit< tt, _, refl) type_apart) (λ named _ _ _.
@@ -220,47 +187,20 @@ type_again kind.Error ToPhone = record { again = refl; small = lit< tt }
 
 data_again : (side : Side) (address : Option RelayAddressValue) (user rest : List ℕ) → HasOptionalSpelling address → IsUserData user → (rp_data side).reads (body.Transfer address user) (rp_data_octets side (optional_address_octets address) (user_octets user)) rest
 unfolding rp_data
-data_again FromPhone address user rest fits few = record {
-  choice = 0;
-  front = 0 ∷ [];
-  back = optional_address_octets address ++ user_octets user;
-  parts = refl;
-  of_first = (0, refl, refl);
-  of_second = record {
-    choice = address;
-    front = optional_address_octets address;
-    back = user_octets user;
-    parts = refl;
-    of_first = relay_address_again address _ fits;
-    of_second = record { choice = user; front = user_octets user; back = []; parts = sym (append-nil (user_octets user)); of_first = user_data_again user rest few; of_second = (refl, refl) };
-  };
-}
-data_again ToPhone address user rest fits few = record {
-  choice = address;
-  front = optional_address_octets address;
-  back = 0 ∷ user_octets user;
-  parts = refl;
-  of_first = relay_address_again address _ fits;
-  of_second = record {
-    choice = 0;
-    front = 0 ∷ [];
-    back = user_octets user;
-    parts = refl;
-    of_first = (0, refl, refl);
-    of_second = record { choice = user; front = user_octets user; back = []; parts = sym (append-nil (user_octets user)); of_first = user_data_again user rest few; of_second = (refl, refl) };
-  };
-}
+data_again FromPhone address user rest fits few =
+    joined _ _ 0 (body.Transfer address user) (0 ∷ []) _ rest (0, refl, refl) (
+    joined _ _ address (body.Transfer address user) (optional_address_octets address) _ rest (relay_address_again address _ fits) (
+    ended _ _ user (body.Transfer address user) (user_octets user) rest (user_data_again user rest few)
+    (refl, refl)))
+data_again ToPhone address user rest fits few =
+    joined _ _ address (body.Transfer address user) (optional_address_octets address) _ rest (relay_address_again address _ fits) (
+    joined _ _ 0 (body.Transfer address user) (0 ∷ []) _ rest (0, refl, refl) (
+    ended _ _ user (body.Transfer address user) (user_octets user) rest (user_data_again user rest few)
+    (refl, refl)))
 
 error_again : (cause : ℕ) (added : Option ℕ) (user : Option (List ℕ)) (rest : List ℕ) → IsCause cause added → IsOptionalUserData user → LacksUserData user rest → rp_error.reads (body.Fail cause added user) (cause_octets cause added ++ optional_user_octets user) rest
 unfolding rp_error
-error_again cause added user rest fits few follows = record {
-  choice = (cause, added);
-  front = cause_octets cause added;
-  back = optional_user_octets user;
-  parts = refl;
-  of_first = cause_again cause added _ fits;
-  of_second = (user, optional_again user rest few follows, refl);
-}
+error_again cause added user rest fits few follows = joined _ _ (cause, added) (body.Fail cause added user) (cause_octets cause added) _ rest (cause_again cause added _ fits) (user, optional_again user rest few follows, refl)
 
 rp_body_again : (side : Side) (b : RpBody) (rest : List ℕ) → IsRpBody b → MayFollowBody b rest → (rp_body (kind_of b) side).reads b (rp_body_octets side b) rest
 unfolding rp_body
@@ -268,25 +208,13 @@ rp_body_again side (body.Transfer address user) rest fits follows = data_again s
 rp_body_again side (body.Ack user) rest fits follows = (user, optional_again user rest fits follows, refl)
 rp_body_again side (body.Fail cause added user) rest fits follows = error_again cause added user rest fits.0 fits.1 follows
 
-pub rp_again : (m : RpValue) (rest : List ℕ) → IsRpMessage m → MayFollow m rest → rp_message.reads m (rp_octets m) rest
+rp_again : (m : RpValue) (rest : List ℕ) → IsRpMessage m → MayFollow m rest → rp_message.reads m (rp_octets m) rest
 unfolding rp_message
 rp_again m rest fits follows =
     let t : RpType = record { kind = kind_of m.body; side = m.side } in
-    record {
-      choice = t;
-      front = type_octet t ∷ [];
-      back = m.reference ∷ rp_body_octets m.side m.body;
-      parts = refl;
-      of_first = (type_octet t, refl, (type_again (kind_of m.body) m.side).again);
-      of_second = record {
-        choice = m.reference;
-        front = m.reference ∷ [];
-        back = rp_body_octets m.side m.body;
-        parts = refl;
-        of_first = refl;
-        of_second = (m.body, rp_body_again m.side m.body rest fits.body follows, refl);
-      };
-    }
+    joined _ _ t m (type_octet t ∷ []) _ rest (type_octet t, refl, (type_again (kind_of m.body) m.side).again) (
+    joined _ _ m.reference m (m.reference ∷ []) _ rest refl
+    (m.body, rp_body_again m.side m.body rest fits.body follows, refl))
 
 data_are_octets : (side : Side) (address user : List ℕ) → IsOctets address → IsOctets user → IsOctets (rp_data_octets side address user)
 data_are_octets FromPhone address user fits few = (lit< tt, octets-append address user fits few)
@@ -299,17 +227,12 @@ rp_body_are_octets side (body.Fail cause added user) fits = octets-append (cause
 
 -- ---- as a unit
 
-pub one_reading : (v w : RpValue) (input : List ℕ) (m n : ℕ) → IsOctets input → Reads rp_message v input m → Reads rp_message w input n → (w ≡ v) × (n ≡ m)
-one_reading = promise.one_reading rp_message Short rp_lawful
+rp_are_octets : (m : RpValue) → IsRpMessage m → IsOctets (rp_octets m)
+rp_are_octets m fits = ((type_again (kind_of m.body) m.side).small, (fits.reference, rp_body_are_octets m.side m.body fits.body))
 
-pub spelled_in_octets : (v : RpValue) (octets : List ℕ) → SpellsRp v octets → IsOctets octets
-spelled_in_octets v octets s = subst IsOctets (sym s.1) ((type_again (kind_of v.body) v.side).small, (s.0.reference, rp_body_are_octets v.side v.body s.0.body))
-
-pub read_back : (v : RpValue) (octets more : List ℕ) → SpellsRp v octets → MayFollow v more → Reads rp_message v (octets ++ more) (length octets)
-read_back v octets more s follows = record {
-  octets = octets;
-  rest = more;
-  parts = refl;
-  used_is = refl;
-  read = subst (λ (l : List ℕ). rp_message.reads v l more) (sym s.1) (rp_again v more s.0 follows);
+pub rp_laws : AreUnitLaws Short rp_message SpellsRp MayFollow
+rp_laws = record {
+  lawful = rp_lawful;
+  octets = λ m l s. subst IsOctets (sym s.1) (rp_are_octets m s.0);
+  again = λ m l more s follows. subst (λ (k : List ℕ). rp_message.reads m k more) (sym s.1) (rp_again m more s.0 follows);
 }

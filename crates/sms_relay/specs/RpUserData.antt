@@ -1,4 +1,4 @@
--- User data of the relay: a length octet and so many octets, at most 233 (3GPP TS 24.011, 8.2.5.3).
+-- RP-User data: a length octet and as many octets as it says, at most 233 (3GPP TS 24.011, 8.2.5.3).
 use Rattle.std.specs.Prelude.{ℕ, ◌≤◌, List, [], ◌∷◌, length, Option, Some, None}
 use Rattle.sms_text.specs.Octets.{IsOctets}
 use Rattle.sms_field.specs.Field.{Field, ◌>>=◌, octet_by, octets_of, up_to}
@@ -12,7 +12,7 @@ user_data = do
   count ← octet_by Short (up_to 233 DataTooLong)
   octets_of Short count
 
--- behind the tag 41 hexadecimal, or not there
+-- after the tag 41 hexadecimal, or not there
 abbrev pub user_data_tag : ℕ
 user_data_tag = 65
 

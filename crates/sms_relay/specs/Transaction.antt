@@ -1,7 +1,7 @@
 -- The first octet of a CP message: protocol discriminator and transaction identifier (3GPP TS 24.011, 8.1.2). Bits are numbered from 0.
 use Rattle.std.specs.Prelude.{ℕ, ◌+◌, ◌*◌, ◌/◌, ◌%◌, ◌==◌, Result, Ok, Err, if◌then◌else◌}
 use Rattle.sms_field.specs.Bit.{bit}
-use Rattle.sms_tpdu.specs.Weight.{weight}
+use Rattle.sms_field.specs.Bit.{weight}
 use Rattle.sms_relay.specs.declared.transaction.Transaction.{Transaction}
 use Rattle.sms_relay.specs.declared.fault.RelayFault.{RelayFault}
 use Rattle.sms_relay.specs.declared.fault.RelayFault.TheVariants.{NotSms, BadTransaction}

@@ -6,23 +6,31 @@ ghost use Rattle.sms_relay.specs.declared.fault.WrapFault.TheVariants.{Memory};
 
 use sms_field::{FieldFault, Reason};
 use std::alloc::{AllocError, AllocFailed};
+use thiserror::Error;
 
 /// What is wrong with a message of the relay or the connection.
-#[derive(Clone, Copy, Debug, PartialEq, Eq)]
+#[derive(Clone, Copy, Debug, PartialEq, Eq, Error)]
 pub enum RelayFault {
     /// Octets are missing at the end.
+    #[error("short")]
     Short,
     /// The octets are of another protocol.
+    #[error("not sms")]
     NotSms,
     /// The transaction value is reserved.
+    #[error("bad transaction")]
     BadTransaction,
     /// The octets are of no known type of message.
+    #[error("unknown type")]
     UnknownType,
     /// The address is too long, has a bad digit, or stands where the side has none.
+    #[error("bad address")]
     BadAddress,
     /// The cause has another length than 1 or 2.
+    #[error("bad cause")]
     BadCause,
     /// The user data are too long.
+    #[error("data too long")]
     DataTooLong,
 }
 
@@ -48,11 +56,13 @@ impl From<FieldFault> for RelayFault {
 }
 
 /// Why a unit was not wrapped.
-#[derive(Clone, Copy, Debug, PartialEq, Eq)]
+#[derive(Clone, Copy, Debug, PartialEq, Eq, Error)]
 pub enum WrapFault {
     /// The unit has more than 233 octets.
+    #[error("data too long")]
     TooLong,
     /// Memory ran out.
+    #[error("out of memory")]
     Memory,
 }
 

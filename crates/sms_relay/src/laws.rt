@@ -1,10 +1,61 @@
-//! What holds of packets whatever their octets are.
+//! What follows from the definitions alone. Each function is empty: its contract is the law.
 
-ghost use Rattle.std.specs.Prelude.{◌≡◌, ℕ, Bool, List};
-ghost use Rattle.sms_relay.specs.Carried.{Carried, Carries};
+ghost use Rattle.sms_field.specs.OneRefusal.{HasOneRefusal};
+ghost use Rattle.sms_field.specs.Reading.{Reads};
+ghost use Rattle.sms_field.specs.ReadValues.{Has};
+ghost use Rattle.sms_tpdu.specs.Sizes.{HasEachSpelling};
+ghost use Rattle.sms_tpdu.specs.UnitLaws.{AreUnitLaws};
+ghost use Rattle.sms_relay.specs.Carried.{OneMessageIsCarried};
+ghost use Rattle.sms_relay.specs.Cp.{cp_message, SpellsCp};
+ghost use Rattle.sms_relay.specs.CpValue.{IsCpMessage};
+ghost use Rattle.sms_relay.specs.ReadOctets.{CpOctetsAre, RpOctetsAre};
+ghost use Rattle.sms_relay.specs.Rp.{rp_message, SpellsRp, MayFollow};
+ghost use Rattle.sms_relay.specs.RpValue.{IsRpMessage};
+ghost use Rattle.sms_relay.specs.Types.{TellsUnknownTypes, ReferenceIsSecond};
+ghost use Rattle.sms_relay.specs.declared.fault.RelayFault.TheVariants.{Short};
 
-/// Does nothing: its contract says that a packet carries at most one message.
+/// A packet carries at most one message.
 #[tactic(auto, using(crate::specs::CarriedLaws::one_message))]
 pub fn packets_carry_one_message()
-    ensures { (flag other : Bool) (value number : ℕ) (m n : Carried) (packet : List ℕ) → Carries flag value m packet → Carries other number n packet → (other ≡ flag) × (number ≡ value) × (n ≡ m) }
+    ensures { OneMessageIsCarried }
+{}
+
+/// Messages are lawful fields, are written in octets, and are read back as written.
+pub fn messages_are_fields()
+    ensures cp { AreUnitLaws Short cp_message SpellsCp (λ _ _. Unit {0}) }
+    ensures rp { AreUnitLaws Short rp_message SpellsRp MayFollow }
+{}
+
+/// An input is refused as a message at one place and for one reason.
+pub fn messages_are_refused_once()
+    ensures cp { HasOneRefusal (Reads cp_message) cp_message.reason Short }
+    ensures rp { HasOneRefusal (Reads rp_message) rp_message.reason Short }
+{}
+
+/// Octets are refused as an RP message of no known type just where their first octet names none.
+pub fn unknown_types_are_told()
+    ensures { TellsUnknownTypes }
+{}
+
+/// The reference of an RP message is its second octet.
+pub fn references_are_second()
+    ensures { ReferenceIsSecond }
+{}
+
+/// The user data that are read from octets are octets.
+pub fn octets_are_read()
+    ensures cp { CpOctetsAre }
+    ensures rp { RpOctetsAre }
+{}
+
+/// What is read of octets has a spelling.
+pub fn what_is_read_is_spelled()
+    ensures cp { Has IsCpMessage cp_message }
+    ensures rp { Has IsRpMessage rp_message }
+{}
+
+/// Each value of a message has a spelling.
+pub fn values_are_spelled()
+    ensures cp { HasEachSpelling IsCpMessage SpellsCp }
+    ensures rp { HasEachSpelling IsRpMessage SpellsRp }
 {}

@@ -7,7 +7,7 @@ mod cp;
 mod cp_kind;
 mod fault;
 mod inner;
-mod laws;
+pub mod laws;
 mod rp;
 mod rp_kind;
 mod side;
@@ -16,14 +16,18 @@ mod unwrapping;
 mod user;
 mod wrap;
 
+pub use cp::view::{CpBodyView, CpView};
 pub use cp::{CpBody, CpMessage};
+pub use cp_kind::CpKind;
 pub use fault::{RelayFault, WrapFault};
-pub use inner::Inner;
-pub use laws::packets_carry_one_message;
+pub use inner::{Inner, InnerView};
+pub use rp::view::{RpBodyView, RpView};
 pub use rp::{RpBody, RpMessage};
+pub use rp_kind::{RpKind, RpType};
 pub use side::Side;
-pub use unwrapping::unwrap;
-pub use wrap::{wrap_answer, wrap_transfer};
+pub use transaction::Transaction;
+pub use unwrapping::{unwrap, unwrap_view};
+pub use wrap::{wrap_acknowledgement, wrap_answer, wrap_transfer};
 
 #[cfg(test)]
 mod tests;

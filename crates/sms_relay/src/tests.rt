@@ -1,10 +1,11 @@
 //! Packets whose octets are known from the standard's tables.
 
+mod hostile;
 mod rows;
 
 use crate::{
-    CpBody, CpMessage, Inner, RpBody, RpMessage, Side, WrapFault, unwrap, wrap_answer,
-    wrap_transfer,
+    CpBody, CpMessage, Inner, RpBody, RpMessage, Side, WrapFault, unwrap, wrap_acknowledgement,
+    wrap_answer, wrap_transfer,
 };
 use rows::{
     AGAIN, DELIVER, DELIVER_ACK, DELIVER_ERROR, HEADER, NO_PACKETS, NO_RELAYS, PACKETS, Packet,
@@ -100,8 +101,17 @@ fn is_read(rt: &HostRuntime, row: &Packet) -> Result<bool, Fail> {
 fn reads_and_writes_packets(rt: HostRuntime) -> Result<(), Fail> {
     for row in PACKETS.as_slice() {
         let read = is_read(&rt, row)?;
-        assert!(rt; read);
+        assert!(rt; read, "{:?}", row.octets);
     }
+    Ok(())
+}
+
+#[test]
+fn writes_acknowledgements(rt: HostRuntime) -> Result<(), Fail> {
+    let first = wrap_acknowledgement(rt.alloc(), false, 0)?;
+    let last = wrap_acknowledgement(rt.alloc(), true, 6)?;
+    assert_eq!(rt; first.as_slice(), [0x09, 0x04].as_slice());
+    assert_eq!(rt; last.as_slice(), [0xE9, 0x04].as_slice());
     Ok(())
 }
 
@@ -110,7 +120,12 @@ fn refuses_what_is_no_packet(rt: HostRuntime) -> Result<(), Fail> {
     for row in NO_PACKETS.as_slice() {
         let (place, why) = (row.place, row.why);
         let answer = unwrap(rt.alloc(), row.octets);
-        assert_eq!(rt; answer.err(), Some(Refusal::At { place, why }));
+        assert_eq!(rt;
+            answer.err(),
+            Some(Refusal::At { place, why }),
+            "{:?}",
+            row.octets
+        );
     }
     Ok(())
 }
@@ -120,7 +135,12 @@ fn refuses_what_is_no_relay(rt: HostRuntime) -> Result<(), Fail> {
     for row in NO_RELAYS.as_slice() {
         let (place, why) = (row.place, row.why);
         let answer = RpMessage::read(rt.alloc(), row.octets);
-        assert_eq!(rt; answer.err(), Some(Refusal::At { place, why }));
+        assert_eq!(rt;
+            answer.err(),
+            Some(Refusal::At { place, why }),
+            "{:?}",
+            row.octets
+        );
     }
     Ok(())
 }
@@ -130,8 +150,8 @@ fn writes_ignored_bits_anew(rt: HostRuntime) -> Result<(), Fail> {
     for row in AGAIN.as_slice() {
         let (message, used) = RpMessage::read(rt.alloc(), row.octets)?;
         let written = is_written(&rt, &message, row.written)?;
-        assert_eq!(rt; used, row.written.len());
-        assert!(rt; written);
+        assert_eq!(rt; used, row.written.len(), "{:?}", row.octets);
+        assert!(rt; written, "{:?}", row.octets);
     }
     Ok(())
 }
@@ -147,35 +167,118 @@ fn holds(rt: &HostRuntime, packet: &[u8], said: &str, user: Option<&[u8]>) -> Re
     Ok(found && text.as_str() == said)
 }
 
-/// Whether the unit that is read from octets comes back out of a transfer and of its answers.
-fn comes_back<U: Unit>(rt: &HostRuntime, octets: &[u8]) -> Result<bool, Fail> {
-    let (unit, _) = U::read(rt.alloc(), octets).ok().ok_or("a unit")?;
-    let centre = RpAddress::from_text(rt.alloc(), "+1000")?;
-    let up = wrap_transfer(
+/// A transfer that a unit is put into, and what is said of it.
+struct Transfer {
+    flag: bool,
+    value: u8,
+    side: Side,
+    reference: u8,
+    centre: Option<&'static str>,
+    says: &'static str,
+}
+
+static TRANSFERS: [Transfer; 2] = [
+    Transfer {
+        flag: false,
+        value: 6,
+        side: Side::FromPhone,
+        reference: 255,
+        centre: Some("+1000"),
+        says: "data FromPhone 255 +1000",
+    },
+    Transfer {
+        flag: true,
+        value: 0,
+        side: Side::ToPhone,
+        reference: 0,
+        centre: None,
+        says: "data ToPhone 0 none",
+    },
+];
+
+/// An answer that a unit is put into, and what is said of it.
+struct Answer {
+    side: Side,
+    reference: u8,
+    cause: Option<u8>,
+    says: &'static str,
+}
+
+static ANSWERS: [Answer; 2] = [
+    Answer {
+        side: Side::ToPhone,
+        reference: 7,
+        cause: None,
+        says: "ack ToPhone 7",
+    },
+    Answer {
+        side: Side::FromPhone,
+        reference: 8,
+        cause: Some(127),
+        says: "error FromPhone 8 127 None",
+    },
+];
+
+/// The packet of a transfer.
+fn transferred<U: Unit>(rt: &HostRuntime, row: &Transfer, unit: &U) -> Result<Vec<u8>, Fail> {
+    let centre = match row.centre {
+        Some(text) => Some(RpAddress::from_text(rt.alloc(), text)?),
+        None => None,
+    };
+    let value = row.value % 7;
+    let packet = wrap_transfer(
         rt.alloc(),
-        false,
-        6,
-        Side::FromPhone,
-        255,
-        Some(&centre),
-        &unit,
+        row.flag,
+        value,
+        row.side,
+        row.reference,
+        centre.as_ref(),
+        unit,
     )?;
-    let down = wrap_transfer(rt.alloc(), true, 0, Side::ToPhone, 0, None, &unit)?;
-    let taken = wrap_answer(rt.alloc(), true, 3, Side::ToPhone, 7, None, Some(&unit))?;
-    let failed = wrap_answer(
+    Ok(packet)
+}
+
+/// The packet of an answer.
+fn answered<U: Unit>(rt: &HostRuntime, row: &Answer, unit: &U) -> Result<Vec<u8>, Fail> {
+    let cause = match row.cause {
+        Some(cause) if cause < 128 => Some(cause),
+        _ => None,
+    };
+    let packet = wrap_answer(
         rt.alloc(),
         true,
         3,
-        Side::FromPhone,
-        8,
-        Some(127),
-        Some(&unit),
+        row.side,
+        row.reference,
+        cause,
+        Some(unit),
     )?;
+    Ok(packet)
+}
+
+/// Whether the unit that is read from octets comes back out of a transfer.
+fn is_transferred<U: Unit>(rt: &HostRuntime, row: &Transfer, octets: &[u8]) -> Result<bool, Fail> {
+    let (unit, _) = U::read(rt.alloc(), octets).ok().ok_or("a unit")?;
+    let packet = transferred(rt, row, &unit)?;
+    holds(rt, &packet, row.says, Some(octets))
+}
+
+/// Whether the unit that is read from octets comes back out of an answer.
+fn is_answered<U: Unit>(rt: &HostRuntime, row: &Answer, octets: &[u8]) -> Result<bool, Fail> {
+    let (unit, _) = U::read(rt.alloc(), octets).ok().ok_or("a unit")?;
+    let packet = answered(rt, row, &unit)?;
+    holds(rt, &packet, row.says, Some(octets))
+}
+
+/// Whether the unit that is read from octets comes back out of each transfer and each answer.
+fn comes_back<U: Unit>(rt: &HostRuntime, octets: &[u8]) -> Result<bool, Fail> {
+    let [up, down] = &TRANSFERS;
+    let [taken, failed] = &ANSWERS;
     Ok(
-        holds(rt, &up, "data FromPhone 255 +1000", Some(octets))?
-            && holds(rt, &down, "data ToPhone 0 none", Some(octets))?
-            && holds(rt, &taken, "ack ToPhone 7", Some(octets))?
-            && holds(rt, &failed, "error FromPhone 8 127 None", Some(octets))?,
+        is_transferred::<U>(rt, up, octets)?
+            && is_transferred::<U>(rt, down, octets)?
+            && is_answered::<U>(rt, taken, octets)?
+            && is_answered::<U>(rt, failed, octets)?,
     )
 }
 
@@ -206,7 +309,7 @@ fn wraps_answers_without_a_unit(rt: HostRuntime) -> Result<(), Fail> {
     Ok(())
 }
 
-/// What wrapping a CP message answers that has so many octets of user data, and three octets before them.
+/// What wrapping a CP message answers that has user data of a number of octets, and three octets before them.
 fn wrapped_long(rt: &HostRuntime, count: u8) -> Result<Option<WrapFault>, Fail> {
     let mut octets = Vec::from_slice(rt.alloc(), &[0x09, 0x01, count])?;
     octets.extend_from_slice(&[7; 255])?;

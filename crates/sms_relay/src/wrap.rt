@@ -3,7 +3,7 @@
 ghost use Rattle.std.specs.Prelude.{◌≡◌, ◌<◌, ℕ, List, length, Option, Some, Err, IfOk, option_copied};
 ghost use Rattle.std.specs.Option.{ForSome};
 ghost use Rattle.sms_relay.specs.RpUserData.{IsUserData};
-ghost use Rattle.sms_relay.specs.Carried.{transfer, answer, CarriesRelay, Carries, SpellsOptional};
+ghost use Rattle.sms_relay.specs.Carried.{acknowledgement, transfer, answer, CarriesRelay, Carries, SpellsOptional};
 ghost use Rattle.sms_relay.specs.declared.fault.WrapFault.TheVariants.{TooLong};
 
 use crate::cp::{CpBody, CpMessage};
@@ -18,7 +18,8 @@ use std::alloc::{AllocError, Global};
 /// The octets of a unit, if they are not too many for user data.
 fn octets_of_unit<U: Unit>(alloc: Global, unit: &U) -> Result<Octets, WrapFault>
     ensures spelled { IfOk result (λ octets. U.spells unit.now octets × IsUserData octets) }
-    ensures too_long { result ≡ Err TooLong → (octets : List ℕ) × U.spells unit.now octets × (233 < length octets) }
+    ensures too_long { result ≡ Err TooLong →
+        (octets : List ℕ) × U.spells unit.now octets × (233 < length octets) }
 {
     let octets = unit.write(alloc)?;
     if octets.len() > USER_DATA_MAX as usize {
@@ -46,6 +47,19 @@ fn wrap_message(
     packet.write(alloc)
 }
 
+/// The octets of a CP-ACK. The value is that of the transaction, 0 to 6.
+pub fn wrap_acknowledgement(alloc: Global, flag: bool, value: u8) -> Result<Vec<u8>, AllocError>
+    requires { value < 7 }
+    ensures { IfOk result (λ packet. Carries flag value acknowledgement packet.items) }
+{
+    let packet = CpMessage {
+        flag,
+        value,
+        body: CpBody::Ack,
+    };
+    packet.write(alloc)
+}
+
 /// The octets of a CP-DATA around an RP-DATA around a unit. The value is that of the transaction, 0 to 6.
 ///
 /// `TooLong` comes only where the unit has more than 233 octets.
@@ -59,8 +73,10 @@ pub fn wrap_transfer<U: Unit>(
     unit: &U,
 ) -> Result<Vec<u8>, WrapFault>
     requires { value < 7 }
-    ensures carried { IfOk result (λ packet. (octets : List ℕ) × U.spells unit.now octets × Carries flag value (transfer side reference (option_copied address.entry) octets) packet.items) }
-    ensures too_long { result ≡ Err TooLong → (octets : List ℕ) × U.spells unit.now octets × (233 < length octets) }
+    ensures carried { IfOk result (λ packet. (octets : List ℕ) × U.spells unit.now octets ×
+        Carries flag value (transfer side reference (option_copied address.entry) octets) packet.items) }
+    ensures too_long { result ≡ Err TooLong →
+        (octets : List ℕ) × U.spells unit.now octets × (233 < length octets) }
 {
     let user = octets_of_unit(alloc, unit)?;
     let address = match address {
@@ -90,8 +106,11 @@ pub fn wrap_answer<U: Unit>(
 ) -> Result<Vec<u8>, WrapFault>
     requires value { value < 7 }
     requires cause { ForSome cause (λ c. c < 128) }
-    ensures carried { IfOk result (λ packet. (octets : Option (List ℕ)) × SpellsOptional U.spells (option_copied unit.entry) octets × Carries flag value (answer side reference cause octets) packet.items) }
-    ensures too_long { result ≡ Err TooLong → (octets : List ℕ) × SpellsOptional U.spells (option_copied unit.entry) (Some octets) × (233 < length octets) }
+    ensures carried { IfOk result (λ packet. (octets : Option (List ℕ)) ×
+        SpellsOptional U.spells (option_copied unit.entry) octets ×
+        Carries flag value (answer side reference cause octets) packet.items) }
+    ensures too_long { result ≡ Err TooLong → (octets : List ℕ) ×
+        SpellsOptional U.spells (option_copied unit.entry) (Some octets) × (233 < length octets) }
 {
     let user = match unit {
         Some(unit) => Some(octets_of_unit(alloc, unit)?),

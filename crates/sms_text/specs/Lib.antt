@@ -1,6 +1,12 @@
 pub mod Octets
 pub mod Bits
+pub mod PackingLaws
 pub mod Tables
+pub mod TableLaws
 pub mod SeptetsOfText
 pub mod TextOfSeptets
+pub mod FrontLaws
+pub mod TextLaws
 pub mod Utf16
+pub mod Words
+pub mod Same

@@ -1,13 +1,13 @@
 -- A body that is read goes with its alphabet.
-use Rattle.std.proofs.Common.{◌≡◌, ℕ, ◌-◌, ◌≤◌, List, length, refl, sym, ap, subst, arith}
+use Rattle.std.proofs.Common.{◌≡◌, ℕ, ◌+◌, ◌-◌, ◌≤◌, ◌<◌, List, length, refl, sym, ap, subst, arith}
 use Rattle.sms_text.specs.Bits.{unpacked}
-use Rattle.sms_text.proofs.ReadingBits.{unpacked_septets}
+use Rattle.sms_text.specs.PackingLaws.{unpacked_septets}
 use Rattle.sms_text.specs.Octets.{IsOctets}
 use Rattle.sms_field.specs.declared.coding.Alphabet.{Alphabet}
 use Rattle.sms_field.specs.declared.coding.Alphabet.TheVariants.{Gsm7, EightBit, Ucs2, Compressed}
-use Rattle.sms_tpdu.specs.DataLength.{greatest_length, octets_of_length, length_of_header}
-use Rattle.sms_tpdu.specs.UserData.{BodyFits, body_of}
-use Rattle.sms_tpdu.specs.declared.user.Body.TheVariants as body
+use Rattle.sms_tpdu.specs.UserData.Lengths.{greatest_length, octets_of_length, length_of_header, fill_bits}
+use Rattle.sms_tpdu.specs.UserData.{BodyFits, body_of, data_length}
+use Rattle.sms_tpdu.specs.declared.user_data.body.Body.TheVariants as body
 
 pub septets_fit : (taken fill count number : ℕ) (octets septets : List ℕ) → length_of_header Gsm7 taken ≤ count → count ≤ 160 → number ≡ count - length_of_header Gsm7 taken → septets ≡ unpacked fill number octets → BodyFits Gsm7 taken (body.Septets septets)
 septets_fit taken fill count number octets septets room few number_is e =
@@ -20,3 +20,29 @@ octets_fit Gsm7 taken count octets values other few room len fits e = absurd (ot
 octets_fit EightBit taken count octets values other few room len fits e = (ap body.Octets e, (omega (arith, ap length e), subst IsOctets (sym e) fits))
 octets_fit Ucs2 taken count octets values other few room len fits e = (ap body.Octets e, (omega (arith, ap length e), subst IsOctets (sym e) fits))
 octets_fit Compressed taken count octets values other few room len fits e = (ap body.Octets e, (omega (arith, ap length e), subst IsOctets (sym e) fits))
+
+-- a body that is seen goes with its alphabet
+pub body_fits : (alphabet : Alphabet) (taken count : ℕ) (octets : List ℕ) → count ≤ greatest_length alphabet → length_of_header alphabet taken ≤ count → length octets ≡ octets_of_length alphabet count - taken → IsOctets octets → BodyFits alphabet taken (body_of alphabet taken count octets)
+body_fits Gsm7 taken count octets few room len fits = septets_fit taken (fill_bits taken) count (count - length_of_header Gsm7 taken) octets (unpacked (fill_bits taken) (count - length_of_header Gsm7 taken) octets) room few refl refl
+body_fits EightBit taken count octets few room len fits = (omega arith, fits)
+body_fits Ucs2 taken count octets few room len fits = (omega arith, fits)
+body_fits Compressed taken count octets few room len fits = (omega arith, fits)
+
+pub header_small : (alphabet : Alphabet) (size count : ℕ) → count ≤ greatest_length alphabet → length_of_header alphabet (size + 1) ≤ count → size < 256
+header_small Gsm7 size count few room = omega arith
+header_small EightBit size count few room = omega arith
+header_small Ucs2 size count few room = omega arith
+header_small Compressed size count few room = omega arith
+
+pub no_room : (alphabet : Alphabet) (count : ℕ) → length_of_header alphabet 0 ≤ count
+no_room Gsm7 count = omega arith
+no_room EightBit count = omega arith
+no_room Ucs2 count = omega arith
+no_room Compressed count = omega arith
+
+-- a body that is seen under a length has it
+pub length_is : (alphabet : Alphabet) (taken count : ℕ) (octets : List ℕ) → length_of_header alphabet taken ≤ count → length octets ≡ octets_of_length alphabet count - taken → data_length taken (body_of alphabet taken count octets) ≡ count
+length_is Gsm7 taken count octets room len = omega (arith, (unpacked_septets (fill_bits taken) (count - length_of_header Gsm7 taken) octets).1, room)
+length_is EightBit taken count octets room len = omega (arith, room, len)
+length_is Ucs2 taken count octets room len = omega (arith, room, len)
+length_is Compressed taken count octets room len = omega (arith, room, len)

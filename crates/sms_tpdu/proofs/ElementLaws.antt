@@ -4,11 +4,11 @@ use Rattle.std.specs.List.{flat_map, AllByRecursion}
 use Rattle.std.specs.Option.{option_or}
 use Rattle.std.proofs.lemmas.List.{append-nil, take_at, drop_at, take_all, take-append-drop, length-take}
 use Rattle.std.proofs.lemmas.Grind.{flat_map-append}
-use Rattle.sms_tpdu.specs.declared.concat.Concat.{Concat}
-use Rattle.sms_tpdu.specs.declared.concat.Width.{Width}
-use Rattle.sms_tpdu.specs.declared.concat.Width.TheVariants.{Eight, Sixteen}
-use Rattle.sms_tpdu.specs.Elements.{Element, element_octets, Spells, AreElements}
-use Rattle.sms_tpdu.specs.Concatenation.{element_for, concat_element, IsInOrder, Tells, TellsNone, ToldBy, LastTells, IsLastOf, IsConcatOf}
+use Rattle.sms_tpdu.specs.declared.user_data.concat.Concat.{Concat}
+use Rattle.sms_tpdu.specs.declared.user_data.concat.Width.{Width}
+use Rattle.sms_tpdu.specs.declared.user_data.concat.Width.TheVariants.{Eight, Sixteen}
+use Rattle.sms_tpdu.specs.UserData.Elements.{Element, element_octets, Spells, AreElements}
+use Rattle.sms_tpdu.specs.UserData.Concatenation.{element_for, concat_element, IsInOrder, Tells, TellsNone, ToldBy, LastTells, IsLastOf, IsConcatOf}
 
 -- ---- one list of elements
 
@@ -28,7 +28,7 @@ both_parts : (e f : Element) (xs ys : List Element) → e ≡ f → xs ≡ ys �
 both_parts e f xs ys p q = cc
 
 -- a list that begins with the octets of some elements has these elements first
-behind : (front others : List Element) (rest : List ℕ) → flat_map element_octets others ≡ flat_map element_octets front ++ rest → (more : List Element) × Spells more rest × (others ≡ front ++ more)
+pub behind : (front others : List Element) (rest : List ℕ) → flat_map element_octets others ≡ flat_map element_octets front ++ rest → (more : List Element) × Spells more rest × (others ≡ front ++ more)
 behind [] others rest e = (others, e, refl)
 behind (f ∷ front) [] rest e = absurd cc
 behind (f ∷ front) (o ∷ others) rest e =
@@ -87,7 +87,7 @@ some_tells (x ∷ front) e back c t h = some_tells front e back c t h.1
 one_tells : (elements : List Element) (c : Concat) → LastTells elements c → AllByRecursion TellsNone elements → ⊥
 one_tells elements c l h = some_tells l.front l.element l.back c l.tells (subst (AllByRecursion TellsNone) l.parts h)
 
--- the last that tells a place is the first element, or stands behind it
+-- the last that tells a place is the first element, or stands after it
 first_or_behind : (e : Element) (elements : List Element) (c : Concat) (front : List Element) (element : Element) (back : List Element) → e ∷ elements ≡ front ++ element ∷ back → Tells element c → AllByRecursion TellsNone back
     → LastTells elements c ⊎ (Tells e c × AllByRecursion TellsNone elements)
 first_or_behind e elements c [] element back parts t h =
@@ -126,7 +126,7 @@ one_concat header a b p q = one_last q.elements a b (subst (λ (l : List Element
 
 -- ---- the walk over a header
 
--- some elements are behind, and the last place that they tell
+-- some elements were passed, and the last place that they tell
 pub record Reached (header rest : List ℕ) (last : Option Concat) : Type 0 where
   pub front : List Element
   pub parts : header ≡ flat_map element_octets front ++ rest
@@ -144,10 +144,10 @@ one_more front e (Some c) last t h = record { front = front; element = e; back =
 one_more front e None (Some c) t h = record { front = h.front; element = h.element; back = h.back ++ e ∷ []; parts = ap (λ (l : List Element). l ++ e ∷ []) h.parts ∙ append_assoc h.front (h.element ∷ h.back) (e ∷ []); tells = h.tells; others = none_more h.back e h.others t }
 one_more front e None None t h = none_more front e h t
 
-abbrev from_third : List ℕ → List ℕ
+abbrev pub from_third : List ℕ → List ℕ
 from_third xs = take (length xs - 2) (drop 2 xs)
 
-two_first : (xs : List ℕ) → 2 ≤ length xs → xs ≡ get_or xs 0 0 ∷ get_or xs 1 0 ∷ from_third xs
+pub two_first : (xs : List ℕ) → 2 ≤ length xs → xs ≡ get_or xs 0 0 ∷ get_or xs 1 0 ∷ from_third xs
 two_first [] h = absurd (omega arith)
 two_first (x ∷ []) h = absurd (omega arith)
 two_first (x ∷ y ∷ xs) h = ap (λ (l : List ℕ). x ∷ y ∷ l) (sym (take_all (length (x ∷ y ∷ xs) - 2) xs (omega arith)))
@@ -186,7 +186,7 @@ cut_before_length header rest last some few r = cut header rest last (none rest 
     none xs some few [] s = omega (arith, ap length s)
     none xs some few (e ∷ more) s = omega (arith, ap length s)
 
-short_of : (identifier size : ℕ) (octets : List ℕ) → length octets < size → (more : List Element) → Spells more (identifier ∷ size ∷ octets) → ⊥
+pub short_of : (identifier size : ℕ) (octets : List ℕ) → length octets < size → (more : List Element) → Spells more (identifier ∷ size ∷ octets) → ⊥
 short_of identifier size octets few [] s = cc
 short_of identifier size octets few (e ∷ more) s =
     let sizes : length e.octets ≡ size = cc in

@@ -1,25 +1,53 @@
 -- SMS-DELIVER (3GPP TS 23.040, 9.2.2.1).
-use Rattle.std.specs.Prelude.{◌≡◌, ℕ, List, ◌∷◌, ◌++◌}
-use Rattle.sms_field.specs.Field.{Field, ◌>>=◌, always, octet, octet_by, renamed}
+pub mod Flags
+pub mod Laws
+use Rattle.std.specs.Prelude.{◌≡◌, ℕ, List, ◌∷◌, ◌++◌, ◌<◌, Bool}
+use Rattle.sms_field.specs.Field.{Field, ◌>>=◌, always, octet, octet_by, map_reason}
 use Rattle.sms_field.specs.Address.{address, address_octets}
 use Rattle.sms_field.specs.Coding.{alphabet_at}
 use Rattle.sms_field.specs.Stamp as time
 use Rattle.sms_tpdu.specs.Fault.{unit_fault}
-use Rattle.sms_tpdu.specs.DeliverFlags.{deliver_flags, deliver_octet}
-use Rattle.sms_tpdu.specs.UserData.{user_data, has_header, SpellsUserData}
-use Rattle.sms_tpdu.specs.Delivery.{Delivery, IsDeliverable}
-use Rattle.sms_tpdu.specs.declared.deliver_flags.DeliverFlags.{DeliverFlags}
+use Rattle.sms_tpdu.specs.Deliver.Flags.{deliver_flags, deliver_octet}
+use Rattle.sms_tpdu.specs.UserData.{user_data, has_header, SpellsUserData, FitsAlphabet}
+use Rattle.sms_tpdu.specs.declared.deliver.flags.DeliverFlags.{DeliverFlags}
 use Rattle.sms_tpdu.specs.declared.fault.UnitFault.{UnitFault}
 use Rattle.sms_tpdu.specs.declared.fault.UnitFault.TheVariants.{Short}
+use Rattle.sms_field.specs.AddressValue.{AddressValue, HasSpelling}
+use Rattle.sms_field.specs.Stamp.{IsStamp}
+use Rattle.sms_tpdu.specs.declared.user_data.UserData.{UserData}
+
+pub record Delivery : Type 0 where
+  pub more : Bool
+  pub looped : Bool
+  pub report : Bool
+  pub reply : Bool
+  pub origin : AddressValue
+  pub pid : ℕ
+  pub dcs : ℕ
+  pub stamp : List ℕ
+  pub user : UserData
+
+-- what has a spelling
+pub record IsDeliverable (d : Delivery) : Type 0 where
+  pub origin : HasSpelling d.origin
+  pub pid : d.pid < 256
+  pub dcs : d.dcs < 256
+  pub stamp : IsStamp d.stamp
+  pub user : FitsAlphabet (alphabet_at d.dcs) d.user
 
 unfoldable pub deliver : Field Delivery UnitFault
 deliver = do
-  -- another type: WrongType
+  -- TP-MTI, TP-MMS, TP-LP, TP-SRI, TP-UDHI and TP-RP; another TP-MTI: WrongType
   flags ← octet_by Short deliver_flags
-  origin ← renamed unit_fault address
+  -- TP-OA
+  origin ← map_reason unit_fault address
+  -- TP-PID
   pid ← octet Short
+  -- TP-DCS
   dcs ← octet Short
+  -- TP-SCTS
   stamp ← time.stamp Short
+  -- TP-UDL and TP-UD
   user ← user_data flags.header (alphabet_at dcs)
   always (record { more = flags.more; looped = flags.looped; report = flags.report; reply = flags.reply; origin = origin; pid = pid; dcs = dcs; stamp = stamp; user = user })
 

@@ -1,22 +1,23 @@
 //! Addresses in units.
 
-ghost use Rattle.sms_field.specs.Field.{renamed};
+ghost use Rattle.sms_field.specs.Field.{map_reason};
+ghost use Rattle.std.specs.Prelude.{IfOk};
+ghost use Rattle.sms_field.specs.AddressValue.{HasSpelling};
 ghost use Rattle.sms_field.specs.Address.{address};
-ghost use Rattle.sms_field.specs.Answer.{Gives};
+ghost use Rattle.sms_field.specs.Answer.{Sees};
 ghost use Rattle.sms_tpdu.specs.Fault.{unit_fault};
 
 use crate::fault::UnitFault;
-use sms_field::{Address, Cursor, Refusal};
-use std::alloc::Global;
+use sms_field::{AddressView, Cursor, Fault};
 
 /// An address, refused for a unit's reasons.
-pub fn address_at(alloc: Global, input: &mut Cursor) -> Result<Address, Refusal<UnitFault>>
-    ensures { Gives (λ a. a) result input.new.place input.new.rest.now ((renamed unit_fault address).read input.old.place input.old.rest.now) }
+pub fn address_seen_at<'a>(input: &mut Cursor<'a>) -> Result<AddressView<'a>, Fault<UnitFault>>
+    ensures read { Sees (map_reason unit_fault address) input.old result input.new }
+    ensures fits { IfOk result HasSpelling }
 {
-    match Address::read_at(alloc, input) {
+    match AddressView::read_at(input) {
         Ok(address) => Ok(address),
-        Err(Refusal::Memory) => Err(Refusal::Memory),
-        Err(Refusal::At { place, why }) => Err(Refusal::At {
+        Err(Fault { place, why }) => Err(Fault {
             place,
             why: why.into(),
         }),

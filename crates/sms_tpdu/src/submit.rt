@@ -1,47 +1,48 @@
 //! SMS-SUBMIT.
 
-ghost use Rattle.sms_field.specs.Field.{octet_by};
-ghost use Rattle.sms_field.specs.Answer.{Gives};
-ghost use Rattle.sms_tpdu.specs.SubmitFlags.{submit_flags};
 ghost use Rattle.sms_tpdu.specs.Submit.{submit};
-ghost use Rattle.sms_tpdu.specs.declared.fault.UnitFault.TheVariants.{Short};
 
-use crate::address::address_at;
-use crate::data::{put_user_data, user_data_at};
+pub mod flags;
+pub mod validity;
+pub mod view;
+
 use crate::fault::UnitFault;
-use crate::submit_flags::SubmitFlags;
+use crate::submit::flags::SubmitFlags;
+use crate::submit::validity::{ValidityFormat, put_validity};
+use crate::submit::view::SubmitView;
 use crate::unit::Unit;
-use crate::user::UserData;
-use crate::validity::{ValidityFormat, put_validity, validity_at};
-use sms_field::{Address, Cursor, Refusal, Validity, alphabet_of};
+use crate::user_data::UserData;
+use crate::user_data::writing::put_user_data;
+use crate::view::View;
+use sms_field::{Address, Cursor, Refusal, Validity};
 use std::alloc::{AllocError, Global};
 use std::marker::Model;
 
 /// A message on its way from a phone (TS 23.040, 9.2.2.2).
 #[derive(Drop)]
 pub struct Submit {
-    /// A repeat is to be rejected.
+    /// TP-RD: a repeat is to be rejected.
     pub reject: bool,
-    /// How long the service centre shall try to deliver.
+    /// TP-VPF and TP-VP: how long the service centre shall try to deliver.
     pub validity: Validity,
-    /// A status report is wanted.
+    /// TP-SRR: a status report is wanted.
     pub report: bool,
-    /// A reply goes by the same service centre.
+    /// TP-RP: a reply goes by the same service centre.
     pub reply: bool,
-    /// The phone's number of the submission.
+    /// TP-MR: the phone's number of the submission.
     pub reference: u8,
-    /// The recipient.
+    /// TP-DA: the recipient.
     pub target: Address,
-    /// The protocol identifier.
+    /// TP-PID: the protocol identifier.
     pub pid: u8,
-    /// The data coding scheme.
+    /// TP-DCS: the data coding scheme.
     pub dcs: u8,
-    /// Septets exactly where the data coding scheme says the 7-bit alphabet.
+    /// TP-UDHI, TP-UDL and TP-UD: septets exactly where the data coding scheme says the 7-bit alphabet, else octets.
     pub user: UserData,
 }
 
 impl Model for Submit {
-    ghost use Rattle.sms_tpdu.specs.Submission.{Submission, IsSubmittable};
+    ghost use Rattle.sms_tpdu.specs.Submit.{Submission, IsSubmittable};
 
     ghost Value = { Submission };
 
@@ -50,62 +51,21 @@ impl Model for Submit {
     ghost invariant = { λ s. IsSubmittable (record { reject = s.reject; validity = s.validity; report = s.report; reply = s.reply; reference = s.reference; target = s.target; pid = s.pid; dcs = s.dcs; user = s.user }) };
 }
 
-/// The first octet of a submission.
-fn flags_at(input: &mut Cursor) -> Result<SubmitFlags, Refusal<UnitFault>>
-    ensures { Gives (λ f. f) result input.new.place input.new.rest.now ((octet_by Short submit_flags).read input.old.place input.old.rest.now) }
-{
-    let place = input.place;
-    let octet = input.octet()?;
-    match SubmitFlags::from_octet(octet) {
-        Ok(flags) => Ok(flags),
-        Err(why) => Err(Refusal::At { place, why }),
-    }
-}
-
-/// A submission.
-#[tactic(auto, unfolding(crate::specs::Submit::submit))]
-fn submit_at(alloc: Global, input: &mut Cursor) -> Result<Submit, Refusal<UnitFault>>
-    ensures { Gives (λ s. s) result input.new.place input.new.rest.now (submit.read input.old.place input.old.rest.now) }
-{
-    let flags = flags_at(input)?;
-    let reference = input.octet()?;
-    let target = address_at(alloc, input)?;
-    let pid = input.octet()?;
-    let dcs = input.octet()?;
-    let validity = validity_at(input, flags.format)?;
-    let user = user_data_at(alloc, input, flags.header, alphabet_of(dcs))?;
-    Ok(Submit {
-        reject: flags.reject,
-        validity,
-        report: flags.report,
-        reply: flags.reply,
-        reference,
-        target,
-        pid,
-        dcs,
-        user,
-    })
-}
-
 impl Unit for Submit {
     ghost use Rattle.std.specs.Prelude.{ℕ, List};
-    ghost use Rattle.sms_field.specs.Reading.{Reads};
     ghost use Rattle.sms_tpdu.specs.Submit.{submit, SpellsSubmit};
     ghost use Rattle.sms_tpdu.specs.declared.fault.UnitFault.TheVariants.{Short};
-    ghost use Rattle.sms_tpdu.specs.SubmitUnit as laws;
+    ghost use Rattle.sms_tpdu.specs.Submit.Laws.{submit_laws};
 
     type Why = UnitFault;
 
-    ghost reads = { Reads submit };
-
-    ghost reason = { submit.reason };
+    ghost field = { submit };
 
     ghost spells = { SpellsSubmit };
 
-    fn read(alloc: Global, input: &[u8]) -> Result<(Submit, usize), Refusal<UnitFault>> {
-        let mut cursor = Cursor::new(input);
-        let submit = submit_at(alloc, &mut cursor)?;
-        Ok((submit, cursor.place))
+    fn read_at(alloc: Global, input: &mut Cursor) -> Result<Submit, Refusal<UnitFault>> {
+        let view = SubmitView::read_at(input)?;
+        Ok(view.to_value(alloc)?)
     }
 
     fn write(&self, alloc: Global) -> Result<Vec<u8>, AllocError> {
@@ -127,9 +87,5 @@ impl Unit for Submit {
         Ok(out)
     }
 
-    ghost one_reading = { laws.one_reading };
-
-    ghost spelled_in_octets = { laws.spelled_in_octets };
-
-    ghost read_back = { laws.read_back };
+    ghost laws = { submit_laws };
 }

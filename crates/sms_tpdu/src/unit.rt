@@ -1,45 +1,49 @@
 //! What every unit has: it is read and written, and what is written is read back.
 
-ghost use Rattle.std.specs.Prelude.{◌≡◌, ℕ, List, [], ◌++◌, length, IfOk, IfErr};
-ghost use Rattle.sms_text.specs.Octets.{IsOctets};
-ghost use Rattle.sms_field.specs.Reading.{IsRefused};
+ghost use Rattle.std.specs.Prelude.{◌≡◌, ℕ, List, [], IfOk, IfErr};
+ghost use Rattle.sms_field.specs.Field.{Field};
+ghost use Rattle.sms_field.specs.Answer.{Takes};
+ghost use Rattle.sms_field.specs.Reading.{Reads};
+ghost use Rattle.sms_field.specs.WholeAnswer.{IsRefusedBy, ReadsExactly};
 ghost use Rattle.sms_field.specs.declared.refusal.Refusal.TheVariants.{Memory};
+ghost use Rattle.sms_tpdu.specs.UnitLaws.{AreUnitLaws};
 
-use sms_field::{Reason, Refusal};
+use sms_field::{Cursor, Reason, Refusal};
 use std::alloc::{AllocError, Global};
 
 pub trait Unit: Sized + Drop {
     type Why: Reason;
 
-    /// By `reads value input used` the first octets of the input, `used` of them, are read as the value.
-    ghost reads: { Self → List ℕ → ℕ → Type 0 };
+    /// Which octets are read as a value, and for which reason an octet is refused that cannot follow the ones before it.
+    ghost field: { Field Self Self.Why };
 
-    /// By `reason front octet why` that is why the octet is refused which cannot stand after the front.
-    ghost reason: { List ℕ → ℕ → Self.Why → Type 0 };
-
-    /// By `spells value octets` the octets are how the value is written.
+    /// By `spells value octets` these octets are written for the value.
     ghost spells: { Self → List ℕ → Type 0 };
 
-    /// What may stand behind a written value so that it is read back.
+    /// Which octets may follow those of a value, so that it is still read back. Mostly any may.
     ghost may_follow: { Self → List ℕ → Type 0 } = { λ _ _. Unit {0} };
 
-    /// Reads a unit at the front of the octets, and says how many it takes.
-    fn read(alloc: Global, input: &[u8]) -> Result<(Self, usize), Refusal<Self::Why>>
-        ensures found { IfOk result (λ x. reads x.0 input.now x.1) }
-        ensures refused { IfErr result (IsRefused reads reason Self.Why.short input.now) };
+    /// Reads a unit at a cursor, which then stands after it. After a refusal nothing is known of the cursor.
+    fn read_at(alloc: Global, input: &mut Cursor) -> Result<Self, Refusal<Self::Why>>
+        ensures { Takes field input.old result input.new };
 
-    /// The octets of the unit.
+    /// The octets of the unit. Only want of memory can prevent it.
     fn write(&self, alloc: Global) -> Result<Vec<u8>, AllocError>
         ensures { IfOk result (λ octets. spells self.now octets.items) };
 
-    /// An input has one reading.
-    ghost one_reading: { (v w : Self) (input : List ℕ) (m n : ℕ) → IsOctets input → reads v input m → reads w input n → (w ≡ v) × (n ≡ m) };
+    /// The field is lawful; what is written are octets, and is read back.
+    ghost laws: { AreUnitLaws Self.Why.short field spells may_follow };
 
-    /// What is written are octets.
-    ghost spelled_in_octets: { (v : Self) (octets : List ℕ) → spells v octets → IsOctets octets };
-
-    /// What is written is read back, whatever follows.
-    ghost read_back: { (v : Self) (octets more : List ℕ) → spells v octets → may_follow v more → reads v (octets ++ more) (length octets) };
+    /// Reads a unit at the front of the octets, and says how many octets it takes. What follows them is ignored.
+    final fn read(alloc: Global, input: &[u8]) -> Result<(Self, usize), Refusal<Self::Why>>
+        ensures found { IfOk result (λ x. Reads field x.0 input.now x.1) }
+        ensures refused { IfErr result (IsRefusedBy field Self.Why.short input.now) }
+        ensures exact { ReadsExactly field input.now result }
+    {
+        let mut cursor = Cursor::new(input);
+        let unit = Self::read_at(alloc, &mut cursor)?;
+        Ok((unit, cursor.place()))
+    }
 }
 
 /// The unit that is read from what is written.

@@ -2,12 +2,13 @@ mod relays;
 mod reports;
 mod rows;
 mod splits;
+mod widths;
 
 use super::*;
 use crate::printed::Escaped;
 use rows::{
-    AFTER_CENTRES, DELIVERIES, EXPLAINED, HEADERS, HELLO, HELLO_SHOWN, LONG_TEXTS, MORE_DELIVERIES,
-    NO_DELIVERIES, NO_SUBMISSIONS, NO_UNITS, SUBMISSIONS, UNITS,
+    AFTER_CENTRES, DELIVERIES, EXPLAINED, Encoded, HEADERS, HELLO, HELLO_SHOWN, LONG_TEXTS,
+    MORE_DELIVERIES, NO_DELIVERIES, NO_SUBMISSIONS, NO_UNITS, NotEncoded, SUBMISSIONS, UNITS,
 };
 use std::test::Fail;
 
@@ -33,8 +34,8 @@ fn is_shown(rt: &HostRuntime, kind: &str, octets: &str, lines: &str) -> Result<b
 #[test]
 fn shows_deliveries(rt: HostRuntime) -> Result<(), Fail> {
     for row in DELIVERIES.as_slice() {
-        let shown = is_shown(&rt, "deliver", row.0, row.1)?;
-        assert!(rt; shown);
+        let shown = is_shown(&rt, "deliver", row.octets, row.lines)?;
+        assert!(rt; shown, "{}", row.octets);
     }
     Ok(())
 }
@@ -42,8 +43,8 @@ fn shows_deliveries(rt: HostRuntime) -> Result<(), Fail> {
 #[test]
 fn shows_more_deliveries(rt: HostRuntime) -> Result<(), Fail> {
     for row in MORE_DELIVERIES.as_slice() {
-        let shown = is_shown(&rt, "deliver", row.0, row.1)?;
-        assert!(rt; shown);
+        let shown = is_shown(&rt, "deliver", row.octets, row.lines)?;
+        assert!(rt; shown, "{}", row.octets);
     }
     Ok(())
 }
@@ -51,8 +52,8 @@ fn shows_more_deliveries(rt: HostRuntime) -> Result<(), Fail> {
 #[test]
 fn shows_submissions(rt: HostRuntime) -> Result<(), Fail> {
     for row in SUBMISSIONS.as_slice() {
-        let shown = is_shown(&rt, "submit", row.0, row.1)?;
-        assert!(rt; shown);
+        let shown = is_shown(&rt, "submit", row.octets, row.lines)?;
+        assert!(rt; shown, "{}", row.octets);
     }
     Ok(())
 }
@@ -66,7 +67,7 @@ fn shows_a_whole_delivery(rt: HostRuntime) -> Result<(), Fail> {
 }
 
 #[test]
-fn shows_what_stands_behind_a_centre(rt: HostRuntime) -> Result<(), Fail> {
+fn shows_what_stands_after_a_centre(rt: HostRuntime) -> Result<(), Fail> {
     for (kind, octets, status, lines) in AFTER_CENTRES {
         let answer = answer_to(&rt, &["sms", "show", "--sca", kind, octets])?;
         assert_eq!(rt; answer.0, status, "{octets}");
@@ -159,23 +160,23 @@ fn comes_back(
 }
 
 /// Whether a row of what can be encoded gives its octets, and these are shown as what went in.
-fn is_encoded(rt: &HostRuntime, row: &(&str, &[&str], &str, &str, &str)) -> Result<bool, Fail> {
-    let (status, answer) = encoding_of(rt, row.0, row.1, row.2, row.3)?;
-    let again = comes_back(rt, row.0, row.4, row.2, row.3)?;
-    Ok(status == 0 && answer.as_str() == row.4 && again)
+fn is_encoded(rt: &HostRuntime, row: &Encoded) -> Result<bool, Fail> {
+    let (status, answer) = encoding_of(rt, row.kind, row.options, row.address, row.text)?;
+    let again = comes_back(rt, row.kind, row.octets, row.address, row.text)?;
+    Ok(status == 0 && answer.as_str() == row.octets && again)
 }
 
 /// Whether a row of what cannot be encoded gives its status and its line.
-fn is_refused(rt: &HostRuntime, row: &(&str, &[&str], &str, &str, u8, &str)) -> Result<bool, Fail> {
-    let (status, answer) = encoding_of(rt, row.0, row.1, row.2, row.3)?;
-    Ok(status == row.4 && answer.as_str() == row.5)
+fn is_refused(rt: &HostRuntime, row: &NotEncoded) -> Result<bool, Fail> {
+    let (status, answer) = encoding_of(rt, row.kind, row.options, row.address, row.text)?;
+    Ok(status == row.status && answer.as_str() == row.line)
 }
 
 #[test]
 fn encodes_units(rt: HostRuntime) -> Result<(), Fail> {
     for row in UNITS.as_slice() {
         let encoded = is_encoded(&rt, row)?;
-        assert!(rt; encoded);
+        assert!(rt; encoded, "{} {}", row.address, row.text);
     }
     Ok(())
 }
@@ -184,12 +185,12 @@ fn encodes_units(rt: HostRuntime) -> Result<(), Fail> {
 fn refuses_what_is_not_encoded(rt: HostRuntime) -> Result<(), Fail> {
     for row in NO_UNITS.as_slice() {
         let refused = is_refused(&rt, row)?;
-        assert!(rt; refused);
+        assert!(rt; refused, "{} {}", row.address, row.text);
     }
     Ok(())
 }
 
-/// A text so many times.
+/// A text, as many times as are asked for.
 fn repeated(rt: &HostRuntime, part: &str, times: usize) -> Result<String, Fail> {
     let mut text = String::new(rt.alloc());
     for _ in 0..times {
@@ -210,7 +211,7 @@ fn shown_data(
 }
 
 #[test]
-fn shows_what_fits_behind_a_header(rt: HostRuntime) -> Result<(), Fail> {
+fn shows_what_fits_after_a_header(rt: HostRuntime) -> Result<(), Fail> {
     for (header, first, octets, septets) in HEADERS {
         let ones = repeated(&rt, "FF", octets)?;
         let data = format!(in rt.alloc(); "{header}{first}{ones}")?;

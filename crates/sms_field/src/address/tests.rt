@@ -138,12 +138,12 @@ fn addresses_from_texts(rt: HostRuntime) -> Result<(), Fail> {
         ("+A", AddressFault::BadDigit),
         ("1\u{3B1}", AddressFault::BadDigit),
         ("hellohellohello\u{3B1}", AddressFault::BadDigit),
-        ("hellohellohe", AddressFault::TooLong),
-        ("euros 12 \u{20AC}x", AddressFault::TooLong),
-        ("12345678901234567890x", AddressFault::TooLong),
+        ("hellohellohe", AddressFault::AddressTooLong),
+        ("euros 12 \u{20AC}x", AddressFault::AddressTooLong),
+        ("12345678901234567890x", AddressFault::AddressTooLong),
         ("+123456789012345678901x", AddressFault::BadDigit),
-        ("123456789012345678901", AddressFault::TooLong),
-        ("+123456789012345678901", AddressFault::TooLong),
+        ("123456789012345678901", AddressFault::AddressTooLong),
+        ("+123456789012345678901", AddressFault::AddressTooLong),
     ];
     for (text, fault) in bad {
         assert!(rt; is_refused(rt.alloc(), text, fault));

@@ -28,7 +28,7 @@ fn relay_addresses(rt: HostRuntime) -> Result<(), Fail> {
         ("abcd", AddressFault::BadDigit),
         ("+12x", AddressFault::BadDigit),
         ("12345678901234567890x", AddressFault::BadDigit),
-        ("123456789012345678901", AddressFault::TooLong),
+        ("123456789012345678901", AddressFault::AddressTooLong),
     ];
     for (text, fault) in bad {
         assert_eq!(rt;

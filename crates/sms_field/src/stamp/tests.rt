@@ -96,7 +96,7 @@ fn what_a_date_says(rt: HostRuntime) {
     }
     assert_eq!(rt;
         Stamp::read(&FIRST[..6]),
-        Err(Refusal::At {
+        Err(Fault {
             place: 6,
             why: FieldFault::Short
         })

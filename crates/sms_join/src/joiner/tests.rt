@@ -1,6 +1,6 @@
 //! Segments offered in some order, and what the joiner answers to each.
 
-ghost use Rattle.sms_join.specs.Piece.{IsPlace};
+ghost use Rattle.sms_tpdu.specs.UserData.ConcatenationFound.{IsPlace};
 
 use super::*;
 use crate::cut::split;
@@ -66,7 +66,7 @@ fn checked(concat: Option<Concat>) -> Option<Concat>
     }
 }
 
-/// So many letters.
+/// As many letters.
 fn letters(alloc: Global, count: usize) -> Result<String, AllocError> {
     let mut text = String::new(alloc);
     for letter in ('a'..='z').cycle().take(count) {
@@ -116,7 +116,7 @@ fn finishes_once(alloc: Global, text: &str, order: &[usize]) -> Result<bool, Fai
         };
         let units = copied(alloc, &segment.units)?;
         let stamp = Stamp::new([0; 7]);
-        let answer = joiner.offer(alloc, 0, &origin, stamp, checked(Some(place)), units)?;
+        let answer = joiner.offer(0, &origin, stamp, checked(Some(place)), units)?;
         if let Offer::Finished(text) = answer {
             finished.push(text)?;
         }
@@ -124,90 +124,174 @@ fn finishes_once(alloc: Global, text: &str, order: &[usize]) -> Result<bool, Fai
     Ok(finished.len() == 1 && finished.iter().all(|found| found.as_str() == text))
 }
 
+/// A piece that is offered to a joiner, and what is wanted of it.
+#[derive(Clone, Copy)]
+struct Row {
+    shows: &'static str,
+    from: &'static str,
+    place: Option<Concat>,
+    piece: Piece,
+    want: Want,
+}
+
+impl Row {
+    /// Letters from +1001.
+    fn letters(
+        shows: &'static str,
+        place: Option<Concat>,
+        letters: &'static str,
+        want: Want,
+    ) -> Row {
+        Row {
+            shows,
+            from: "+1001",
+            place,
+            piece: Piece::Gsm(letters),
+            want,
+        }
+    }
+}
+
 /// The answer is what is wanted.
-fn expect(rt: &impl Abort, answer: Result<Offer, OfferFault>, want: Want, row: usize) {
+fn expect(rt: &impl Abort, answer: Result<Offer, OfferFault>, want: Want, shows: &str) {
     match (answer, want) {
         (Ok(Offer::Repeat), Want::Repeat) | (Ok(Offer::Kept), Want::Kept) => {}
         (Err(OfferFault::TooManyOpen), Want::TooManyOpen) => {}
         (Ok(Offer::Finished(text)), Want::Finished(wanted)) => {
-            assert_eq!(rt; text.as_str(), wanted, "row {row}");
+            assert_eq!(rt; text.as_str(), wanted, "{shows}");
         }
-        _ => assert!(rt; false, "row {row}"),
+        _ => assert!(rt; false, "{shows}"),
     }
+}
+
+/// The joiner answers as wanted, and says before whether the piece would finish its set.
+fn offers(
+    rt: &impl Abort,
+    alloc: Global,
+    joiner: &mut Joiner,
+    now: u64,
+    row: &Row,
+) -> Result<(), Fail> {
+    let origin = Address::from_text(alloc, row.from)?;
+    let stamp = Stamp::new([0; 7]);
+    let place = checked(row.place);
+    let finishes = joiner.would_finish(&origin, stamp, place);
+    let wanted = matches!(&row.want, Want::Finished(_));
+    assert_eq!(rt; finishes, wanted, "{}", row.shows);
+    let units = units_of(alloc, row.piece)?;
+    let answer = joiner.offer(now, &origin, stamp, place, units);
+    expect(rt, answer, row.want, row.shows);
+    Ok(())
 }
 
 /// One set may be open, and one key is remembered.
 #[test]
 fn answers_in_turn(rt: HostRuntime) -> Result<(), Fail> {
     let (alloc, eight) = (rt.alloc(), Width::Eight);
+    let (first, second) = (of_two(eight, 7, 1), of_two(eight, 7, 2));
+    let other = of_two(eight, 8, 1);
     let rows = [
-        (of_two(eight, 7, 2), "b", Want::Kept),
-        (of_two(eight, 8, 1), "z", Want::TooManyOpen),
-        (None, "u", Want::Finished("u")),
-        (of_two(eight, 7, 2), "b", Want::Repeat),
-        (of_two(eight, 7, 1), "a", Want::Finished("ab")),
-        (of_two(eight, 7, 1), "a", Want::Repeat),
-        (None, "u", Want::Finished("u")),
+        Row::letters("opens", second, "b", Want::Kept),
+        Row::letters("one set too many", other, "z", Want::TooManyOpen),
+        Row::letters("alone", None, "u", Want::Finished("u")),
+        Row::letters("there already", second, "b", Want::Repeat),
+        Row::letters("the last", first, "a", Want::Finished("ab")),
+        Row::letters("finished lately", first, "a", Want::Repeat),
+        Row::letters("forgotten", None, "u", Want::Finished("u")),
     ];
     let mut joiner = Joiner::new(alloc, 1, 1)?;
-    let origin = Address::from_text(alloc, "+1001")?;
-    let stamp = Stamp::new([0; 7]);
-    for (row, (place, text, want)) in rows.into_iter().enumerate() {
-        let units = units_of(alloc, Piece::Gsm(text))?;
-        let answer = joiner.offer(alloc, 0, &origin, stamp, checked(place), units);
-        expect(&rt, answer, want, row);
+    for row in rows.as_slice() {
+        offers(&rt, alloc, &mut joiner, 0, row)?;
     }
     Ok(())
 }
 
-/// Sets of two origins under one reference, of both widths under one number, and of both alphabets.
+/// Sets of two origins under one reference, and of both widths under one number.
 #[test]
 fn keeps_sets_apart(rt: HostRuntime) -> Result<(), Fail> {
     let (alloc, eight, sixteen) = (rt.alloc(), Width::Eight, Width::Sixteen);
     let rows = [
-        ("1001", of_two(eight, 7, 1), Piece::Gsm("a"), Want::Kept),
-        ("+1001", of_two(eight, 7, 1), Piece::Gsm("x"), Want::Kept),
-        ("1001", of_two(sixteen, 7, 2), Piece::Gsm("n"), Want::Kept),
-        (
-            "1001",
-            of_two(sixteen, 263, 2),
-            Piece::Gsm(" hi"),
-            Want::Kept,
-        ),
-        (
-            "+1001",
-            of_two(eight, 7, 2),
-            Piece::Gsm("y"),
-            Want::Finished("xy"),
-        ),
-        ("1001", of_two(eight, 7, 1), Piece::Gsm("c"), Want::Repeat),
-        (
-            "1001",
-            of_two(eight, 7, 2),
-            Piece::Gsm("b"),
-            Want::Finished("ab"),
-        ),
-        (
-            "1001",
+        Row {
+            shows: "without a plus",
+            from: "1001",
+            place: of_two(eight, 7, 1),
+            piece: Piece::Gsm("a"),
+            want: Want::Kept,
+        },
+        Row::letters("another origin", of_two(eight, 7, 1), "x", Want::Kept),
+        Row::letters("another width", of_two(sixteen, 7, 2), "n", Want::Kept),
+        Row::letters("263 is not 7", of_two(sixteen, 263, 2), "q", Want::Kept),
+        Row::letters("its own", of_two(eight, 7, 2), "y", Want::Finished("xy")),
+        Row {
+            shows: "still open",
+            from: "1001",
+            place: of_two(eight, 7, 1),
+            piece: Piece::Gsm("c"),
+            want: Want::Repeat,
+        },
+        Row {
+            shows: "without a plus, the last",
+            from: "1001",
+            place: of_two(eight, 7, 2),
+            piece: Piece::Gsm("b"),
+            want: Want::Finished("ab"),
+        },
+        Row::letters(
+            "the other width",
             of_two(sixteen, 7, 1),
-            Piece::Gsm("m"),
+            "m",
             Want::Finished("mn"),
         ),
-        (
-            "1001",
-            of_two(sixteen, 263, 1),
-            Piece::Ucs2(0x4F60),
-            Want::Finished("你 hi"),
-        ),
+        Row {
+            shows: "both alphabets",
+            from: "+1001",
+            place: of_two(sixteen, 263, 1),
+            piece: Piece::Ucs2(0x4F60),
+            want: Want::Finished("你q"),
+        },
     ];
     let mut joiner = Joiner::new(alloc, 4, 2)?;
-    let stamp = Stamp::new([0; 7]);
-    for (row, (from, place, piece, want)) in rows.into_iter().enumerate() {
-        let origin = Address::from_text(alloc, from)?;
-        let units = units_of(alloc, piece)?;
-        let answer = joiner.offer(alloc, 0, &origin, stamp, checked(place), units);
-        expect(&rt, answer, want, row);
+    for row in rows.as_slice() {
+        offers(&rt, alloc, &mut joiner, 0, row)?;
     }
+    Ok(())
+}
+
+/// Six sets are open at a time, and a seventh is one too many.
+#[test]
+fn holds_six_open_sets(rt: HostRuntime) -> Result<(), Fail> {
+    let (alloc, eight) = (rt.alloc(), Width::Eight);
+    let mut joiner = Joiner::new(alloc, 6, 1)?;
+    for reference in 0..6 {
+        let row = Row::letters("opens", of_two(eight, reference, 1), "a", Want::Kept);
+        offers(&rt, alloc, &mut joiner, 0, &row)?;
+    }
+    let row = Row::letters("a seventh", of_two(eight, 6, 1), "a", Want::TooManyOpen);
+    offers(&rt, alloc, &mut joiner, 0, &row)?;
+    for reference in 0..6 {
+        let place = of_two(eight, reference, 2);
+        let row = Row::letters("the last", place, "b", Want::Finished("ab"));
+        offers(&rt, alloc, &mut joiner, 0, &row)?;
+    }
+    Ok(())
+}
+
+/// A set is dropped seven days after its first piece, whenever others came, and makes room.
+#[test]
+fn open_sets_age(rt: HostRuntime) -> Result<(), Fail> {
+    let (alloc, eight) = (rt.alloc(), Width::Eight);
+    let (first, second) = (of_two(eight, 7, 1), of_two(eight, 7, 2));
+    let mut joiner = Joiner::new(alloc, 1, 1)?;
+    let opens = Row::letters("opens", first, "a", Want::Kept);
+    offers(&rt, alloc, &mut joiner, 5, &opens)?;
+    joiner.age(604_804);
+    let again = Row::letters("is there yet", first, "a", Want::Repeat);
+    offers(&rt, alloc, &mut joiner, 604_804, &again)?;
+    joiner.age(604_805);
+    let room = Row::letters("has room", of_two(eight, 8, 1), "c", Want::Kept);
+    offers(&rt, alloc, &mut joiner, 604_805, &room)?;
+    let dropped = Row::letters("was dropped", second, "b", Want::TooManyOpen);
+    offers(&rt, alloc, &mut joiner, 604_805, &dropped)?;
     Ok(())
 }
 

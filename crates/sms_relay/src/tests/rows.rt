@@ -20,7 +20,7 @@ pub struct Refused {
     pub why: RelayFault,
 }
 
-/// An RP message with ignored bits or octets behind it, and how it is written.
+/// An RP message with ignored bits or octets after it, and how it is written.
 pub struct Again {
     pub octets: &'static [u8],
     pub written: &'static [u8],

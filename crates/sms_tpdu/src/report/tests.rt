@@ -6,7 +6,7 @@ use std::alloc::Global;
 use std::test::Fail;
 
 /// The four kinds of report.
-#[derive(Clone, Copy)]
+#[derive(Clone, Copy, Debug)]
 enum Kind {
     SubmitAck,
     SubmitError,
@@ -298,7 +298,7 @@ fn are_data(user: &Option<ReportData>, wanted: Option<(u8, &[u8])>) -> bool {
     }
 }
 
-/// Whether the octets of a row, and others behind them, are read and written as the row says.
+/// Whether the octets of a row, and others after them, are read and written as the row says.
 fn is_right(alloc: Global, row: &Row) -> Result<bool, Fail> {
     let mut octets = Vec::from_slice(alloc, row.octets)?;
     octets.extend_from_slice(b"\x00\xFF")?;
@@ -314,7 +314,7 @@ fn is_right(alloc: Global, row: &Row) -> Result<bool, Fail> {
 fn reads_and_writes_reports(rt: HostRuntime) -> Result<(), Fail> {
     for row in ROWS.as_slice() {
         let right = is_right(rt.alloc(), row)?;
-        assert!(rt; right);
+        assert!(rt; right, "{:?} {:?}", row.kind, row.octets);
     }
     Ok(())
 }
@@ -332,7 +332,7 @@ fn refuses_what_is_no_report(rt: HostRuntime) -> Result<(), Fail> {
     for row in ROWS.as_slice() {
         for n in 0..row.octets.len() {
             let short = is_refused(rt.alloc(), row.kind, &row.octets[..n], n, UnitFault::Short);
-            assert!(rt; short);
+            assert!(rt; short, "{:?} {:?} {n}", row.kind, row.octets);
         }
     }
     let cases: [(Kind, &[u8], usize, UnitFault); 10] = [
@@ -364,7 +364,7 @@ fn refuses_what_is_no_report(rt: HostRuntime) -> Result<(), Fail> {
     ];
     for (kind, octets, place, why) in cases {
         let refused = is_refused(rt.alloc(), kind, octets, place, why);
-        assert!(rt; refused);
+        assert!(rt; refused, "{kind:?} {octets:?}");
     }
     Ok(())
 }

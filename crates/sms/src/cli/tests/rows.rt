@@ -18,517 +18,613 @@ length: 10
 text: hellohello
 ";
 
+/// Octets, and the answer where they are shown: its lines, or some of them.
+pub struct Shown {
+    pub octets: &'static str,
+    pub lines: &'static str,
+}
+
+/// A unit in the words of a command, and its octets.
+pub struct Encoded {
+    pub kind: &'static str,
+    pub options: &'static [&'static str],
+    pub address: &'static str,
+    pub text: &'static str,
+    pub octets: &'static str,
+}
+
+/// A unit in the words of a command, which is not encoded: the status and the line of the answer.
+pub struct NotEncoded {
+    pub kind: &'static str,
+    pub options: &'static [&'static str],
+    pub address: &'static str,
+    pub text: &'static str,
+    pub status: u8,
+    pub line: &'static str,
+}
+
+/// A kind of unit, octets that begin with the address of a service centre, the status and the answer.
+pub struct AfterCentre {
+    pub kind: &'static str,
+    pub octets: &'static str,
+    pub status: u8,
+    pub answer: &'static str,
+}
+
 /// Deliveries, and lines of the answer.
-pub static DELIVERIES: [(&str, &str); 57] = [
-    (
-        "040491101000000010100000000002E834",
-        "length: 2\ntext: hi\n",
-    ),
-    (
-        "0404911010000C0010100000000002E834",
-        "length: 2\ntext: hi\n",
-    ),
-    (
-        "040491101000100010100000000002E834",
-        "length: 2\ntext: hi\n",
-    ),
-    (
-        "040491101000400010100000000002E834",
-        "length: 2\ntext: hi\n",
-    ),
-    (
-        "040491101000800010100000000002E834",
-        "length: 2\ntext: hi\n",
-    ),
-    (
-        "040491101000BF0010100000000002E834",
-        "length: 2\ntext: hi\n",
-    ),
-    (
-        "040491101000C00010100000000002E834",
-        "length: 2\ntext: hi\n",
-    ),
-    (
-        "040491101000DF0010100000000002E834",
-        "length: 2\ntext: hi\n",
-    ),
-    (
-        "040491101000F30010100000000002E834",
-        "length: 2\ntext: hi\n",
-    ),
-    (
-        "0404911010000400101000000000030041FF",
-        "length: 3\ndata: 0041FF\n",
-    ),
-    (
-        "0404911010001400101000000000030041FF",
-        "length: 3\ndata: 0041FF\n",
-    ),
-    (
-        "0404911010004400101000000000030041FF",
-        "length: 3\ndata: 0041FF\n",
-    ),
-    (
-        "040491101000F400101000000000030041FF",
-        "length: 3\ndata: 0041FF\n",
-    ),
-    (
-        "040491101000FF00101000000000030041FF",
-        "length: 3\ndata: 0041FF\n",
-    ),
-    (
-        "0404911010002000101000000000030041FF",
-        "length: 3\ndata: 0041FF\n",
-    ),
-    (
-        "0404911010003F00101000000000030041FF",
-        "length: 3\ndata: 0041FF\n",
-    ),
-    (
-        "0404911010006C00101000000000030041FF",
-        "length: 3\ndata: 0041FF\n",
-    ),
-    (
-        "0404911010000800101000000000030041FF",
-        "length: 3\ntext: A\n",
-    ),
-    (
-        "040491101000E000101000000000030041FF",
-        "length: 3\ntext: A\n",
-    ),
-    (
-        "040491101000000010221000000000",
-        "stamp: 2000-01-22 01:00:00 +00:00\n",
-    ),
-    (
-        "040491101000000010100000000000",
-        "stamp: 2000-01-01 00:00:00 +00:00\n",
-    ),
-    (
-        "04049110100000A010100000000000",
-        "stamp: raw A0101000000000\n",
-    ),
-    (
-        "040491101000000000100000000000",
-        "stamp: raw 00001000000000\n",
-    ),
-    (
-        "040491101000000031100000000000",
-        "stamp: raw 00311000000000\n",
-    ),
-    (
-        "040491101000000010000000000000",
-        "stamp: raw 00100000000000\n",
-    ),
-    (
-        "040491101000001020920000000000",
-        "stamp: raw 10209200000000\n",
-    ),
-    (
-        "040491101000000020920000000000",
-        "stamp: 2000-02-29 00:00:00 +00:00\n",
-    ),
-    (
-        "040491101000000040130000000000",
-        "stamp: raw 00401300000000\n",
-    ),
-    (
-        "040491101000000010104200000000",
-        "stamp: raw 00101042000000\n",
-    ),
-    (
-        "040491101000000010103295950000",
-        "stamp: 2000-01-01 23:59:59 +00:00\n",
-    ),
-    (
-        "040491101000000010100006000000",
-        "stamp: raw 00101000060000\n",
-    ),
-    (
-        "040491101000000010100000060000",
-        "stamp: raw 00101000000600\n",
-    ),
-    (
-        "040491101000000010100000008000",
-        "stamp: 2000-01-01 00:00:00 +02:00\n",
-    ),
-    (
-        "040491101000000010100000002B00",
-        "stamp: 2000-01-01 00:00:00 -08:00\n",
-    ),
-    (
-        "040491101000000010100000000800",
-        "stamp: 2000-01-01 00:00:00 +00:00\n",
-    ),
-    (
-        "040491101000000010100000009700",
-        "stamp: 2000-01-01 00:00:00 +19:45\n",
-    ),
-    (
-        "040491101000000010100000009F00",
-        "stamp: 2000-01-01 00:00:00 -19:45\n",
-    ),
-    (
-        "04049110100000001010000000A000",
-        "stamp: raw 001010000000A0\n",
-    ),
-    (
-        "040491101000009930925161953200",
-        "stamp: 2099-03-29 15:16:59 +05:45\n",
-    ),
-    (
-        "040481012000000010100000000000",
-        "from: 1002\nnumber: 0 1\n",
-    ),
-    (
-        "040491012000000010100000000000",
-        "from: +1002\nnumber: 1 1\n",
-    ),
-    (
-        "0405A82143F500000010100000000000",
-        "from: 12345\nnumber: 2 8\n",
-    ),
-    ("0402B9BA00000010100000000000", "from: *#\nnumber: 3 9\n"),
-    (
-        "040BC87238880900F100000010100000000000",
-        "from: 27838890001\nnumber: 4 8\n",
-    ),
-    ("0403E0DCFE00000010100000000000", "from: abc\nnumber: 6 0\n"),
-    ("0400FF00000010100000000000", "from: \nnumber: 7 15\n"),
-    ("04009000000010100000000000", "from: +\nnumber: 1 0\n"),
-    (
-        "0414911032547698103254769800000010100000000000",
-        "from: +01234567890123456789\nnumber: 1 1\n",
-    ),
-    (
-        "000491101000000010100000000000",
-        "more: yes\nloop: no\nreport: no\nreply: no\n",
-    ),
-    (
-        "040491101000000010100000000000",
-        "more: no\nloop: no\nreport: no\nreply: no\n",
-    ),
-    (
-        "0C0491101000000010100000000000",
-        "more: no\nloop: yes\nreport: no\nreply: no\n",
-    ),
-    (
-        "240491101000000010100000000000",
-        "more: no\nloop: no\nreport: yes\nreply: no\n",
-    ),
-    (
-        "840491101000000010100000000000",
-        "more: no\nloop: no\nreport: no\nreply: yes\n",
-    ),
-    (
-        "BC0491101000000010100000000000",
-        "more: no\nloop: yes\nreport: yes\nreply: yes\n",
-    ),
-    (
-        "0404911010000000101000000000029B17",
-        "length: 2\ntext: \\\\\n",
-    ),
-    ("0404911010000000101000000000010A", "length: 1\ntext: \\n\n"),
-    ("0404911010000000101000000000010D", "length: 1\ntext: \\r\n"),
+pub static DELIVERIES: [Shown; 57] = [
+    Shown {
+        octets: "040491101000000010100000000002E834",
+        lines: "length: 2\ntext: hi\n",
+    },
+    Shown {
+        octets: "0404911010000C0010100000000002E834",
+        lines: "length: 2\ntext: hi\n",
+    },
+    Shown {
+        octets: "040491101000100010100000000002E834",
+        lines: "length: 2\ntext: hi\n",
+    },
+    Shown {
+        octets: "040491101000400010100000000002E834",
+        lines: "length: 2\ntext: hi\n",
+    },
+    Shown {
+        octets: "040491101000800010100000000002E834",
+        lines: "length: 2\ntext: hi\n",
+    },
+    Shown {
+        octets: "040491101000BF0010100000000002E834",
+        lines: "length: 2\ntext: hi\n",
+    },
+    Shown {
+        octets: "040491101000C00010100000000002E834",
+        lines: "length: 2\ntext: hi\n",
+    },
+    Shown {
+        octets: "040491101000DF0010100000000002E834",
+        lines: "length: 2\ntext: hi\n",
+    },
+    Shown {
+        octets: "040491101000F30010100000000002E834",
+        lines: "length: 2\ntext: hi\n",
+    },
+    Shown {
+        octets: "0404911010000400101000000000030041FF",
+        lines: "length: 3\ndata: 0041FF\n",
+    },
+    Shown {
+        octets: "0404911010001400101000000000030041FF",
+        lines: "length: 3\ndata: 0041FF\n",
+    },
+    Shown {
+        octets: "0404911010004400101000000000030041FF",
+        lines: "length: 3\ndata: 0041FF\n",
+    },
+    Shown {
+        octets: "040491101000F400101000000000030041FF",
+        lines: "length: 3\ndata: 0041FF\n",
+    },
+    Shown {
+        octets: "040491101000FF00101000000000030041FF",
+        lines: "length: 3\ndata: 0041FF\n",
+    },
+    Shown {
+        octets: "0404911010002000101000000000030041FF",
+        lines: "length: 3\ndata: 0041FF\n",
+    },
+    Shown {
+        octets: "0404911010003F00101000000000030041FF",
+        lines: "length: 3\ndata: 0041FF\n",
+    },
+    Shown {
+        octets: "0404911010006C00101000000000030041FF",
+        lines: "length: 3\ndata: 0041FF\n",
+    },
+    Shown {
+        octets: "0404911010000800101000000000030041FF",
+        lines: "length: 3\ntext: A\n",
+    },
+    Shown {
+        octets: "040491101000E000101000000000030041FF",
+        lines: "length: 3\ntext: A\n",
+    },
+    Shown {
+        octets: "040491101000000010221000000000",
+        lines: "stamp: 2000-01-22 01:00:00 +00:00\n",
+    },
+    Shown {
+        octets: "040491101000000010100000000000",
+        lines: "stamp: 2000-01-01 00:00:00 +00:00\n",
+    },
+    Shown {
+        octets: "04049110100000A010100000000000",
+        lines: "stamp: raw A0101000000000\n",
+    },
+    Shown {
+        octets: "040491101000000000100000000000",
+        lines: "stamp: raw 00001000000000\n",
+    },
+    Shown {
+        octets: "040491101000000031100000000000",
+        lines: "stamp: raw 00311000000000\n",
+    },
+    Shown {
+        octets: "040491101000000010000000000000",
+        lines: "stamp: raw 00100000000000\n",
+    },
+    Shown {
+        octets: "040491101000001020920000000000",
+        lines: "stamp: raw 10209200000000\n",
+    },
+    Shown {
+        octets: "040491101000000020920000000000",
+        lines: "stamp: 2000-02-29 00:00:00 +00:00\n",
+    },
+    Shown {
+        octets: "040491101000000040130000000000",
+        lines: "stamp: raw 00401300000000\n",
+    },
+    Shown {
+        octets: "040491101000000010104200000000",
+        lines: "stamp: raw 00101042000000\n",
+    },
+    Shown {
+        octets: "040491101000000010103295950000",
+        lines: "stamp: 2000-01-01 23:59:59 +00:00\n",
+    },
+    Shown {
+        octets: "040491101000000010100006000000",
+        lines: "stamp: raw 00101000060000\n",
+    },
+    Shown {
+        octets: "040491101000000010100000060000",
+        lines: "stamp: raw 00101000000600\n",
+    },
+    Shown {
+        octets: "040491101000000010100000008000",
+        lines: "stamp: 2000-01-01 00:00:00 +02:00\n",
+    },
+    Shown {
+        octets: "040491101000000010100000002B00",
+        lines: "stamp: 2000-01-01 00:00:00 -08:00\n",
+    },
+    Shown {
+        octets: "040491101000000010100000000800",
+        lines: "stamp: 2000-01-01 00:00:00 +00:00\n",
+    },
+    Shown {
+        octets: "040491101000000010100000009700",
+        lines: "stamp: 2000-01-01 00:00:00 +19:45\n",
+    },
+    Shown {
+        octets: "040491101000000010100000009F00",
+        lines: "stamp: 2000-01-01 00:00:00 -19:45\n",
+    },
+    Shown {
+        octets: "04049110100000001010000000A000",
+        lines: "stamp: raw 001010000000A0\n",
+    },
+    Shown {
+        octets: "040491101000009930925161953200",
+        lines: "stamp: 2099-03-29 15:16:59 +05:45\n",
+    },
+    Shown {
+        octets: "040481012000000010100000000000",
+        lines: "from: 1002\nnumber: 0 1\n",
+    },
+    Shown {
+        octets: "040491012000000010100000000000",
+        lines: "from: +1002\nnumber: 1 1\n",
+    },
+    Shown {
+        octets: "0405A82143F500000010100000000000",
+        lines: "from: 12345\nnumber: 2 8\n",
+    },
+    Shown {
+        octets: "0402B9BA00000010100000000000",
+        lines: "from: *#\nnumber: 3 9\n",
+    },
+    Shown {
+        octets: "040BC87238880900F100000010100000000000",
+        lines: "from: 27838890001\nnumber: 4 8\n",
+    },
+    Shown {
+        octets: "0403E0DCFE00000010100000000000",
+        lines: "from: abc\nnumber: 6 0\n",
+    },
+    Shown {
+        octets: "0400FF00000010100000000000",
+        lines: "from: \nnumber: 7 15\n",
+    },
+    Shown {
+        octets: "04009000000010100000000000",
+        lines: "from: +\nnumber: 1 0\n",
+    },
+    Shown {
+        octets: "0414911032547698103254769800000010100000000000",
+        lines: "from: +01234567890123456789\nnumber: 1 1\n",
+    },
+    Shown {
+        octets: "000491101000000010100000000000",
+        lines: "more: yes\nloop: no\nreport: no\nreply: no\n",
+    },
+    Shown {
+        octets: "040491101000000010100000000000",
+        lines: "more: no\nloop: no\nreport: no\nreply: no\n",
+    },
+    Shown {
+        octets: "0C0491101000000010100000000000",
+        lines: "more: no\nloop: yes\nreport: no\nreply: no\n",
+    },
+    Shown {
+        octets: "240491101000000010100000000000",
+        lines: "more: no\nloop: no\nreport: yes\nreply: no\n",
+    },
+    Shown {
+        octets: "840491101000000010100000000000",
+        lines: "more: no\nloop: no\nreport: no\nreply: yes\n",
+    },
+    Shown {
+        octets: "BC0491101000000010100000000000",
+        lines: "more: no\nloop: yes\nreport: yes\nreply: yes\n",
+    },
+    Shown {
+        octets: "0404911010000000101000000000029B17",
+        lines: "length: 2\ntext: \\\\\n",
+    },
+    Shown {
+        octets: "0404911010000000101000000000010A",
+        lines: "length: 1\ntext: \\n\n",
+    },
+    Shown {
+        octets: "0404911010000000101000000000010D",
+        lines: "length: 1\ntext: \\r\n",
+    },
 ];
 
 /// More deliveries, and lines of the answer.
-pub static MORE_DELIVERIES: [(&str, &str); 57] = [
-    (
-        "0404911010000000101000000000021B05",
-        "length: 2\ntext: \\f\n",
-    ),
-    (
-        "0404911010000000101000000000131BDE06B5296F521BDF86B2E96D80001013",
-        "length: 19\ntext: [{€}]^~|@ L\n",
-    ),
-    (
-        "0404911010000000101000000000039B971B",
-        "length: 3\ntext: \\\\n\n",
-    ),
-    ("0404911010000000101000000000011B", "length: 1\ntext:  \n"),
-    (
-        "0404911010000000101000000000039B4D10",
-        "length: 3\ntext:  A\n",
-    ),
-    ("0404911010000000101000000000029B20", "length: 2\ntext: A\n"),
-    (
-        "040491101000000010100000000002E83400",
-        "length: 2\ntext: hi\nrest: 1\n",
-    ),
-    (
-        "040491101000000010100000000000FFFFFF",
-        "length: 0\ntext: \nrest: 3\n",
-    ),
-    (
-        "040491101000000010100000000002e834",
-        "length: 2\ntext: hi\n",
-    ),
-    ("040491101000040010100000000000", "length: 0\ndata: -\n"),
-    ("0404911010000800101000000000020436", "length: 2\ntext: ж\n"),
-    (
-        "040491101000080010100000000004D83DDE00",
-        "length: 4\ntext: 😀\n",
-    ),
-    (
-        "040491101000080010100000000002D83D",
-        "length: 2\ntext: \u{fffd}\n",
-    ),
-    (
-        "040491101000080010100000000002DE00",
-        "length: 2\ntext: \u{fffd}\n",
-    ),
-    (
-        "040491101000080010100000000004D83D0041",
-        "length: 4\ntext: \u{fffd}A\n",
-    ),
-    (
-        "040491101000080010100000000004DE00D83D",
-        "length: 4\ntext: \u{fffd}\u{fffd}\n",
-    ),
-    (
-        "040491101000080010100000000006D83DD83DDE00",
-        "length: 6\ntext: \u{fffd}😀\n",
-    ),
-    ("0404911010000800101000000000020040", "length: 2\ntext: @\n"),
-    (
-        "04049110100008001010000000000E0000001F007F005C000A000D000C",
-        "length: 14\ntext: \\x00\\x1f\\x7f\\\\\\n\\r\\f\n",
-    ),
-    (
-        "0404911010000800101000000000030041FF",
-        "length: 3\ntext: A\n",
-    ),
-    (
-        "040491101000080010100000000004FFFEFFFF",
-        "length: 4\ntext: \u{fffe}\u{ffff}\n",
-    ),
-    (
-        "44049110100000001010000000000A06080401020201E834",
-        "length: 10\nheader: 080401020201\nconcat: 16 258 2 1\ntext: hi\n",
-    ),
-    (
-        "4404911010000000101000000000100B00030A0201080401020202A0D3",
-        "length: 16\nheader: 00030A0201080401020202\nconcat: 16 258 2 2\ntext: hi\n",
-    ),
-    (
-        "4404911010000000101000000000090500030A0203D069",
-        "length: 9\nheader: 00030A0203\ntext: hi\n",
-    ),
-    (
-        "4404911010000000101000000000080400030A02A0D3",
-        "length: 8\nheader: 00030A02\ntext: hi\n",
-    ),
-    ("4404911010000000101000000000020000", "length: 2\ntext: \n"),
-    (
-        "4404911010000000101000000000090500030A0201D069",
-        "length: 9\nheader: 00030A0201\nconcat: 8 10 2 1\ntext: hi\n",
-    ),
-    (
-        "4404911010000000101000000000090500030A0202D069",
-        "length: 9\nheader: 00030A0202\nconcat: 8 10 2 2\ntext: hi\n",
-    ),
-    (
-        "4404911010000000101000000000090500030A0200D069",
-        "length: 9\nheader: 00030A0200\ntext: hi\n",
-    ),
-    (
-        "4404911010000000101000000000090500030A0000D069",
-        "length: 9\nheader: 00030A0000\ntext: hi\n",
-    ),
-    (
-        "4404911010000000101000000000090500030A0102D069",
-        "length: 9\nheader: 00030A0102\ntext: hi\n",
-    ),
-    (
-        "440491101000000010100000000009050003FF0101D069",
-        "length: 9\nheader: 0003FF0101\nconcat: 8 255 1 1\ntext: hi\n",
-    ),
-    (
-        "44049110100000001010000000000A060804FFFF0101E834",
-        "length: 10\nheader: 0804FFFF0101\nconcat: 16 65535 1 1\ntext: hi\n",
-    ),
-    (
-        "44049110100000001010000000000A0608040000FFFFE834",
-        "length: 10\nheader: 08040000FFFF\nconcat: 16 0 255 255\ntext: hi\n",
-    ),
-    (
-        "4404911010000000101000000000100B0003010201080401020202A0D3",
-        "length: 16\nheader: 0003010201080401020202\nconcat: 16 258 2 2\ntext: hi\n",
-    ),
-    (
-        "4404911010000000101000000000100B0804010202010003010202A0D3",
-        "length: 16\nheader: 0804010202010003010202\nconcat: 8 1 2 2\ntext: hi\n",
-    ),
-    (
-        "4404911010000000101000000000100B7000000301020170020000A0D3",
-        "length: 16\nheader: 7000000301020170020000\nconcat: 8 1 2 1\ntext: hi\n",
-    ),
-    (
-        "44049110100000001010000000000C0700030102017000003A0D",
-        "length: 12\nheader: 00030102017000\nconcat: 8 1 2 1\ntext: hi\n",
-    ),
-    (
-        "4404911010000000101000000000080400020102A0D3",
-        "length: 8\nheader: 00020102\ntext: hi\n",
-    ),
-    (
-        "4404911010000000101000000000100B00040102030400030A0201A0D3",
-        "length: 16\nheader: 00040102030400030A0201\nconcat: 8 10 2 1\ntext: hi\n",
-    ),
-    (
-        "4404911010000000101000000000110C080301020308040102020200D069",
-        "length: 17\nheader: 080301020308040102020200\ntext: hi\n",
-    ),
-    (
-        "44049110100000001010000000000D082400000301020125009D06",
-        "length: 13\nheader: 2400000301020125\ntext: hi\n",
-    ),
-    (
-        "44049110100000001010000000000A060003010201F0E834",
-        "length: 10\nheader: 0003010201F0\ntext: hi\n",
-    ),
-    (
-        "4404911010000000101000000000050170009D06",
-        "length: 5\nheader: 70\ntext: hi\n",
-    ),
-    (
-        "440491101000000010100000000006027000804E03",
-        "length: 6\nheader: 7000\ntext: hi\n",
-    ),
-    (
-        "4404911010000400101000000000080500030A020100FF",
-        "length: 8\nheader: 00030A0201\nconcat: 8 10 2 1\ndata: 00FF\n",
-    ),
-    (
-        "4404911010000800101000000000080500030A02010436",
-        "length: 8\nheader: 00030A0201\nconcat: 8 10 2 1\ntext: ж\n",
-    ),
-    (
-        "4404911010000800101000000000090500030A020104360077",
-        "length: 9\nheader: 00030A0201\nconcat: 8 10 2 1\ntext: ж\nrest: 1\n",
-    ),
-    ("0400D000000010100000000000", "from: \nnumber: 5 0\n"),
-    ("0402D04100000010100000000000", "from: A\nnumber: 5 0\n"),
-    (
-        "040DD0E8329BFD46970100000010100000000000",
-        "from: hellohe\nnumber: 5 0\n",
-    ),
-    (
-        "0409D0E1CD4BD10000000010100000000000",
-        "from: a\\\\\\n\\r\nnumber: 5 0\n",
-    ),
-    (
-        "040ED01BC5A6BCE16D7C00000010100000000000",
-        "from: \\f€[]\nnumber: 5 0\n",
-    ),
-    (
-        "0414D041E19058341E9149E51200000010100000000000",
-        "from: ABCDEFGHIJK\nnumber: 5 0\n",
-    ),
-    (
-        "040ED0E8329BFD46970100000010100000000000",
-        "from: hellohe@\nnumber: 5 0\n",
-    ),
-    ("0401D1FF00000010100000000000", "from: \nnumber: 5 1\n"),
-    (
-        "0414D0FFFFFFFFFFFFFFFFFFFF00000010100000000000",
-        "from: ààààààààààà\nnumber: 5 0\n",
-    ),
+pub static MORE_DELIVERIES: [Shown; 57] = [
+    Shown {
+        octets: "0404911010000000101000000000021B05",
+        lines: "length: 2\ntext: \\f\n",
+    },
+    Shown {
+        octets: "0404911010000000101000000000131BDE06B5296F521BDF86B2E96D80001013",
+        lines: "length: 19\ntext: [{€}]^~|@ L\n",
+    },
+    Shown {
+        octets: "0404911010000000101000000000039B971B",
+        lines: "length: 3\ntext: \\\\n\n",
+    },
+    Shown {
+        octets: "0404911010000000101000000000011B",
+        lines: "length: 1\ntext:  \n",
+    },
+    Shown {
+        octets: "0404911010000000101000000000039B4D10",
+        lines: "length: 3\ntext:  A\n",
+    },
+    Shown {
+        octets: "0404911010000000101000000000029B20",
+        lines: "length: 2\ntext: A\n",
+    },
+    Shown {
+        octets: "040491101000000010100000000002E83400",
+        lines: "length: 2\ntext: hi\nrest: 1\n",
+    },
+    Shown {
+        octets: "040491101000000010100000000000FFFFFF",
+        lines: "length: 0\ntext: \nrest: 3\n",
+    },
+    Shown {
+        octets: "040491101000000010100000000002e834",
+        lines: "length: 2\ntext: hi\n",
+    },
+    Shown {
+        octets: "040491101000040010100000000000",
+        lines: "length: 0\ndata: -\n",
+    },
+    Shown {
+        octets: "0404911010000800101000000000020436",
+        lines: "length: 2\ntext: ж\n",
+    },
+    Shown {
+        octets: "040491101000080010100000000004D83DDE00",
+        lines: "length: 4\ntext: 😀\n",
+    },
+    Shown {
+        octets: "040491101000080010100000000002D83D",
+        lines: "length: 2\ntext: \u{fffd}\n",
+    },
+    Shown {
+        octets: "040491101000080010100000000002DE00",
+        lines: "length: 2\ntext: \u{fffd}\n",
+    },
+    Shown {
+        octets: "040491101000080010100000000004D83D0041",
+        lines: "length: 4\ntext: \u{fffd}A\n",
+    },
+    Shown {
+        octets: "040491101000080010100000000004DE00D83D",
+        lines: "length: 4\ntext: \u{fffd}\u{fffd}\n",
+    },
+    Shown {
+        octets: "040491101000080010100000000006D83DD83DDE00",
+        lines: "length: 6\ntext: \u{fffd}😀\n",
+    },
+    Shown {
+        octets: "0404911010000800101000000000020040",
+        lines: "length: 2\ntext: @\n",
+    },
+    Shown {
+        octets: "04049110100008001010000000000E0000001F007F005C000A000D000C",
+        lines: "length: 14\ntext: \\x00\\x1f\\x7f\\\\\\n\\r\\f\n",
+    },
+    Shown {
+        octets: "0404911010000800101000000000030041FF",
+        lines: "length: 3\ntext: A\n",
+    },
+    Shown {
+        octets: "040491101000080010100000000004FFFEFFFF",
+        lines: "length: 4\ntext: \u{fffe}\u{ffff}\n",
+    },
+    Shown {
+        octets: "44049110100000001010000000000A06080401020201E834",
+        lines: "length: 10\nheader: 080401020201\nconcat: 16 258 2 1\ntext: hi\n",
+    },
+    Shown {
+        octets: "4404911010000000101000000000100B00030A0201080401020202A0D3",
+        lines: "length: 16\nheader: 00030A0201080401020202\nconcat: 16 258 2 2\ntext: hi\n",
+    },
+    Shown {
+        octets: "4404911010000000101000000000090500030A0203D069",
+        lines: "length: 9\nheader: 00030A0203\ntext: hi\n",
+    },
+    Shown {
+        octets: "4404911010000000101000000000080400030A02A0D3",
+        lines: "length: 8\nheader: 00030A02\ntext: hi\n",
+    },
+    Shown {
+        octets: "4404911010000000101000000000020000",
+        lines: "length: 2\ntext: \n",
+    },
+    Shown {
+        octets: "4404911010000000101000000000090500030A0201D069",
+        lines: "length: 9\nheader: 00030A0201\nconcat: 8 10 2 1\ntext: hi\n",
+    },
+    Shown {
+        octets: "4404911010000000101000000000090500030A0202D069",
+        lines: "length: 9\nheader: 00030A0202\nconcat: 8 10 2 2\ntext: hi\n",
+    },
+    Shown {
+        octets: "4404911010000000101000000000090500030A0200D069",
+        lines: "length: 9\nheader: 00030A0200\ntext: hi\n",
+    },
+    Shown {
+        octets: "4404911010000000101000000000090500030A0000D069",
+        lines: "length: 9\nheader: 00030A0000\ntext: hi\n",
+    },
+    Shown {
+        octets: "4404911010000000101000000000090500030A0102D069",
+        lines: "length: 9\nheader: 00030A0102\ntext: hi\n",
+    },
+    Shown {
+        octets: "440491101000000010100000000009050003FF0101D069",
+        lines: "length: 9\nheader: 0003FF0101\nconcat: 8 255 1 1\ntext: hi\n",
+    },
+    Shown {
+        octets: "44049110100000001010000000000A060804FFFF0101E834",
+        lines: "length: 10\nheader: 0804FFFF0101\nconcat: 16 65535 1 1\ntext: hi\n",
+    },
+    Shown {
+        octets: "44049110100000001010000000000A0608040000FFFFE834",
+        lines: "length: 10\nheader: 08040000FFFF\nconcat: 16 0 255 255\ntext: hi\n",
+    },
+    Shown {
+        octets: "4404911010000000101000000000100B0003010201080401020202A0D3",
+        lines: "length: 16\nheader: 0003010201080401020202\nconcat: 16 258 2 2\ntext: hi\n",
+    },
+    Shown {
+        octets: "4404911010000000101000000000100B0804010202010003010202A0D3",
+        lines: "length: 16\nheader: 0804010202010003010202\nconcat: 8 1 2 2\ntext: hi\n",
+    },
+    Shown {
+        octets: "4404911010000000101000000000100B7000000301020170020000A0D3",
+        lines: "length: 16\nheader: 7000000301020170020000\nconcat: 8 1 2 1\ntext: hi\n",
+    },
+    Shown {
+        octets: "44049110100000001010000000000C0700030102017000003A0D",
+        lines: "length: 12\nheader: 00030102017000\nconcat: 8 1 2 1\ntext: hi\n",
+    },
+    Shown {
+        octets: "4404911010000000101000000000080400020102A0D3",
+        lines: "length: 8\nheader: 00020102\ntext: hi\n",
+    },
+    Shown {
+        octets: "4404911010000000101000000000100B00040102030400030A0201A0D3",
+        lines: "length: 16\nheader: 00040102030400030A0201\nconcat: 8 10 2 1\ntext: hi\n",
+    },
+    Shown {
+        octets: "4404911010000000101000000000110C080301020308040102020200D069",
+        lines: "length: 17\nheader: 080301020308040102020200\ntext: hi\n",
+    },
+    Shown {
+        octets: "44049110100000001010000000000D082400000301020125009D06",
+        lines: "length: 13\nheader: 2400000301020125\ntext: hi\n",
+    },
+    Shown {
+        octets: "44049110100000001010000000000A060003010201F0E834",
+        lines: "length: 10\nheader: 0003010201F0\ntext: hi\n",
+    },
+    Shown {
+        octets: "4404911010000000101000000000050170009D06",
+        lines: "length: 5\nheader: 70\ntext: hi\n",
+    },
+    Shown {
+        octets: "440491101000000010100000000006027000804E03",
+        lines: "length: 6\nheader: 7000\ntext: hi\n",
+    },
+    Shown {
+        octets: "4404911010000400101000000000080500030A020100FF",
+        lines: "length: 8\nheader: 00030A0201\nconcat: 8 10 2 1\ndata: 00FF\n",
+    },
+    Shown {
+        octets: "4404911010000800101000000000080500030A02010436",
+        lines: "length: 8\nheader: 00030A0201\nconcat: 8 10 2 1\ntext: ж\n",
+    },
+    Shown {
+        octets: "4404911010000800101000000000090500030A020104360077",
+        lines: "length: 9\nheader: 00030A0201\nconcat: 8 10 2 1\ntext: ж\nrest: 1\n",
+    },
+    Shown {
+        octets: "0400D000000010100000000000",
+        lines: "from: \nnumber: 5 0\n",
+    },
+    Shown {
+        octets: "0402D04100000010100000000000",
+        lines: "from: A\nnumber: 5 0\n",
+    },
+    Shown {
+        octets: "040DD0E8329BFD46970100000010100000000000",
+        lines: "from: hellohe\nnumber: 5 0\n",
+    },
+    Shown {
+        octets: "0409D0E1CD4BD10000000010100000000000",
+        lines: "from: a\\\\\\n\\r\nnumber: 5 0\n",
+    },
+    Shown {
+        octets: "040ED01BC5A6BCE16D7C00000010100000000000",
+        lines: "from: \\f€[]\nnumber: 5 0\n",
+    },
+    Shown {
+        octets: "0414D041E19058341E9149E51200000010100000000000",
+        lines: "from: ABCDEFGHIJK\nnumber: 5 0\n",
+    },
+    Shown {
+        octets: "040ED0E8329BFD46970100000010100000000000",
+        lines: "from: hellohe@\nnumber: 5 0\n",
+    },
+    Shown {
+        octets: "0401D1FF00000010100000000000",
+        lines: "from: \nnumber: 5 1\n",
+    },
+    Shown {
+        octets: "0414D0FFFFFFFFFFFFFFFFFFFF00000010100000000000",
+        lines: "from: ààààààààààà\nnumber: 5 0\n",
+    },
 ];
 
 /// Submissions, and lines of the answer.
-pub static SUBMISSIONS: [(&str, &str); 27] = [
-    (
-        "11000B916407281553F80000AA0AE8329BFD4697D9EC37",
-        "type: submit\nreject: no\nreport: no\nreply: no\nreference: 00\nto: +46708251358\nnumber: 1 1\npid: 00\ndcs: 00\nvalidity: relative 170 345600\nlength: 10\ntext: hellohello\n",
-    ),
-    (
-        "017F04910120000000",
-        "type: submit\nreject: no\nreport: no\nreply: no\nreference: 7F\n",
-    ),
-    (
-        "057F04910120000000",
-        "type: submit\nreject: yes\nreport: no\nreply: no\nreference: 7F\n",
-    ),
-    (
-        "217F04910120000000",
-        "type: submit\nreject: no\nreport: yes\nreply: no\nreference: 7F\n",
-    ),
-    (
-        "817F04910120000000",
-        "type: submit\nreject: no\nreport: no\nreply: yes\nreference: 7F\n",
-    ),
-    (
-        "A57F04910120000000",
-        "type: submit\nreject: yes\nreport: yes\nreply: yes\nreference: 7F\n",
-    ),
-    (
-        "01FF04910120000000",
-        "type: submit\nreject: no\nreport: no\nreply: no\nreference: FF\n",
-    ),
-    ("010004910120000000", "dcs: 00\nvalidity: none\n"),
-    (
-        "11000491012000000000",
-        "dcs: 00\nvalidity: relative 0 300\n",
-    ),
-    (
-        "11000491012000008F00",
-        "dcs: 00\nvalidity: relative 143 43200\n",
-    ),
-    (
-        "11000491012000009000",
-        "dcs: 00\nvalidity: relative 144 45000\n",
-    ),
-    (
-        "1100049101200000A700",
-        "dcs: 00\nvalidity: relative 167 86400\n",
-    ),
-    (
-        "1100049101200000A800",
-        "dcs: 00\nvalidity: relative 168 172800\n",
-    ),
-    (
-        "1100049101200000C400",
-        "dcs: 00\nvalidity: relative 196 2592000\n",
-    ),
-    (
-        "1100049101200000C500",
-        "dcs: 00\nvalidity: relative 197 3024000\n",
-    ),
-    (
-        "1100049101200000FF00",
-        "dcs: 00\nvalidity: relative 255 38102400\n",
-    ),
-    (
-        "09000491012000000102030405060700",
-        "dcs: 00\nvalidity: enhanced 01020304050607\n",
-    ),
-    (
-        "09000491012000000000000000000000",
-        "dcs: 00\nvalidity: enhanced 00000000000000\n",
-    ),
-    (
-        "19000491012000009930925161958000",
-        "dcs: 00\nvalidity: absolute 2099-03-29 15:16:59 +02:00\n",
-    ),
-    (
-        "19000491012000000000000000000000",
-        "dcs: 00\nvalidity: absolute raw 00000000000000\n",
-    ),
-    ("010004810120000000", "to: 1002\nnumber: 0 1\n"),
-    ("01000091000000", "to: +\nnumber: 1 1\n"),
-    ("010005A8BADCFE000000", "to: *#abc\nnumber: 2 8\n"),
-    (
-        "010014FF10325476981032547698000000",
-        "to: 01234567890123456789\nnumber: 7 15\n",
-    ),
-    ("01000491012000040200FF", "length: 2\ndata: 00FF\n"),
-    (
-        "010004910120000002E8340102",
-        "length: 2\ntext: hi\nrest: 2\n",
-    ),
-    ("0100049101200000038ACD0B", "length: 3\ntext: \\n\\\\\n"),
+pub static SUBMISSIONS: [Shown; 27] = [
+    Shown {
+        octets: "11000B916407281553F80000AA0AE8329BFD4697D9EC37",
+        lines: "type: submit\nreject: no\nreport: no\nreply: no\nreference: 00\nto: +46708251358\nnumber: 1 1\npid: 00\ndcs: 00\nvalidity: relative 170 345600\nlength: 10\ntext: hellohello\n",
+    },
+    Shown {
+        octets: "017F04910120000000",
+        lines: "type: submit\nreject: no\nreport: no\nreply: no\nreference: 7F\n",
+    },
+    Shown {
+        octets: "057F04910120000000",
+        lines: "type: submit\nreject: yes\nreport: no\nreply: no\nreference: 7F\n",
+    },
+    Shown {
+        octets: "217F04910120000000",
+        lines: "type: submit\nreject: no\nreport: yes\nreply: no\nreference: 7F\n",
+    },
+    Shown {
+        octets: "817F04910120000000",
+        lines: "type: submit\nreject: no\nreport: no\nreply: yes\nreference: 7F\n",
+    },
+    Shown {
+        octets: "A57F04910120000000",
+        lines: "type: submit\nreject: yes\nreport: yes\nreply: yes\nreference: 7F\n",
+    },
+    Shown {
+        octets: "01FF04910120000000",
+        lines: "type: submit\nreject: no\nreport: no\nreply: no\nreference: FF\n",
+    },
+    Shown {
+        octets: "010004910120000000",
+        lines: "dcs: 00\nvalidity: none\n",
+    },
+    Shown {
+        octets: "11000491012000000000",
+        lines: "dcs: 00\nvalidity: relative 0 300\n",
+    },
+    Shown {
+        octets: "11000491012000008F00",
+        lines: "dcs: 00\nvalidity: relative 143 43200\n",
+    },
+    Shown {
+        octets: "11000491012000009000",
+        lines: "dcs: 00\nvalidity: relative 144 45000\n",
+    },
+    Shown {
+        octets: "1100049101200000A700",
+        lines: "dcs: 00\nvalidity: relative 167 86400\n",
+    },
+    Shown {
+        octets: "1100049101200000A800",
+        lines: "dcs: 00\nvalidity: relative 168 172800\n",
+    },
+    Shown {
+        octets: "1100049101200000C400",
+        lines: "dcs: 00\nvalidity: relative 196 2592000\n",
+    },
+    Shown {
+        octets: "1100049101200000C500",
+        lines: "dcs: 00\nvalidity: relative 197 3024000\n",
+    },
+    Shown {
+        octets: "1100049101200000FF00",
+        lines: "dcs: 00\nvalidity: relative 255 38102400\n",
+    },
+    Shown {
+        octets: "09000491012000000102030405060700",
+        lines: "dcs: 00\nvalidity: enhanced 01020304050607\n",
+    },
+    Shown {
+        octets: "09000491012000000000000000000000",
+        lines: "dcs: 00\nvalidity: enhanced 00000000000000\n",
+    },
+    Shown {
+        octets: "19000491012000009930925161958000",
+        lines: "dcs: 00\nvalidity: absolute 2099-03-29 15:16:59 +02:00\n",
+    },
+    Shown {
+        octets: "19000491012000000000000000000000",
+        lines: "dcs: 00\nvalidity: absolute raw 00000000000000\n",
+    },
+    Shown {
+        octets: "010004810120000000",
+        lines: "to: 1002\nnumber: 0 1\n",
+    },
+    Shown {
+        octets: "01000091000000",
+        lines: "to: +\nnumber: 1 1\n",
+    },
+    Shown {
+        octets: "010005A8BADCFE000000",
+        lines: "to: *#abc\nnumber: 2 8\n",
+    },
+    Shown {
+        octets: "010014FF10325476981032547698000000",
+        lines: "to: 01234567890123456789\nnumber: 7 15\n",
+    },
+    Shown {
+        octets: "01000491012000040200FF",
+        lines: "length: 2\ndata: 00FF\n",
+    },
+    Shown {
+        octets: "010004910120000002E8340102",
+        lines: "length: 2\ntext: hi\nrest: 2\n",
+    },
+    Shown {
+        octets: "0100049101200000038ACD0B",
+        lines: "length: 3\ntext: \\n\\\\\n",
+    },
 ];
 
 /// Octets that are no delivery, and the answer.
@@ -618,16 +714,16 @@ pub static EXPLAINED: [(&[&str], u8, &str); 34] = [
         "[possible values: deliver, submit, submit-ack, submit-error, deliver-ack, deliver-error, rp, cp]",
     ),
     (&["sms", "encode", "--help"], 0, "--stamp <HEX>"),
-    (&["sms", "--version"], 2, "'--version'"),
+    (&["sms", "--version"], 0, "sms 0.1\n"),
     (&["sms", "read", "deliver", "00"], 2, "'read'"),
     (&["sms", "split", "--help"], 0, "--ref <N>"),
     (&["sms", "split"], 2, "<TEXT>"),
     (&["sms", "split", "a", "b"], 2, "'b'"),
     (&["sms", "split", "-5"], 2, "'-5'"),
     (
-        &["sms", "split", "a", "--ref", "256"],
+        &["sms", "split", "a", "--ref", "65536"],
         2,
-        "256 is not in 0..=255",
+        "65536 is not in 0..=65535",
     ),
     (&["sms", "split", "a", "--ref", "x"], 2, "'x'"),
     (
@@ -704,502 +800,757 @@ pub static EXPLAINED: [(&[&str], u8, &str); 34] = [
 ];
 
 /// Kinds of unit, options, addresses and texts, and the octets.
-pub static UNITS: [(&str, &[&str], &str, &str, &str); 73] = [
-    (
-        "submit",
-        &["--validity", "170"],
-        "+46708251358",
-        "hellohello",
-        "11000B916407281553F80000AA0AE8329BFD4697D9EC37",
-    ),
-    ("submit", &[], "+1002", "€", "0100049101200000029B32"),
-    (
-        "submit",
-        &["--mr", "255", "--rd"],
-        "1002",
-        "a",
-        "05FF0481012000000161",
-    ),
-    ("submit", &[], "+123", "@", "0100039121F300000100"),
-    ("submit", &[], "", "", "01000081000000"),
-    ("submit", &[], "+", "a", "0100009100000161"),
-    ("submit", &[], "0", "a", "01000181F000000161"),
-    ("submit", &[], "*#abc", "a", "01000581BADCFE00000161"),
-    ("submit", &[], "+*#abc", "a", "01000591BADCFE00000161"),
-    (
-        "submit",
-        &[],
-        "01234567890123456789",
-        "a",
-        "010014811032547698103254769800000161",
-    ),
-    (
-        "submit",
-        &[],
-        "+01234567890123456789",
-        "a",
-        "010014911032547698103254769800000161",
-    ),
-    (
-        "submit",
-        &[],
-        "1",
-        "1111111",
-        "01000181F1000007B1582C168BC500",
-    ),
-    (
-        "submit",
-        &[],
-        "1",
-        "11111111",
-        "01000181F1000008B1582C168BC562",
-    ),
-    (
-        "submit",
-        &[],
-        "1",
-        "111111111",
-        "01000181F1000009B1582C168BC56231",
-    ),
-    (
-        "submit",
-        &[],
-        "1",
-        "^{}\\[~]|€",
-        "01000181F10000121BCA06B5496D5E1BDEA6B7F16D809B32",
-    ),
-    ("submit", &[], "1", "\n\r\u{c}", "01000181F10000048AC64601"),
-    (
-        "submit",
-        &[],
-        "1",
-        "@£$¥èéùìòÇØøÅå",
-        "01000181F100000E8080604028180E88C482E17800",
-    ),
-    (
-        "submit",
-        &[],
-        "1",
-        "Δ_ΦΓΛΩΠΨΣΘΞ",
-        "01000181F100000B90886442A9582E988C06",
-    ),
-    (
-        "submit",
-        &[],
-        "1",
-        "ÆæßÉ ¤¡ÄÖÑÜ§¿äöñüà",
-        "01000181F10000129C8EE7032201B7DCAEF70BDEF3FBFE3F",
-    ),
-    ("submit", &["--mr", "0"], "1", "a", "01000181F100000161"),
-    (
-        "submit",
-        &["--validity", "0"],
-        "1",
-        "a",
-        "11000181F10000000161",
-    ),
-    (
-        "submit",
-        &["--validity", "255"],
-        "1",
-        "a",
-        "11000181F10000FF0161",
-    ),
-    (
-        "submit",
-        &["--rd", "--mr", "7", "--validity", "167"],
-        "1",
-        "a",
-        "15070181F10000A70161",
-    ),
-    ("submit", &[], "1", "-5", "01000181F1000002AD1A"),
-    ("submit", &[], "+1002", "ж", "0100049101200008020436"),
-    ("submit", &[], "1", "\u{1b}", "01000181F1000802001B"),
-    (
-        "submit",
-        &[],
-        "1",
-        "a`\0\u{7f}",
-        "01000181F1000808006100600000007F",
-    ),
-    ("submit", &[], "1", "😀a", "01000181F1000806D83DDE000061"),
-    (
-        "deliver",
-        &[],
-        "1",
-        "€ж\u{fffd}",
-        "040181F10008001010000000000620AC0436FFFD",
-    ),
-    (
-        "deliver",
-        &[],
-        "hellohe",
-        "hi",
-        "040DD0E8329BFD46970100000010100000000002E834",
-    ),
-    (
-        "deliver",
-        &[],
-        "27838890001",
-        "hellohello",
-        "040B817238880900F10000001010000000000AE8329BFD4697D9EC37",
-    ),
-    (
-        "deliver",
-        &[],
-        "+1002",
-        "€",
-        "0404910120000000101000000000029B32",
-    ),
-    ("deliver", &[], "", "", "04008100000010100000000000"),
-    (
-        "deliver",
-        &["--stamp", "99309251619580"],
-        "1",
-        "a",
-        "040181F10000993092516195800161",
-    ),
-    (
-        "deliver",
-        &["--stamp", "ffffffffffffff"],
-        "1",
-        "a",
-        "040181F10000FFFFFFFFFFFFFF0161",
-    ),
-    ("deliver", &[], "x", "a", "0402D0780000001010000000000161"),
-    (
-        "deliver",
-        &[],
-        "xx",
-        "a",
-        "0404D0783C0000001010000000000161",
-    ),
-    (
-        "deliver",
-        &[],
-        "xxx",
-        "a",
-        "0406D0783C1E0000001010000000000161",
-    ),
-    (
-        "deliver",
-        &[],
-        "xxxx",
-        "a",
-        "0407D0783C1E0F0000001010000000000161",
-    ),
-    (
-        "deliver",
-        &[],
-        "xxxxx",
-        "a",
-        "0409D0783C1E8F070000001010000000000161",
-    ),
-    (
-        "deliver",
-        &[],
-        "xxxxxx",
-        "a",
-        "040BD0783C1E8FC7030000001010000000000161",
-    ),
-    (
-        "deliver",
-        &[],
-        "xxxxxxx",
-        "a",
-        "040DD0783C1E8FC7E3010000001010000000000161",
-    ),
-    (
-        "deliver",
-        &[],
-        "xxxxxxxx",
-        "a",
-        "040ED0783C1E8FC7E3F10000001010000000000161",
-    ),
-    (
-        "deliver",
-        &[],
-        "xxxxxxxxx",
-        "a",
-        "0410D0783C1E8FC7E3F1780000001010000000000161",
-    ),
-    (
-        "deliver",
-        &[],
-        "xxxxxxxxxx",
-        "a",
-        "0412D0783C1E8FC7E3F1783C0000001010000000000161",
-    ),
-    (
-        "deliver",
-        &[],
-        "xxxxxxxxxxx",
-        "a",
-        "0414D0783C1E8FC7E3F1783C1E0000001010000000000161",
-    ),
-    ("submit", &[], "+", "a", "0100009100000161"),
-    ("deliver", &[], "+0", "a", "040191F00000001010000000000161"),
-    ("submit", &[], "+01", "a", "010002911000000161"),
-    (
-        "deliver",
-        &[],
-        "+012",
-        "a",
-        "04039110F20000001010000000000161",
-    ),
-    ("submit", &[], "+0123", "a", "01000491103200000161"),
-    (
-        "deliver",
-        &[],
-        "+01234",
-        "a",
-        "0405911032F40000001010000000000161",
-    ),
-    ("submit", &[], "+012345", "a", "0100069110325400000161"),
-    (
-        "deliver",
-        &[],
-        "+0123456",
-        "a",
-        "040791103254F60000001010000000000161",
-    ),
-    ("submit", &[], "+01234567", "a", "010008911032547600000161"),
-    (
-        "deliver",
-        &[],
-        "+012345678",
-        "a",
-        "04099110325476F80000001010000000000161",
-    ),
-    (
-        "submit",
-        &[],
-        "+0123456789",
-        "a",
-        "01000A91103254769800000161",
-    ),
-    (
-        "deliver",
-        &[],
-        "+01234567890",
-        "a",
-        "040B911032547698F00000001010000000000161",
-    ),
-    (
-        "submit",
-        &[],
-        "+012345678901",
-        "a",
-        "01000C9110325476981000000161",
-    ),
-    (
-        "deliver",
-        &[],
-        "+0123456789012",
-        "a",
-        "040D91103254769810F20000001010000000000161",
-    ),
-    (
-        "submit",
-        &[],
-        "+01234567890123",
-        "a",
-        "01000E911032547698103200000161",
-    ),
-    (
-        "deliver",
-        &[],
-        "+012345678901234",
-        "a",
-        "040F9110325476981032F40000001010000000000161",
-    ),
-    (
-        "submit",
-        &[],
-        "+0123456789012345",
-        "a",
-        "01001091103254769810325400000161",
-    ),
-    (
-        "deliver",
-        &[],
-        "+01234567890123456",
-        "a",
-        "0411911032547698103254F60000001010000000000161",
-    ),
-    (
-        "submit",
-        &[],
-        "+012345678901234567",
-        "a",
-        "0100129110325476981032547600000161",
-    ),
-    (
-        "deliver",
-        &[],
-        "+0123456789012345678",
-        "a",
-        "041391103254769810325476F80000001010000000000161",
-    ),
-    (
-        "submit",
-        &[],
-        "+01234567890123456789",
-        "a",
-        "010014911032547698103254769800000161",
-    ),
-    ("submit", &[], "12x", "a", "010006D031191E00000161"),
-    ("submit", &[], "ABC", "a", "010006D041E11000000161"),
-    (
-        "submit",
-        &[],
-        "A[\\]",
-        "a",
-        "01000DD0C10D6FF3DAF80000000161",
-    ),
-    (
-        "deliver",
-        &[],
-        "a\n\u{c}",
-        "a",
-        "0407D061C546010000001010000000000161",
-    ),
-    ("submit", &[], " ", "a", "010002D02000000161"),
-    ("submit", &[], "1+", "a", "010004D0B11500000161"),
+pub static UNITS: [Encoded; 73] = [
+    Encoded {
+        kind: "submit",
+        options: &["--validity", "170"],
+        address: "+46708251358",
+        text: "hellohello",
+        octets: "11000B916407281553F80000AA0AE8329BFD4697D9EC37",
+    },
+    Encoded {
+        kind: "submit",
+        options: &[],
+        address: "+1002",
+        text: "€",
+        octets: "0100049101200000029B32",
+    },
+    Encoded {
+        kind: "submit",
+        options: &["--mr", "255", "--rd"],
+        address: "1002",
+        text: "a",
+        octets: "05FF0481012000000161",
+    },
+    Encoded {
+        kind: "submit",
+        options: &[],
+        address: "+123",
+        text: "@",
+        octets: "0100039121F300000100",
+    },
+    Encoded {
+        kind: "submit",
+        options: &[],
+        address: "",
+        text: "",
+        octets: "01000081000000",
+    },
+    Encoded {
+        kind: "submit",
+        options: &[],
+        address: "+",
+        text: "a",
+        octets: "0100009100000161",
+    },
+    Encoded {
+        kind: "submit",
+        options: &[],
+        address: "0",
+        text: "a",
+        octets: "01000181F000000161",
+    },
+    Encoded {
+        kind: "submit",
+        options: &[],
+        address: "*#abc",
+        text: "a",
+        octets: "01000581BADCFE00000161",
+    },
+    Encoded {
+        kind: "submit",
+        options: &[],
+        address: "+*#abc",
+        text: "a",
+        octets: "01000591BADCFE00000161",
+    },
+    Encoded {
+        kind: "submit",
+        options: &[],
+        address: "01234567890123456789",
+        text: "a",
+        octets: "010014811032547698103254769800000161",
+    },
+    Encoded {
+        kind: "submit",
+        options: &[],
+        address: "+01234567890123456789",
+        text: "a",
+        octets: "010014911032547698103254769800000161",
+    },
+    Encoded {
+        kind: "submit",
+        options: &[],
+        address: "1",
+        text: "1111111",
+        octets: "01000181F1000007B1582C168BC500",
+    },
+    Encoded {
+        kind: "submit",
+        options: &[],
+        address: "1",
+        text: "11111111",
+        octets: "01000181F1000008B1582C168BC562",
+    },
+    Encoded {
+        kind: "submit",
+        options: &[],
+        address: "1",
+        text: "111111111",
+        octets: "01000181F1000009B1582C168BC56231",
+    },
+    Encoded {
+        kind: "submit",
+        options: &[],
+        address: "1",
+        text: "^{}\\[~]|€",
+        octets: "01000181F10000121BCA06B5496D5E1BDEA6B7F16D809B32",
+    },
+    Encoded {
+        kind: "submit",
+        options: &[],
+        address: "1",
+        text: "\n\r\u{c}",
+        octets: "01000181F10000048AC64601",
+    },
+    Encoded {
+        kind: "submit",
+        options: &[],
+        address: "1",
+        text: "@£$¥èéùìòÇØøÅå",
+        octets: "01000181F100000E8080604028180E88C482E17800",
+    },
+    Encoded {
+        kind: "submit",
+        options: &[],
+        address: "1",
+        text: "Δ_ΦΓΛΩΠΨΣΘΞ",
+        octets: "01000181F100000B90886442A9582E988C06",
+    },
+    Encoded {
+        kind: "submit",
+        options: &[],
+        address: "1",
+        text: "ÆæßÉ ¤¡ÄÖÑÜ§¿äöñüà",
+        octets: "01000181F10000129C8EE7032201B7DCAEF70BDEF3FBFE3F",
+    },
+    Encoded {
+        kind: "submit",
+        options: &["--mr", "0"],
+        address: "1",
+        text: "a",
+        octets: "01000181F100000161",
+    },
+    Encoded {
+        kind: "submit",
+        options: &["--validity", "0"],
+        address: "1",
+        text: "a",
+        octets: "11000181F10000000161",
+    },
+    Encoded {
+        kind: "submit",
+        options: &["--validity", "255"],
+        address: "1",
+        text: "a",
+        octets: "11000181F10000FF0161",
+    },
+    Encoded {
+        kind: "submit",
+        options: &["--rd", "--mr", "7", "--validity", "167"],
+        address: "1",
+        text: "a",
+        octets: "15070181F10000A70161",
+    },
+    Encoded {
+        kind: "submit",
+        options: &[],
+        address: "1",
+        text: "-5",
+        octets: "01000181F1000002AD1A",
+    },
+    Encoded {
+        kind: "submit",
+        options: &[],
+        address: "+1002",
+        text: "ж",
+        octets: "0100049101200008020436",
+    },
+    Encoded {
+        kind: "submit",
+        options: &[],
+        address: "1",
+        text: "\u{1b}",
+        octets: "01000181F1000802001B",
+    },
+    Encoded {
+        kind: "submit",
+        options: &[],
+        address: "1",
+        text: "a`\0\u{7f}",
+        octets: "01000181F1000808006100600000007F",
+    },
+    Encoded {
+        kind: "submit",
+        options: &[],
+        address: "1",
+        text: "😀a",
+        octets: "01000181F1000806D83DDE000061",
+    },
+    Encoded {
+        kind: "deliver",
+        options: &[],
+        address: "1",
+        text: "€ж\u{fffd}",
+        octets: "040181F10008001010000000000620AC0436FFFD",
+    },
+    Encoded {
+        kind: "deliver",
+        options: &[],
+        address: "hellohe",
+        text: "hi",
+        octets: "040DD0E8329BFD46970100000010100000000002E834",
+    },
+    Encoded {
+        kind: "deliver",
+        options: &[],
+        address: "27838890001",
+        text: "hellohello",
+        octets: "040B817238880900F10000001010000000000AE8329BFD4697D9EC37",
+    },
+    Encoded {
+        kind: "deliver",
+        options: &[],
+        address: "+1002",
+        text: "€",
+        octets: "0404910120000000101000000000029B32",
+    },
+    Encoded {
+        kind: "deliver",
+        options: &[],
+        address: "",
+        text: "",
+        octets: "04008100000010100000000000",
+    },
+    Encoded {
+        kind: "deliver",
+        options: &["--stamp", "99309251619580"],
+        address: "1",
+        text: "a",
+        octets: "040181F10000993092516195800161",
+    },
+    Encoded {
+        kind: "deliver",
+        options: &["--stamp", "ffffffffffffff"],
+        address: "1",
+        text: "a",
+        octets: "040181F10000FFFFFFFFFFFFFF0161",
+    },
+    Encoded {
+        kind: "deliver",
+        options: &[],
+        address: "x",
+        text: "a",
+        octets: "0402D0780000001010000000000161",
+    },
+    Encoded {
+        kind: "deliver",
+        options: &[],
+        address: "xx",
+        text: "a",
+        octets: "0404D0783C0000001010000000000161",
+    },
+    Encoded {
+        kind: "deliver",
+        options: &[],
+        address: "xxx",
+        text: "a",
+        octets: "0406D0783C1E0000001010000000000161",
+    },
+    Encoded {
+        kind: "deliver",
+        options: &[],
+        address: "xxxx",
+        text: "a",
+        octets: "0407D0783C1E0F0000001010000000000161",
+    },
+    Encoded {
+        kind: "deliver",
+        options: &[],
+        address: "xxxxx",
+        text: "a",
+        octets: "0409D0783C1E8F070000001010000000000161",
+    },
+    Encoded {
+        kind: "deliver",
+        options: &[],
+        address: "xxxxxx",
+        text: "a",
+        octets: "040BD0783C1E8FC7030000001010000000000161",
+    },
+    Encoded {
+        kind: "deliver",
+        options: &[],
+        address: "xxxxxxx",
+        text: "a",
+        octets: "040DD0783C1E8FC7E3010000001010000000000161",
+    },
+    Encoded {
+        kind: "deliver",
+        options: &[],
+        address: "xxxxxxxx",
+        text: "a",
+        octets: "040ED0783C1E8FC7E3F10000001010000000000161",
+    },
+    Encoded {
+        kind: "deliver",
+        options: &[],
+        address: "xxxxxxxxx",
+        text: "a",
+        octets: "0410D0783C1E8FC7E3F1780000001010000000000161",
+    },
+    Encoded {
+        kind: "deliver",
+        options: &[],
+        address: "xxxxxxxxxx",
+        text: "a",
+        octets: "0412D0783C1E8FC7E3F1783C0000001010000000000161",
+    },
+    Encoded {
+        kind: "deliver",
+        options: &[],
+        address: "xxxxxxxxxxx",
+        text: "a",
+        octets: "0414D0783C1E8FC7E3F1783C1E0000001010000000000161",
+    },
+    Encoded {
+        kind: "submit",
+        options: &[],
+        address: "+",
+        text: "a",
+        octets: "0100009100000161",
+    },
+    Encoded {
+        kind: "deliver",
+        options: &[],
+        address: "+0",
+        text: "a",
+        octets: "040191F00000001010000000000161",
+    },
+    Encoded {
+        kind: "submit",
+        options: &[],
+        address: "+01",
+        text: "a",
+        octets: "010002911000000161",
+    },
+    Encoded {
+        kind: "deliver",
+        options: &[],
+        address: "+012",
+        text: "a",
+        octets: "04039110F20000001010000000000161",
+    },
+    Encoded {
+        kind: "submit",
+        options: &[],
+        address: "+0123",
+        text: "a",
+        octets: "01000491103200000161",
+    },
+    Encoded {
+        kind: "deliver",
+        options: &[],
+        address: "+01234",
+        text: "a",
+        octets: "0405911032F40000001010000000000161",
+    },
+    Encoded {
+        kind: "submit",
+        options: &[],
+        address: "+012345",
+        text: "a",
+        octets: "0100069110325400000161",
+    },
+    Encoded {
+        kind: "deliver",
+        options: &[],
+        address: "+0123456",
+        text: "a",
+        octets: "040791103254F60000001010000000000161",
+    },
+    Encoded {
+        kind: "submit",
+        options: &[],
+        address: "+01234567",
+        text: "a",
+        octets: "010008911032547600000161",
+    },
+    Encoded {
+        kind: "deliver",
+        options: &[],
+        address: "+012345678",
+        text: "a",
+        octets: "04099110325476F80000001010000000000161",
+    },
+    Encoded {
+        kind: "submit",
+        options: &[],
+        address: "+0123456789",
+        text: "a",
+        octets: "01000A91103254769800000161",
+    },
+    Encoded {
+        kind: "deliver",
+        options: &[],
+        address: "+01234567890",
+        text: "a",
+        octets: "040B911032547698F00000001010000000000161",
+    },
+    Encoded {
+        kind: "submit",
+        options: &[],
+        address: "+012345678901",
+        text: "a",
+        octets: "01000C9110325476981000000161",
+    },
+    Encoded {
+        kind: "deliver",
+        options: &[],
+        address: "+0123456789012",
+        text: "a",
+        octets: "040D91103254769810F20000001010000000000161",
+    },
+    Encoded {
+        kind: "submit",
+        options: &[],
+        address: "+01234567890123",
+        text: "a",
+        octets: "01000E911032547698103200000161",
+    },
+    Encoded {
+        kind: "deliver",
+        options: &[],
+        address: "+012345678901234",
+        text: "a",
+        octets: "040F9110325476981032F40000001010000000000161",
+    },
+    Encoded {
+        kind: "submit",
+        options: &[],
+        address: "+0123456789012345",
+        text: "a",
+        octets: "01001091103254769810325400000161",
+    },
+    Encoded {
+        kind: "deliver",
+        options: &[],
+        address: "+01234567890123456",
+        text: "a",
+        octets: "0411911032547698103254F60000001010000000000161",
+    },
+    Encoded {
+        kind: "submit",
+        options: &[],
+        address: "+012345678901234567",
+        text: "a",
+        octets: "0100129110325476981032547600000161",
+    },
+    Encoded {
+        kind: "deliver",
+        options: &[],
+        address: "+0123456789012345678",
+        text: "a",
+        octets: "041391103254769810325476F80000001010000000000161",
+    },
+    Encoded {
+        kind: "submit",
+        options: &[],
+        address: "+01234567890123456789",
+        text: "a",
+        octets: "010014911032547698103254769800000161",
+    },
+    Encoded {
+        kind: "submit",
+        options: &[],
+        address: "12x",
+        text: "a",
+        octets: "010006D031191E00000161",
+    },
+    Encoded {
+        kind: "submit",
+        options: &[],
+        address: "ABC",
+        text: "a",
+        octets: "010006D041E11000000161",
+    },
+    Encoded {
+        kind: "submit",
+        options: &[],
+        address: "A[\\]",
+        text: "a",
+        octets: "01000DD0C10D6FF3DAF80000000161",
+    },
+    Encoded {
+        kind: "deliver",
+        options: &[],
+        address: "a\n\u{c}",
+        text: "a",
+        octets: "0407D061C546010000001010000000000161",
+    },
+    Encoded {
+        kind: "submit",
+        options: &[],
+        address: " ",
+        text: "a",
+        octets: "010002D02000000161",
+    },
+    Encoded {
+        kind: "submit",
+        options: &[],
+        address: "1+",
+        text: "a",
+        octets: "010004D0B11500000161",
+    },
 ];
 
 /// Kinds of unit, options, addresses and texts that make none, the status and the answer.
-pub static NO_UNITS: [(&str, &[&str], &str, &str, u8, &str); 29] = [
-    ("submit", &[], "+12x", "a", 1, "bad address"),
-    ("submit", &[], "+ABC", "a", 1, "bad address"),
-    (
-        "submit",
-        &[],
-        "012345678901234567890",
-        "a",
-        1,
-        "bad address",
-    ),
-    (
-        "submit",
-        &[],
-        "+012345678901234567890",
-        "a",
-        1,
-        "bad address",
-    ),
-    ("submit", &[], "++1", "a", 1, "bad address"),
-    (
-        "submit",
-        &[],
-        "+x",
-        "жжжжжжжжжжжжжжжжжжжжжжжжжжжжжжжжжжжжжжжжжжжжжжжжжжжжжжжжжжжжжжжжжжжжжжж",
-        1,
-        "bad address",
-    ),
-    (
-        "submit",
-        &[],
-        "+x",
-        "aaaaaaaaaaaaaaaaaaaaaaaaaaaaaaaaaaaaaaaaaaaaaaaaaaaaaaaaaaaaaaaaaaaaaaaaaaaaaaaaaaaaaaaaaaaaaaaaaaaaaaaaaaaaaaaaaaaaaaaaaaaaaaaaaaaaaaaaaaaaaaaaaaaaaaaaaaaaaaaaa",
-        1,
-        "bad address",
-    ),
-    (
-        "deliver",
-        &["--rd"],
-        "1",
-        "a",
-        2,
-        "option not for this kind",
-    ),
-    (
-        "deliver",
-        &["--mr", "0"],
-        "1",
-        "a",
-        2,
-        "option not for this kind",
-    ),
-    (
-        "deliver",
-        &["--validity", "0"],
-        "1",
-        "a",
-        2,
-        "option not for this kind",
-    ),
-    (
-        "submit",
-        &["--stamp", "00101000000000"],
-        "1",
-        "a",
-        2,
-        "option not for this kind",
-    ),
-    (
-        "submit",
-        &["--stamp", "x"],
-        "+x",
-        "ж",
-        2,
-        "option not for this kind",
-    ),
-    (
-        "deliver",
-        &["--rd", "--stamp", "x"],
-        "+x",
-        "ж",
-        2,
-        "option not for this kind",
-    ),
-    ("deliver", &["--stamp", "x"], "1", "a", 1, "bad hex"),
-    ("deliver", &["--stamp", ""], "1", "a", 1, "bad hex"),
-    ("deliver", &["--stamp", "00"], "1", "a", 1, "bad hex"),
-    (
-        "deliver",
-        &["--stamp", "001010000000"],
-        "1",
-        "a",
-        1,
-        "bad hex",
-    ),
-    (
-        "deliver",
-        &["--stamp", "0010100000000000"],
-        "1",
-        "a",
-        1,
-        "bad hex",
-    ),
-    (
-        "deliver",
-        &["--stamp", "0010100000000"],
-        "1",
-        "a",
-        1,
-        "bad hex",
-    ),
-    (
-        "deliver",
-        &["--stamp", "0010100000000G"],
-        "1",
-        "a",
-        1,
-        "bad hex",
-    ),
-    ("deliver", &["--stamp=-"], "1", "a", 1, "bad hex"),
-    ("deliver", &["--stamp", "x"], "+x", "ж", 1, "bad hex"),
-    ("deliver", &[], "+x", "ж", 1, "bad address"),
-    ("submit", &[], "ABCDEFGHIJKL", "a", 1, "bad address"),
-    ("submit", &[], "[[[[[[", "a", 1, "bad address"),
-    ("submit", &[], "ж", "a", 1, "bad address"),
-    ("submit", &[], "жжжжжжжжжжжж", "a", 1, "bad address"),
-    ("submit", &[], "a\u{1b}", "a", 1, "bad address"),
-    ("submit", &[], "x+ж", "a", 1, "bad address"),
+pub static NO_UNITS: [NotEncoded; 29] = [
+    NotEncoded {
+        kind: "submit",
+        options: &[],
+        address: "+12x",
+        text: "a",
+        status: 1,
+        line: "bad address",
+    },
+    NotEncoded {
+        kind: "submit",
+        options: &[],
+        address: "+ABC",
+        text: "a",
+        status: 1,
+        line: "bad address",
+    },
+    NotEncoded {
+        kind: "submit",
+        options: &[],
+        address: "012345678901234567890",
+        text: "a",
+        status: 1,
+        line: "bad address",
+    },
+    NotEncoded {
+        kind: "submit",
+        options: &[],
+        address: "+012345678901234567890",
+        text: "a",
+        status: 1,
+        line: "bad address",
+    },
+    NotEncoded {
+        kind: "submit",
+        options: &[],
+        address: "++1",
+        text: "a",
+        status: 1,
+        line: "bad address",
+    },
+    NotEncoded {
+        kind: "submit",
+        options: &[],
+        address: "+x",
+        text: "жжжжжжжжжжжжжжжжжжжжжжжжжжжжжжжжжжжжжжжжжжжжжжжжжжжжжжжжжжжжжжжжжжжжжжж",
+        status: 1,
+        line: "bad address",
+    },
+    NotEncoded {
+        kind: "submit",
+        options: &[],
+        address: "+x",
+        text: "aaaaaaaaaaaaaaaaaaaaaaaaaaaaaaaaaaaaaaaaaaaaaaaaaaaaaaaaaaaaaaaaaaaaaaaaaaaaaaaaaaaaaaaaaaaaaaaaaaaaaaaaaaaaaaaaaaaaaaaaaaaaaaaaaaaaaaaaaaaaaaaaaaaaaaaaaaaaaaaaa",
+        status: 1,
+        line: "bad address",
+    },
+    NotEncoded {
+        kind: "deliver",
+        options: &["--rd"],
+        address: "1",
+        text: "a",
+        status: 2,
+        line: "option not for this kind",
+    },
+    NotEncoded {
+        kind: "deliver",
+        options: &["--mr", "0"],
+        address: "1",
+        text: "a",
+        status: 2,
+        line: "option not for this kind",
+    },
+    NotEncoded {
+        kind: "deliver",
+        options: &["--validity", "0"],
+        address: "1",
+        text: "a",
+        status: 2,
+        line: "option not for this kind",
+    },
+    NotEncoded {
+        kind: "submit",
+        options: &["--stamp", "00101000000000"],
+        address: "1",
+        text: "a",
+        status: 2,
+        line: "option not for this kind",
+    },
+    NotEncoded {
+        kind: "submit",
+        options: &["--stamp", "x"],
+        address: "+x",
+        text: "ж",
+        status: 2,
+        line: "option not for this kind",
+    },
+    NotEncoded {
+        kind: "deliver",
+        options: &["--rd", "--stamp", "x"],
+        address: "+x",
+        text: "ж",
+        status: 2,
+        line: "option not for this kind",
+    },
+    NotEncoded {
+        kind: "deliver",
+        options: &["--stamp", "x"],
+        address: "1",
+        text: "a",
+        status: 1,
+        line: "bad hex",
+    },
+    NotEncoded {
+        kind: "deliver",
+        options: &["--stamp", ""],
+        address: "1",
+        text: "a",
+        status: 1,
+        line: "bad hex",
+    },
+    NotEncoded {
+        kind: "deliver",
+        options: &["--stamp", "00"],
+        address: "1",
+        text: "a",
+        status: 1,
+        line: "bad hex",
+    },
+    NotEncoded {
+        kind: "deliver",
+        options: &["--stamp", "001010000000"],
+        address: "1",
+        text: "a",
+        status: 1,
+        line: "bad hex",
+    },
+    NotEncoded {
+        kind: "deliver",
+        options: &["--stamp", "0010100000000000"],
+        address: "1",
+        text: "a",
+        status: 1,
+        line: "bad hex",
+    },
+    NotEncoded {
+        kind: "deliver",
+        options: &["--stamp", "0010100000000"],
+        address: "1",
+        text: "a",
+        status: 1,
+        line: "bad hex",
+    },
+    NotEncoded {
+        kind: "deliver",
+        options: &["--stamp", "0010100000000G"],
+        address: "1",
+        text: "a",
+        status: 1,
+        line: "bad hex",
+    },
+    NotEncoded {
+        kind: "deliver",
+        options: &["--stamp=-"],
+        address: "1",
+        text: "a",
+        status: 1,
+        line: "bad hex",
+    },
+    NotEncoded {
+        kind: "deliver",
+        options: &["--stamp", "x"],
+        address: "+x",
+        text: "ж",
+        status: 1,
+        line: "bad hex",
+    },
+    NotEncoded {
+        kind: "deliver",
+        options: &[],
+        address: "+x",
+        text: "ж",
+        status: 1,
+        line: "bad address",
+    },
+    NotEncoded {
+        kind: "submit",
+        options: &[],
+        address: "ABCDEFGHIJKL",
+        text: "a",
+        status: 1,
+        line: "bad address",
+    },
+    NotEncoded {
+        kind: "submit",
+        options: &[],
+        address: "[[[[[[",
+        text: "a",
+        status: 1,
+        line: "bad address",
+    },
+    NotEncoded {
+        kind: "submit",
+        options: &[],
+        address: "ж",
+        text: "a",
+        status: 1,
+        line: "bad address",
+    },
+    NotEncoded {
+        kind: "submit",
+        options: &[],
+        address: "жжжжжжжжжжжж",
+        text: "a",
+        status: 1,
+        line: "bad address",
+    },
+    NotEncoded {
+        kind: "submit",
+        options: &[],
+        address: "a\u{1b}",
+        text: "a",
+        status: 1,
+        line: "bad address",
+    },
+    NotEncoded {
+        kind: "submit",
+        options: &[],
+        address: "x+ж",
+        text: "a",
+        status: 1,
+        line: "bad address",
+    },
 ];
 
-/// Texts of one character, which stands so many times, and the answer: what stands first, what is
+/// Texts of one character, which stands as many times as the number says, and the answer: what stands first, what is
 /// repeated, how often, and what stands last.
 pub static LONG_TEXTS: [(&str, usize, &str, &str, usize, &str); 10] = [
     (
@@ -1221,7 +1572,7 @@ pub static LONG_TEXTS: [(&str, usize, &str, &str, usize, &str); 10] = [
     ("ж", 161, "text too long", "", 0, ""),
 ];
 
-/// Headers with their length octet; the first octet of a text that is all `à` and fills the data behind
+/// Headers with their length octet; the first octet of a text that is all `à` and fills the data after
 /// the header, how many octets `FF` follow, and how many septets the text has.
 pub static HEADERS: [(&str, &str, usize, usize); 9] = [
     ("00", "C0", 138, 158),

@@ -6,8 +6,8 @@ use super::{answer_to, repeated, says};
 use rows::{REFERENCES, SEPTETS, TOO_MANY, WIDE};
 use std::test::Fail;
 
-/// The text of parts between bars, each as many times as the number behind its asterisk says, else once.
-fn expanded(rt: &HostRuntime, parts: &str) -> Result<String, Fail> {
+/// The text of parts between bars, each as many times as the number after its asterisk says, else once.
+pub(super) fn expanded(rt: &HostRuntime, parts: &str) -> Result<String, Fail> {
     let mut text = String::new(rt.alloc());
     for part in parts.split('|') {
         match part.split_once('*') {
@@ -30,8 +30,8 @@ fn is_split(rt: &HostRuntime, reference: &str, text: &str, lines: &str) -> Resul
 #[test]
 fn splits_texts_of_septets(rt: HostRuntime) -> Result<(), Fail> {
     for row in SEPTETS.as_slice() {
-        let split = is_split(&rt, "0", row.0, row.1)?;
-        assert!(rt; split);
+        let split = is_split(&rt, "0", row.text, row.lines)?;
+        assert!(rt; split, "{}", row.text);
     }
     Ok(())
 }
@@ -39,8 +39,8 @@ fn splits_texts_of_septets(rt: HostRuntime) -> Result<(), Fail> {
 #[test]
 fn splits_wide_texts(rt: HostRuntime) -> Result<(), Fail> {
     for row in WIDE.as_slice() {
-        let split = is_split(&rt, "0", row.0, row.1)?;
-        assert!(rt; split);
+        let split = is_split(&rt, "0", row.text, row.lines)?;
+        assert!(rt; split, "{}", row.text);
     }
     Ok(())
 }
@@ -48,8 +48,8 @@ fn splits_wide_texts(rt: HostRuntime) -> Result<(), Fail> {
 #[test]
 fn splits_with_references(rt: HostRuntime) -> Result<(), Fail> {
     for row in REFERENCES.as_slice() {
-        let split = is_split(&rt, row.0, row.1, row.2)?;
-        assert!(rt; split);
+        let split = is_split(&rt, row.reference, row.text, row.lines)?;
+        assert!(rt; split, "{}", row.text);
     }
     Ok(())
 }

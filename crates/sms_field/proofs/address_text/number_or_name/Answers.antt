@@ -16,5 +16,5 @@ returns-in-Ok c = λ other. rw c.number.ensures (sym (is_number c.digits_of_numb
 pub returns-in-Err-BadDigit : goal.returns-in-Err-BadDigit
 returns-in-Err-BadDigit c = λ other. c.name.ensures other ∙ sym (is_name c.digits_of_number.result (few_digits (digits_of_text (chars c.args.text.now))) (name_of (septets_of_text (chars c.args.text.now))) (c.in-Err-BadDigit.is ∙ ap refusal c.in-Err-BadDigit.field-0-is) c.digits_of_number.ensures)
 
-pub returns-in-Err-TooLong : goal.returns-in-Err-TooLong
-returns-in-Err-TooLong c = λ other. sym (is_too_long c.digits_of_number.result (few_digits (digits_of_text (chars c.args.text.now))) (name_of (septets_of_text (chars c.args.text.now))) (c.in-Err-TooLong.is ∙ ap refusal c.in-Err-TooLong.field-0-is) c.digits_of_number.ensures)
+pub returns-in-Err-AddressTooLong : goal.returns-in-Err-AddressTooLong
+returns-in-Err-AddressTooLong c = λ other. sym (is_too_long c.digits_of_number.result (few_digits (digits_of_text (chars c.args.text.now))) (name_of (septets_of_text (chars c.args.text.now))) (c.in-Err-AddressTooLong.is ∙ ap refusal c.in-Err-AddressTooLong.field-0-is) c.digits_of_number.ensures)

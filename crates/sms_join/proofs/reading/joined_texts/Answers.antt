@@ -3,12 +3,12 @@ use Rattle.std.specs.List.{flat_map}
 use Rattle.std.specs.Str.{chars}
 use Rattle.std.specs.String.{string_bytes}
 use Rattle.std.proofs.lemmas.Str.{chars-nil, IsUtf8-string_bytes}
-use Rattle.sms_join.specs.Reading.{text_of_units}
+use Rattle.sms_join.specs.Reading.{text_of_units, lent}
 use Rattle.sms_join.proofs.SegmentTexts.{one_text_more}
 use Rattle.sms_join.proofs.reading.joined_texts.Goals as goal
 
 pub loop-units-init : goal.loop-units-init
-loop-units-init c = ap (λ l. chars l ++ flat_map text_of_units c.args.segments.now) c.new-joined.ensures.bytes ∙ ap (λ l. l ++ flat_map text_of_units c.args.segments.now) chars-nil
+loop-units-init c = ap (λ l. chars l ++ flat_map text_of_units (lent c.args.segments.now)) c.new-joined.ensures.bytes ∙ ap (λ l. l ++ flat_map text_of_units (lent c.args.segments.now)) chars-nil
 
 pub loop-units-preserved : goal.loop-units-preserved
 loop-units-preserved c =

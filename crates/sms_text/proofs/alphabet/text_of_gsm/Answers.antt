@@ -1,24 +1,26 @@
-use Rattle.std.proofs.Common.{◌≡◌, ◌∙◌, ◌++◌, ◌∷◌, [], ℕ, List, refl, ap, sym, append_assoc}
-use Rattle.std.proofs.lemmas.List.{append-nil}
-use Rattle.std.proofs.lemmas.Str.{IsUtf8-string_bytes, chars-nil}
-use Rattle.std.specs.Str.{chars}
-use Rattle.std.specs.String.{string_bytes}
-use Rattle.sms_text.specs.TextOfSeptets.{text_of_septets}
-use Rattle.sms_text.proofs.Fronts.{text_of_none}
-use Rattle.sms_text.proofs.TextLoop.{chars_pushed}
+use Rattle.std.proofs.Common.{◌≡◌, subst}
+use Rattle.sms_text.specs.Bits.{AreSeptets}
+use Rattle.sms_text.proofs.Words.{septets-parts}
+use Rattle.sms_text.proofs.SameRuns.{text_block, text_one, text_done, whole_text}
 use Rattle.sms_text.proofs.alphabet.text_of_gsm.Goals as goal
 
-pub loop-c-init : goal.loop-c-init
-loop-c-init c = rw (c.new-text.ensures.bytes, chars-nil) refl
+pub loop-block-preserved-in-Some : goal.loop-block-preserved-in-Some
+loop-block-preserved-in-Some c = record {
+  so_far = text_block c.loop-block.octets.items c.extend_from_slice.new.self.items c.in-Some.block.now c.in-Some.others.now c.loop-block.rest.now _ c.in-Some.ensures.0 c.in-Some.ensures.1 c.in_ok-extend_from_slice.ensures.items c.loop-block.invariant.so_far;
+  are = (septets-parts c.in-Some.block.now c.in-Some.others.now (subst AreSeptets c.in-Some.ensures.0 c.loop-block.invariant.are)).1;
+}
 
-pub loop-c-preserved : goal.loop-c-preserved
-loop-c-preserved c =
-    let before : List ℕ = string_bytes c.loop-c.text in
-    let rest : List ℕ = text_of_septets c.in-Some.others.now in
-    let first : text_of_septets c.loop-c.rest.now ≡ c.in-Some.c ∷ rest = cc (c.in-Some.ensures.0) in
-    ap (λ (l : List ℕ). l ++ rest) (chars_pushed before (string_bytes c.push.new.self) c.in-Some.c (IsUtf8-string_bytes c.loop-c.text) (IsUtf8-string_bytes c.push.new.self) c.in_ok-push.ensures.bytes) ∙ append_assoc (chars before) (c.in-Some.c ∷ []) rest ∙ ap (λ (l : List ℕ). chars before ++ l) (sym first) ∙ c.loop-c.invariant
+pub loop-block-preserved : goal.loop-block-preserved
+loop-block-preserved c = record {
+  so_far = text_one c.loop-block.octets.items c.push_utf8.new.octets.items c.in-Some-first_character.others.now c.loop-block.rest.now _ c.in-Some-first_character.c c.in-Some-first_character.ensures.0 c.in_ok-push_utf8.ensures c.loop-block.invariant.so_far;
+  are = c.in-Some-first_character.ensures.2;
+}
 
-pub returns : goal.returns
-returns c =
-    let text : List ℕ = chars (string_bytes c.loop-c.text) in
-    sym (append-nil text) ∙ ap (λ (l : List ℕ). text ++ l) (sym (text_of_none c.loop-c.rest.now c.in_default.ensures)) ∙ c.loop-c.invariant
+pub from_utf8_unchecked-requires : goal.from_utf8_unchecked-requires
+from_utf8_unchecked-requires c = (whole_text c.loop-block.octets.items c.args.septets.now c.requires.septets (text_done c.loop-block.octets.items c.loop-block.rest.now _ c.in_default-first_character.ensures c.loop-block.invariant.so_far)).0
+
+pub returns-in_default-first_character : goal.returns-in_default-first_character
+returns-in_default-first_character c =
+    let spelled = whole_text c.loop-block.octets.items c.args.septets.now c.requires.septets (text_done c.loop-block.octets.items c.loop-block.rest.now _ c.in_default-first_character.ensures c.loop-block.invariant.so_far) in
+    let made : c.from_utf8_unchecked.result.bytes ≡ c.loop-block.octets = c.from_utf8_unchecked.ensures.value in
+    rw made spelled.1

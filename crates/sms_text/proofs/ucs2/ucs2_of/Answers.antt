@@ -1,6 +1,5 @@
-use Rattle.std.proofs.Common.{◌≡◌, ◌++◌, length, arith}
+use Rattle.std.proofs.Common.{length, arith}
 use Rattle.std.specs.Str.{chars}
-use Rattle.std.specs.Char.Escape.{encode_utf16}
 use Rattle.std.proofs.lemmas.Iterator.{YieldsList-from_chars}
 use Rattle.std.proofs.lemmas.Iterator.Consumers.{YieldsList-turn, YieldsList-end}
 use Rattle.std.proofs.lemmas.List.{length_push}
@@ -10,8 +9,7 @@ use Rattle.sms_text.proofs.ucs2.ucs2_of.Goals as goal
 pub loop-c-preserved : goal.loop-c-preserved
 loop-c-preserved c =
     let t = YieldsList-turn (YieldsList-from_chars c.args.text.now c.utf8.text cc) c.loop-c.yielded _ c.loop-c.yielded_by _ _ c.in-Some.c c.in-Some.is c.next.ensures.steps in
-    let pushed : c.extend_from_slice.new.self.items ≡ c.loop-c.units.items ++ encode_utf16 c.in-Some.c = rw (← c.encode_utf16.ensures.value) c.in_ok-extend_from_slice.ensures.items in
-    rw (length_push c.loop-c.yielded c.in-Some.c) (one_more_character (chars c.args.text.now) (length c.loop-c.yielded) c.in-Some.c c.loop-c.units.items c.extend_from_slice.new.self.items _ t pushed c.loop-c.invariant)
+    rw (length_push c.loop-c.yielded c.in-Some.c) (one_more_character (chars c.args.text.now) (length c.loop-c.yielded) c.in-Some.c c.loop-c.units.items c.push_units.new.units.items _ t c.in_ok-push_units.ensures c.loop-c.invariant)
 
 pub returns : goal.returns
 returns c =

@@ -1,5 +1,7 @@
-use Rattle.std.proofs.Common.{◌≡◌, ◌≤ℤ◌, ◌∙◌, ◌*ℤ◌, ap, arith, pos, negsuc}
+use Rattle.std.proofs.Common.{◌≡◌, ◌≤ℤ◌, ◌∙◌, ◌*ℤ◌, ap, subst, arith, pos, negsuc}
 use Rattle.std.proofs.lemmas.Int.{ints}
+use Rattle.sms_field.specs.Stamping.{IsStampAt}
+use Rattle.sms_field.proofs.TimeLaws.{stamp_is_one}
 use Rattle.sms_field.proofs.MomentLaws.{stamp_is, same_quarters, local_sum}
 use Rattle.sms_field.proofs.stamp.Stamp.at.Goals as goal
 
@@ -18,3 +20,6 @@ returns-clause-value c =
     let fifth = c.octet_of-5.ensures in
     let sixth = c.octet_of-6.ensures in
     rw (c.new.ensures.is, c.octet_of_zone.ensures, same) (stamp_is c.args.seconds _ date.0 date.1 date.2 c.args.quarters _ _ _ _ _ _ c.date_of-year.ensures.date (omega arith) first.digits second.digits third.digits fourth.digits fifth.digits sixth.digits first.value second.value third.value fourth.value fifth.value sixth.value west east (omega (arith, ints, sum, c.date_of-year.ensures.value)))
+
+pub returns-clause-octets : goal.returns-clause-octets
+returns-clause-octets c = λ east. stamp_is_one c.args.seconds c.new.result c.new.ensures.in_range (subst (λ q. IsStampAt c.args.seconds q c.new.result) east (returns-clause-value c))

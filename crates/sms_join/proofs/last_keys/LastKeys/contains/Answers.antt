@@ -8,7 +8,6 @@ use Rattle.sms_join.proofs.last_keys.LastKeys.contains.Goals as goal
 pub returns : goal.returns
 returns c =
     c.has_key.ensures
-    ∙ (among_any c.deref.result.now (key_of c.args.origin.now c.args.stamp c.args.concat)
-    ∙ (ap (λ l. is_among l (key_of c.args.origin.now c.args.stamp c.args.concat)) c.deref.ensures.value
+    ∙ (among_any c.self.inside.keys.items (key_of c.args.origin.now c.args.stamp c.args.concat)
     ∙ (sym (among_reversed c.self.inside.keys.items (key_of c.args.origin.now c.args.stamp c.args.concat))
-    ∙ ap (λ (l : LastKeysValue). is_among l.keys (key_of c.args.origin.now c.args.stamp c.args.concat)) c.self.view_is)))
+    ∙ ap (λ (l : LastKeysValue). is_among l.keys (key_of c.args.origin.now c.args.stamp c.args.concat)) c.self.view_is))

@@ -1,0 +1,125 @@
+//! Texts split under references of two octets, and texts and references that are too large.
+
+use super::answer_to;
+use super::splits::expanded;
+use std::test::Fail;
+
+/// A text, its reference, and the lines of its segments; `|` and `*` as in the rows of `splits`.
+struct WideRow {
+    text: &'static str,
+    reference: &'static str,
+    lines: &'static str,
+}
+
+static WIDE_ROWS: [WideRow; 5] = [
+    WideRow {
+        text: "a*160",
+        reference: "0",
+        lines: "1/1 gsm 160 |E170381C0E87C3*20|\n",
+    },
+    WideRow {
+        text: "a*161",
+        reference: "0",
+        lines: "1/2 gsm 160 06080400000201|E170381C0E87C3*19|\n2/2 gsm 17 06080400000202E170381C0E87C361\n",
+    },
+    WideRow {
+        text: "ж*71",
+        reference: "0",
+        lines: "1/2 ucs2 139 06080400000201|0436*66|\n2/2 ucs2 17 06080400000202|0436*5|\n",
+    },
+    WideRow {
+        text: "a*161",
+        reference: "258",
+        lines: "1/2 gsm 160 06080401020201|E170381C0E87C3*19|\n2/2 gsm 17 06080401020202E170381C0E87C361\n",
+    },
+    WideRow {
+        text: "ж*71",
+        reference: "65535",
+        lines: "1/2 ucs2 139 060804FFFF0201|0436*66|\n2/2 ucs2 17 060804FFFF0202|0436*5|\n",
+    },
+];
+
+/// A text that is not split: its reference, the status, and the whole output.
+struct UncutRow {
+    text: &'static str,
+    is_wide: bool,
+    reference: &'static str,
+    status: u8,
+    line: &'static str,
+}
+
+static UNCUT_ROWS: [UncutRow; 3] = [
+    UncutRow {
+        text: "a",
+        is_wide: false,
+        reference: "256",
+        status: 2,
+        line: "reference too large\n",
+    },
+    UncutRow {
+        text: "a*39016",
+        is_wide: false,
+        reference: "65535",
+        status: 2,
+        line: "reference too large\n",
+    },
+    UncutRow {
+        text: "a*38761",
+        is_wide: true,
+        reference: "65535",
+        status: 1,
+        line: "too many segments\n",
+    },
+];
+
+/// The status and the whole output, for a text under a reference.
+fn split_of(
+    rt: &HostRuntime,
+    is_wide: bool,
+    reference: &str,
+    text: &str,
+) -> Result<(u8, String), Fail> {
+    let text = expanded(rt, text)?;
+    if is_wide {
+        answer_to(rt, &["sms", "split", "--wide", "--ref", reference, &text])
+    } else {
+        answer_to(rt, &["sms", "split", "--ref", reference, &text])
+    }
+}
+
+#[test]
+fn splits_under_wide_references(rt: HostRuntime) -> Result<(), Fail> {
+    for row in WIDE_ROWS.as_slice() {
+        let (status, answer) = split_of(&rt, true, row.reference, row.text)?;
+        let lines = expanded(&rt, row.lines)?;
+        assert_eq!(rt; status, 0, "{}", row.text);
+        assert_eq!(rt; answer, lines, "{}", row.text);
+    }
+    Ok(())
+}
+
+#[test]
+fn refuses_references_and_texts_too_large(rt: HostRuntime) -> Result<(), Fail> {
+    for row in UNCUT_ROWS.as_slice() {
+        let (status, answer) = split_of(&rt, row.is_wide, row.reference, row.text)?;
+        assert_eq!(rt; status, row.status, "{}", row.text);
+        assert_eq!(rt; answer.as_str(), row.line, "{}", row.text);
+    }
+    Ok(())
+}
+
+/// Whether a text is refused as one that needs more than one piece.
+fn is_too_long(rt: &HostRuntime, kind: &str, text: &str) -> Result<bool, Fail> {
+    let text = expanded(rt, text)?;
+    let (status, answer) = answer_to(rt, &["sms", "encode", kind, "+1002", &text])?;
+    Ok(status == 1 && answer.as_str() == "text too long\n")
+}
+
+#[test]
+fn refuses_a_text_of_two_pieces(rt: HostRuntime) -> Result<(), Fail> {
+    let submit = is_too_long(&rt, "submit", "a*161")?;
+    assert!(rt; submit);
+    let deliver = is_too_long(&rt, "deliver", "ж*71")?;
+    assert!(rt; deliver);
+    Ok(())
+}

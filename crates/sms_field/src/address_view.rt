@@ -1,0 +1,164 @@
+//! Addresses of the transfer layer, seen in a unit's octets (3GPP TS 23.040, 9.1.2.5).
+
+ghost use Rattle.std.specs.Prelude.{◌≡◌, ◌≤◌, ◌==◌, ◌+◌, ◌/◌, length, IfOk, IfErr};
+ghost use Rattle.sms_field.specs.AddressValue.{AreSymbolsOf, HasSpelling};
+ghost use Rattle.sms_field.specs.Address.{symbols_of, address};
+ghost use Rattle.sms_field.specs.AddressSeen.{digits_in, symbols_seen};
+ghost use Rattle.sms_field.specs.Answer.{Sees, SeesAs};
+ghost use Rattle.sms_field.specs.Reading.{Reads};
+ghost use Rattle.sms_field.specs.WholeAnswer.{IsFaultOf, SeesExactly};
+ghost use Rattle.sms_field.specs.declared.fault.FieldFault.TheVariants.{Short};
+ghost use Rattle.sms_field.specs.DigitOctets.{digits};
+
+use crate::address::{ALPHANUMERIC, Address};
+use crate::cursor::Cursor;
+use crate::digits::{Digits, both_digits_of, low_digit_of};
+use crate::fault::FieldFault;
+use crate::name::Name;
+use crate::refusal::Fault;
+use crate::symbols::Symbols;
+use sms_text::unpack;
+use std::alloc::{AllocError, Global};
+use std::marker::Model;
+
+/// An address that lies in the octets of a unit. Contracts see it as the address.
+#[derive(Drop)]
+pub struct AddressView<'a> {
+    type_of_number: u8,
+    plan: u8,
+    /// The semi-octets that the symbols take, at most 20.
+    count: u8,
+    octets: &'a [u8],
+}
+
+impl<'a> Model for AddressView<'a> {
+    ghost use Rattle.sms_field.specs.AddressValue.{AddressValue};
+    ghost use Rattle.sms_field.specs.AddressSeen.{address_in, IsAddressIn};
+
+    ghost Value = { AddressValue };
+
+    ghost view = { λ a. address_in a.type_of_number a.plan a.count a.octets.now };
+
+    ghost invariant = { λ a. IsAddressIn a.type_of_number a.plan a.count a.octets.now };
+}
+
+/// The octets of digits, as many as are counted.
+fn digits_seen_at<'a>(input: &mut Cursor<'a>, count: u8) -> Result<&'a [u8], Fault<FieldFault>>
+    ensures read { SeesAs (λ octets. digits_in count octets.now)
+        (digits count) input.old result input.new }
+    ensures whole { IfOk result (λ octets. length octets.now ≡ (count + 1) / 2) }
+{
+    let octets = input.rest();
+    for _ in 0..count / 2 {
+        input.take_octet_by(both_digits_of)?;
+    }
+    if count % 2 == 1 {
+        input.take_octet_by(low_digit_of)?;
+    }
+    Ok(&octets[..count.div_ceil(2) as usize])
+}
+
+/// The octets of semi-octets, as many as are counted: of a name or of digits.
+#[tactic(auto, unfolding(crate::specs::Address::symbols_by, crate::specs::Name::name))]
+fn symbols_seen_at<'a>(
+    input: &mut Cursor<'a>,
+    type_of_number: u8,
+    count: u8,
+) -> Result<&'a [u8], Fault<FieldFault>>
+    requires { count ≤ 20 }
+    ensures read { SeesAs (λ octets. symbols_seen type_of_number count octets.now)
+        (symbols_of type_of_number count) input.old result input.new }
+    ensures whole { IfOk result (λ octets. length octets.now ≡ (count + 1) / 2) }
+    ensures fits { IfOk result (λ octets.
+        AreSymbolsOf type_of_number (symbols_seen type_of_number count octets.now)) }
+{
+    if type_of_number == ALPHANUMERIC {
+        let octets = input.take_octets(count.div_ceil(2) as usize)?;
+        Ok(octets)
+    } else {
+        let octets = digits_seen_at(input, count)?;
+        Ok(octets)
+    }
+}
+
+/// The digits in octets, as many as are counted.
+pub fn digits_from(alloc: Global, octets: &[u8], count: u8) -> Result<Vec<u8>, AllocError>
+    requires { length octets.now ≡ (count + 1) / 2 }
+    ensures { IfOk result (λ values. values.items ≡ digits_in count octets.now) }
+{
+    let mut digits = Vec::new(alloc);
+    for place in 0..count {
+        let octet = octets[usize::from(place / 2)];
+        let digit = if place % 2 == 0 {
+            octet % 16
+        } else {
+            octet / 16
+        };
+        digits.push(digit)?;
+    }
+    Ok(digits)
+}
+
+impl<'a> AddressView<'a> {
+    /// Sees an address at the front of the octets, and says how many it takes.
+    pub fn read(input: &'a [u8]) -> Result<(AddressView<'a>, usize), Fault<FieldFault>>
+        ensures found { IfOk result (λ x. Reads address x.0 input.now x.1) }
+        ensures refused { IfErr result (IsFaultOf address Short input.now) }
+        ensures exact { SeesExactly (λ view. view) address input.now result }
+    {
+        let mut cursor = Cursor::new(input);
+        let address = AddressView::read_at(&mut cursor)?;
+        Ok((address, cursor.place()))
+    }
+
+    /// Sees an address at a cursor.
+    #[tactic(auto, unfolding(crate::specs::Address::address))]
+    pub fn read_at(input: &mut Cursor<'a>) -> Result<AddressView<'a>, Fault<FieldFault>>
+        ensures read { Sees address input.old result input.new }
+        ensures fits { IfOk result HasSpelling }
+    {
+        let count = input.take_octet_up_to(20, FieldFault::AddressTooLong)?;
+        let kind = input.take_octet()?;
+        let type_of_number = kind / 16 % 8;
+        let octets = symbols_seen_at(input, type_of_number, count)?;
+        Ok(AddressView {
+            type_of_number,
+            plan: kind % 16,
+            count,
+            octets,
+        })
+    }
+
+    /// 0 to 7; 1 is international, 5 alphanumeric.
+    pub fn type_of_number(&self) -> u8
+        ensures { result ≡ self.now.kind }
+    {
+        self.type_of_number
+    }
+
+    /// The numbering plan, 0 to 15; 1 is that of telephones.
+    pub fn plan(&self) -> u8
+        ensures { result ≡ self.now.plan }
+    {
+        self.plan
+    }
+
+    /// The address itself.
+    pub fn to_value(&self, alloc: Global) -> Result<Address, AllocError>
+        ensures { IfOk result (λ address. address ≡ self.now) }
+    {
+        let symbols = if self.type_of_number == ALPHANUMERIC {
+            match unpack(alloc, self.octets, 0, usize::from(4 * self.count / 7))? {
+                Some(septets) => Symbols::Name(Name::new(septets)),
+                None => unreachable!(),
+            }
+        } else {
+            Symbols::Digits(Digits::new(digits_from(alloc, self.octets, self.count)?))
+        };
+        Ok(Address {
+            type_of_number: self.type_of_number,
+            plan: self.plan,
+            symbols,
+        })
+    }
+}

@@ -1,0 +1,169 @@
+//! Addresses of the relay layer, seen in a message's octets (3GPP TS 24.011, 8.2.5.1 and 8.2.5.2).
+
+ghost use Rattle.std.specs.Prelude.{◌≡◌, ◌≤◌, ◌/◌, ◌%◌, length, IfOk, IfErr};
+ghost use Rattle.sms_field.specs.Field.{octet_by};
+ghost use Rattle.sms_field.specs.Answer.{Sees, SeesAs};
+ghost use Rattle.sms_field.specs.Reading.{Reads};
+ghost use Rattle.sms_field.specs.WholeAnswer.{IsFaultOf, SeesExactly};
+ghost use Rattle.sms_field.specs.RelayAddress.{last_digits, relay_digits, relay_address};
+ghost use Rattle.sms_field.specs.Digits.{AreDigits};
+ghost use Rattle.sms_field.specs.RelayAddressSeen.{last_digits_in, relay_count, relay_digits_in, relay_address_in};
+ghost use Rattle.sms_field.specs.declared.fault.FieldFault.TheVariants.{Short};
+
+use crate::address_view::digits_from;
+use crate::cursor::Cursor;
+use crate::digits::{Digits, both_digits_of};
+use crate::fault::FieldFault;
+use crate::refusal::Fault;
+use crate::relay_address::RpAddress;
+use std::alloc::{AllocError, Global};
+use std::marker::Model;
+
+/// An address of the relay layer that lies in the octets of a message. Contracts see it as the address.
+#[derive(Drop)]
+pub struct RpAddressView<'a> {
+    type_of_number: u8,
+    plan: u8,
+    /// The digits, at most 20.
+    count: u8,
+    octets: &'a [u8],
+}
+
+impl<'a> Model for RpAddressView<'a> {
+    ghost use Rattle.sms_field.specs.RelayAddressValue.{RelayAddressValue};
+    ghost use Rattle.sms_field.specs.RelayAddressSeen.{relay_address_in, IsRelayAddressIn};
+
+    ghost Value = { RelayAddressValue };
+
+    ghost view = { λ a. relay_address_in a.type_of_number a.plan a.count a.octets.now };
+
+    ghost invariant = { λ a. IsRelayAddressIn a.type_of_number a.plan a.count a.octets.now };
+}
+
+/// The last octet of the digits.
+fn last_octet_at(input: &mut Cursor) -> Result<u8, Fault<FieldFault>>
+    ensures { SeesAs last_digits_in (octet_by Short last_digits) input.old result input.new }
+{
+    let place = input.place();
+    let octet = input.take_octet()?;
+    if octet % 16 == 15 {
+        return Err(Fault {
+            place,
+            why: FieldFault::BadDigit,
+        });
+    }
+    Ok(octet)
+}
+
+/// The octets of digits, as many as are counted.
+fn relay_digits_seen_at<'a>(
+    input: &mut Cursor<'a>,
+    count: u8,
+) -> Result<&'a [u8], Fault<FieldFault>>
+    ensures read { SeesAs (λ octets. relay_digits_in octets.now)
+        (relay_digits count) input.old result input.new }
+    ensures whole { IfOk result (λ octets. length octets.now ≡ count) }
+{
+    let octets = input.rest();
+    for _ in 0..count.saturating_sub(1) {
+        input.take_octet_by(both_digits_of)?;
+    }
+    if count > 0 {
+        last_octet_at(input)?;
+    }
+    Ok(&octets[..count as usize])
+}
+
+/// The number of digits in octets.
+fn digit_count(octets: &[u8]) -> u8
+    requires { length octets.now ≤ 10 }
+    ensures { result ≡ relay_count octets.now }
+{
+    let most = 2 * octets.len() as u8;
+    if !octets.is_empty() && octets[octets.len() - 1] / 16 == 15 {
+        most - 1
+    } else {
+        most
+    }
+}
+
+/// The address of a type octet and of digits.
+fn address_seen<'a>(kind: u8, octets: &'a [u8]) -> RpAddressView<'a>
+    requires few { length octets.now ≤ 10 }
+    requires digits { AreDigits (relay_digits_in octets.now) }
+    ensures { result ≡ relay_address_in (kind / 16 % 8) (kind % 16)
+        (relay_count octets.now) octets.now }
+{
+    RpAddressView {
+        type_of_number: kind / 16 % 8,
+        plan: kind % 16,
+        count: digit_count(octets),
+        octets,
+    }
+}
+
+impl<'a> RpAddressView<'a> {
+    /// Sees an address, or none where the length octet is 0, at the front of the octets, and says how many octets
+    /// it takes.
+    pub fn read(input: &'a [u8]) -> Result<(Option<RpAddressView<'a>>, usize), Fault<FieldFault>>
+        ensures found { IfOk result (λ x. Reads relay_address x.0 input.now x.1) }
+        ensures refused { IfErr result (IsFaultOf relay_address Short input.now) }
+        ensures exact { SeesExactly (λ view. view) relay_address input.now result }
+    {
+        let mut cursor = Cursor::new(input);
+        let address = RpAddressView::read_at(&mut cursor)?;
+        Ok((address, cursor.place()))
+    }
+
+    /// Sees an address, or none, at a cursor.
+    #[tactic(auto, unfolding(crate::specs::RelayAddress::relay_address, crate::specs::RelayAddress::relay_part))]
+    pub fn read_at(input: &mut Cursor<'a>) -> Result<Option<RpAddressView<'a>>, Fault<FieldFault>>
+        ensures { Sees relay_address input.old result input.new }
+    {
+        let count = input.take_octet_up_to(11, FieldFault::AddressTooLong)?;
+        if count == 0 {
+            return Ok(None);
+        }
+        let kind = input.take_octet()?;
+        let octets = relay_digits_seen_at(input, count - 1)?;
+        Ok(Some(address_seen(kind, octets)))
+    }
+
+    /// 0 to 7; 1 is international.
+    pub fn type_of_number(&self) -> u8
+        ensures { result ≡ self.now.kind }
+    {
+        self.type_of_number
+    }
+
+    /// The numbering plan, 0 to 15; 1 is that of telephones.
+    pub fn plan(&self) -> u8
+        ensures { result ≡ self.now.plan }
+    {
+        self.plan
+    }
+
+    /// The address itself.
+    pub fn to_value(&self, alloc: Global) -> Result<RpAddress, AllocError>
+        ensures { IfOk result (λ address. address ≡ self.now) }
+    {
+        Ok(RpAddress {
+            type_of_number: self.type_of_number,
+            plan: self.plan,
+            digits: Digits::new(digits_from(alloc, self.octets, self.count)?),
+        })
+    }
+
+    /// The address itself, where there is one.
+    pub fn some_to_value(
+        alloc: Global,
+        view: &Option<RpAddressView<'_>>,
+    ) -> Result<Option<RpAddress>, AllocError>
+        ensures { IfOk result (λ address. address ≡ view.now) }
+    {
+        match view {
+            Some(view) => Ok(Some(view.to_value(alloc)?)),
+            None => Ok(None),
+        }
+    }
+}

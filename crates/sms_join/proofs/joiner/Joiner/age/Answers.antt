@@ -1,0 +1,31 @@
+-- The sets that stay are those that are not old.
+use Rattle.std.proofs.Common.{rules, ◌≡◌, List, sym, ap, subst, ◌∙◌}
+use Rattle.std.proofs.lemmas.Fn.{filter_same}
+use Rattle.std.specs.List.{filter}
+use Rattle.sms_join.specs.declared.key.Key.{Key}
+use Rattle.sms_join.specs.Aging.{aged}
+use Rattle.sms_join.specs.JoinerValue.{JoinerValue}
+use Rattle.sms_join.specs.OpenSet.{SetValue, AreOpen, all_pieces}
+use Rattle.sms_join.specs.Piece.{Piece}
+use Rattle.sms_join.specs.Same.{IsSame}
+use Rattle.sms_join.proofs.AgedSets.{stays, sets_age, still_open}
+use Rattle.sms_join.proofs.Offers.{same_refl}
+use Rattle.sms_join.proofs.Outcomes.{joiner_of}
+use Rattle.sms_join.proofs.joiner.Joiner.age.Goals as goal
+
+retained : (c : goal.After-retain) → c.retain.new.self.items ≡ filter (stays c.args.now) c.self.inside.sets.items
+retained c = filter_same _ _ _ (λ x b f' k. search rules) _ _ c.retain.ensures.filtered
+
+pub invariant_of-self : goal.invariant_of-self
+invariant_of-self c = subst AreOpen (sym (retained c)) (still_open (stays c.args.now) c.self.inside.sets.items c.self.invariant)
+
+pub returns-clause-holds : goal.returns-clause-holds
+unfolding aged
+returns-clause-holds c =
+    let ks : List Key = c.self.inside.finished.keys in
+    let ss : List SetValue = c.self.inside.sets.items in
+    let same : all_pieces c.retain.new.self.items ≡ (aged c.args.now (joiner_of ss ks)).kept =
+    ap all_pieces (retained c) ∙ sets_age c.args.now ss c.self.invariant in
+    subst (λ (v : JoinerValue). IsSame (joiner_of c.retain.new.self.items ks) (aged c.args.now v.holds)) c.self.view_is
+    (subst (λ (l : List Piece). IsSame (record { kept = l; finished = ks }) (aged c.args.now (joiner_of ss ks))) (sym same)
+    (same_refl (aged c.args.now (joiner_of ss ks))))

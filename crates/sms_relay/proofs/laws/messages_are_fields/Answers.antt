@@ -1,0 +1,9 @@
+use Rattle.sms_relay.specs.CpLaws.{cp_laws}
+use Rattle.sms_relay.specs.RpLaws.{rp_laws}
+use Rattle.sms_relay.proofs.laws.messages_are_fields.Goals as goal
+
+pub returns-clause-cp : goal.returns-clause-cp
+returns-clause-cp c = cp_laws
+
+pub returns-clause-rp : goal.returns-clause-rp
+returns-clause-rp c = rp_laws

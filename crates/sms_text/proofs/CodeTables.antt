@@ -1,0 +1,127 @@
+-- The tables by code and by character, compared with the lists of the definition, entry by entry.
+use Rattle.std.proofs.Common.{◌≡◌, ◌≢◌, ℕ, zero, suc, ◌<◌, ◌≤◌, Bool, true, false, not, cond, ltb, List, [], ◌∷◌, get_or, Option, Some, None, refl, sym, ap, subst, ◌∙◌, arith}
+use Rattle.std.specs.Prelude.{◌&&◌, ◌==◌}
+use Rattle.std.proofs.lemmas.Bool.{eqb-true, ltb-true, ltb-false, ne_eqb}
+use Rattle.sms_text.specs.Tables.{main, escape, code_of, character_of}
+use Rattle.sms_text.specs.TextOfSeptets.{plain_character}
+use Rattle.sms_text.specs.Same.{IsSame}
+
+abbrev pub characters : List ℕ
+characters = 64 ∷ 163 ∷ 36 ∷ 165 ∷ 232 ∷ 233 ∷ 249 ∷ 236 ∷ 242 ∷ 199 ∷ 10 ∷ 216 ∷ 248 ∷ 13 ∷ 197 ∷ 229 ∷ 916 ∷ 95 ∷ 934 ∷ 915 ∷ 923 ∷ 937 ∷ 928 ∷ 936 ∷ 931 ∷ 920 ∷ 926 ∷ 32 ∷ 198 ∷ 230 ∷ 223 ∷ 201 ∷ 32 ∷ 33 ∷ 34 ∷ 35 ∷ 164 ∷ 37 ∷ 38 ∷ 39 ∷ 40 ∷ 41 ∷ 42 ∷ 43 ∷ 44 ∷ 45 ∷ 46 ∷ 47 ∷ 48 ∷ 49 ∷ 50 ∷ 51 ∷ 52 ∷ 53 ∷ 54 ∷ 55 ∷ 56 ∷ 57 ∷ 58 ∷ 59 ∷ 60 ∷ 61 ∷ 62 ∷ 63 ∷ 161 ∷ 65 ∷ 66 ∷ 67 ∷ 68 ∷ 69 ∷ 70 ∷ 71 ∷ 72 ∷ 73 ∷ 74 ∷ 75 ∷ 76 ∷ 77 ∷ 78 ∷ 79 ∷ 80 ∷ 81 ∷ 82 ∷ 83 ∷ 84 ∷ 85 ∷ 86 ∷ 87 ∷ 88 ∷ 89 ∷ 90 ∷ 196 ∷ 214 ∷ 209 ∷ 220 ∷ 167 ∷ 191 ∷ 97 ∷ 98 ∷ 99 ∷ 100 ∷ 101 ∷ 102 ∷ 103 ∷ 104 ∷ 105 ∷ 106 ∷ 107 ∷ 108 ∷ 109 ∷ 110 ∷ 111 ∷ 112 ∷ 113 ∷ 114 ∷ 115 ∷ 116 ∷ 117 ∷ 118 ∷ 119 ∷ 120 ∷ 121 ∷ 122 ∷ 228 ∷ 246 ∷ 241 ∷ 252 ∷ 224 ∷ []
+
+abbrev pub same : List Bool
+same = false ∷ false ∷ false ∷ false ∷ false ∷ false ∷ false ∷ false ∷ false ∷ false ∷ true ∷ false ∷ false ∷ true ∷ false ∷ false ∷ false ∷ false ∷ false ∷ false ∷ false ∷ false ∷ false ∷ false ∷ false ∷ false ∷ false ∷ false ∷ false ∷ false ∷ false ∷ false ∷ true ∷ true ∷ true ∷ true ∷ false ∷ true ∷ true ∷ true ∷ true ∷ true ∷ true ∷ true ∷ true ∷ true ∷ true ∷ true ∷ true ∷ true ∷ true ∷ true ∷ true ∷ true ∷ true ∷ true ∷ true ∷ true ∷ true ∷ true ∷ true ∷ true ∷ true ∷ true ∷ false ∷ true ∷ true ∷ true ∷ true ∷ true ∷ true ∷ true ∷ true ∷ true ∷ true ∷ true ∷ true ∷ true ∷ true ∷ true ∷ true ∷ true ∷ true ∷ true ∷ true ∷ true ∷ true ∷ true ∷ true ∷ true ∷ true ∷ false ∷ false ∷ false ∷ false ∷ false ∷ false ∷ true ∷ true ∷ true ∷ true ∷ true ∷ true ∷ true ∷ true ∷ true ∷ true ∷ true ∷ true ∷ true ∷ true ∷ true ∷ true ∷ true ∷ true ∷ true ∷ true ∷ true ∷ true ∷ true ∷ true ∷ true ∷ true ∷ false ∷ false ∷ false ∷ false ∷ false ∷ false ∷ false ∷ false ∷ false ∷ false ∷ false ∷ false ∷ false ∷ false ∷ false ∷ false ∷ false ∷ false ∷ false ∷ false ∷ false ∷ false ∷ false ∷ false ∷ false ∷ false ∷ false ∷ false ∷ false ∷ false ∷ false ∷ false ∷ false ∷ false ∷ false ∷ false ∷ false ∷ false ∷ false ∷ false ∷ false ∷ false ∷ false ∷ false ∷ false ∷ false ∷ false ∷ false ∷ false ∷ false ∷ false ∷ false ∷ false ∷ false ∷ false ∷ false ∷ false ∷ false ∷ false ∷ false ∷ false ∷ false ∷ false ∷ false ∷ false ∷ false ∷ false ∷ false ∷ false ∷ false ∷ false ∷ false ∷ false ∷ false ∷ false ∷ false ∷ false ∷ false ∷ false ∷ false ∷ false ∷ false ∷ false ∷ false ∷ false ∷ false ∷ false ∷ false ∷ false ∷ false ∷ false ∷ false ∷ false ∷ false ∷ false ∷ false ∷ false ∷ false ∷ false ∷ false ∷ false ∷ false ∷ false ∷ false ∷ false ∷ false ∷ false ∷ false ∷ false ∷ false ∷ false ∷ false ∷ false ∷ false ∷ false ∷ false ∷ false ∷ false ∷ false ∷ false ∷ false ∷ false ∷ false ∷ false ∷ false ∷ false ∷ false ∷ false ∷ false ∷ false ∷ false ∷ false ∷ false ∷ []
+
+abbrev pub codes : List ℕ
+codes = 255 ∷ 255 ∷ 255 ∷ 255 ∷ 255 ∷ 255 ∷ 255 ∷ 255 ∷ 255 ∷ 255 ∷ 10 ∷ 255 ∷ 255 ∷ 13 ∷ 255 ∷ 255 ∷ 255 ∷ 255 ∷ 255 ∷ 255 ∷ 255 ∷ 255 ∷ 255 ∷ 255 ∷ 255 ∷ 255 ∷ 255 ∷ 255 ∷ 255 ∷ 255 ∷ 255 ∷ 255 ∷ 32 ∷ 33 ∷ 34 ∷ 35 ∷ 2 ∷ 37 ∷ 38 ∷ 39 ∷ 40 ∷ 41 ∷ 42 ∷ 43 ∷ 44 ∷ 45 ∷ 46 ∷ 47 ∷ 48 ∷ 49 ∷ 50 ∷ 51 ∷ 52 ∷ 53 ∷ 54 ∷ 55 ∷ 56 ∷ 57 ∷ 58 ∷ 59 ∷ 60 ∷ 61 ∷ 62 ∷ 63 ∷ 0 ∷ 65 ∷ 66 ∷ 67 ∷ 68 ∷ 69 ∷ 70 ∷ 71 ∷ 72 ∷ 73 ∷ 74 ∷ 75 ∷ 76 ∷ 77 ∷ 78 ∷ 79 ∷ 80 ∷ 81 ∷ 82 ∷ 83 ∷ 84 ∷ 85 ∷ 86 ∷ 87 ∷ 88 ∷ 89 ∷ 90 ∷ 255 ∷ 255 ∷ 255 ∷ 255 ∷ 17 ∷ 255 ∷ 97 ∷ 98 ∷ 99 ∷ 100 ∷ 101 ∷ 102 ∷ 103 ∷ 104 ∷ 105 ∷ 106 ∷ 107 ∷ 108 ∷ 109 ∷ 110 ∷ 111 ∷ 112 ∷ 113 ∷ 114 ∷ 115 ∷ 116 ∷ 117 ∷ 118 ∷ 119 ∷ 120 ∷ 121 ∷ 122 ∷ 255 ∷ 255 ∷ 255 ∷ 255 ∷ 255 ∷ 255 ∷ 255 ∷ 255 ∷ 255 ∷ 255 ∷ 255 ∷ 255 ∷ 255 ∷ 255 ∷ 255 ∷ 255 ∷ 255 ∷ 255 ∷ 255 ∷ 255 ∷ 255 ∷ 255 ∷ 255 ∷ 255 ∷ 255 ∷ 255 ∷ 255 ∷ 255 ∷ 255 ∷ 255 ∷ 255 ∷ 255 ∷ 255 ∷ 255 ∷ 255 ∷ 255 ∷ 255 ∷ 255 ∷ 64 ∷ 255 ∷ 1 ∷ 36 ∷ 3 ∷ 255 ∷ 95 ∷ 255 ∷ 255 ∷ 255 ∷ 255 ∷ 255 ∷ 255 ∷ 255 ∷ 255 ∷ 255 ∷ 255 ∷ 255 ∷ 255 ∷ 255 ∷ 255 ∷ 255 ∷ 255 ∷ 255 ∷ 255 ∷ 255 ∷ 255 ∷ 255 ∷ 255 ∷ 255 ∷ 96 ∷ 255 ∷ 255 ∷ 255 ∷ 255 ∷ 91 ∷ 14 ∷ 28 ∷ 9 ∷ 255 ∷ 31 ∷ 255 ∷ 255 ∷ 255 ∷ 255 ∷ 255 ∷ 255 ∷ 255 ∷ 93 ∷ 255 ∷ 255 ∷ 255 ∷ 255 ∷ 92 ∷ 255 ∷ 11 ∷ 255 ∷ 255 ∷ 255 ∷ 94 ∷ 255 ∷ 255 ∷ 30 ∷ 127 ∷ 255 ∷ 255 ∷ 255 ∷ 123 ∷ 15 ∷ 29 ∷ 255 ∷ 4 ∷ 5 ∷ 255 ∷ 255 ∷ 7 ∷ 255 ∷ 255 ∷ 255 ∷ 255 ∷ 125 ∷ 8 ∷ 255 ∷ 255 ∷ 255 ∷ 124 ∷ 255 ∷ 12 ∷ 6 ∷ 255 ∷ 255 ∷ 126 ∷ 255 ∷ 255 ∷ 255 ∷ []
+
+abbrev pub greek : List (ℕ × ℕ)
+greek = (16, 916) ∷ (18, 934) ∷ (19, 915) ∷ (20, 923) ∷ (21, 937) ∷ (22, 928) ∷ (23, 936) ∷ (24, 931) ∷ (25, 920) ∷ (26, 926) ∷ []
+
+-- ---- a test of every number below a bound
+
+abbrev pub passes_below : (ℕ → Bool) → ℕ → Bool
+passes_below test zero = true
+passes_below test (suc n) = test n && passes_below test n
+
+pub both : (a b : Bool) → (a && b) ≡ true → (a ≡ true) × (b ≡ true)
+both true true e = (refl, refl)
+both true false e = absurd cc
+both false b e = absurd cc
+
+last_or_before : (test : ℕ → Bool) (n k : ℕ) (b : Bool) → ltb k n ≡ b → test n ≡ true → (k < n → test k ≡ true) → k < suc n → test k ≡ true
+last_or_before test n k true e here before lt = before (ltb-true k n e)
+last_or_before test n k false e here before lt = let last : k ≡ n = omega (arith, ltb-false k n e) in subst (λ (m : ℕ). test m ≡ true) (sym last) here
+
+pub each_passes : (test : ℕ → Bool) (n k : ℕ) → passes_below test n ≡ true → k < n → test k ≡ true
+each_passes test zero k all lt = absurd (omega arith)
+each_passes test (suc n) k all lt = last_or_before test n k (ltb k n) refl (both (test n) (passes_below test n) all).0 (λ (less : k < n). each_passes test n k (both (test n) (passes_below test n) all).1 less) lt
+
+-- ---- the characters by code
+
+abbrev plain_test : ℕ → Bool
+plain_test code = get_or characters code 0 == plain_character code
+
+pub plain_is : (code : ℕ) → code < 128 → get_or characters code 0 ≡ plain_character code
+unfolding character_of
+plain_is code small = eqb-true (get_or characters code 0) (plain_character code) (each_passes plain_test 128 code refl small)
+
+-- ---- the numbers that are the code of their own character
+
+abbrev same_option : Option ℕ → ℕ → Bool
+same_option None n = false
+same_option (Some m) n = m == n
+
+some_is : (o : Option ℕ) (n : ℕ) → same_option o n ≡ true → o ≡ Some n
+some_is None n e = absurd cc
+some_is (Some m) n e = ap (λ (x : ℕ). let r : Option ℕ = Some x in r) (eqb-true m n e)
+
+abbrev same_test : ℕ → Bool
+same_test c = cond (get_or same c false) (ltb c 128 && (plain_character c == c && (same_option (code_of main c) c && not (c == escape)))) true
+
+same_parts : (c : ℕ) (b : Bool) → get_or same c false ≡ b → b ≡ true → cond b (ltb c 128 && (plain_character c == c && (same_option (code_of main c) c && not (c == escape)))) true ≡ true → IsSame c
+same_parts c false is e t = absurd cc
+same_parts c true is e t =
+    let h = both (ltb c 128) _ t in
+    let i = both (plain_character c == c) _ h.1 in
+    let j = both (same_option (code_of main c) c) _ i.1 in
+    record { small = ltb-true c 128 h.0; plain = eqb-true (plain_character c) c i.0; coded = some_is (code_of main c) c j.0; other = not_true (c == escape) j.1 }
+  where
+    not_true : (b : Bool) → not b ≡ true → b ≡ false
+    not_true true e = absurd cc
+    not_true false e = refl
+
+pub same_is : (c : ℕ) → c < 256 → get_or same c false ≡ true → IsSame c
+unfolding character_of code_of
+same_is c small is = same_parts c (get_or same c false) refl is (each_passes same_test 256 c refl small)
+
+-- ---- the codes by character
+
+abbrev code_or_none : ℕ → Option ℕ
+code_or_none code = cond (code == 255) None (Some code)
+
+abbrev agrees : Option ℕ → Option ℕ → Bool
+agrees None None = true
+agrees (Some m) (Some n) = m == n
+agrees _ _ = false
+
+agree : (o p : Option ℕ) → agrees o p ≡ true → o ≡ p
+agree None None e = refl
+agree None (Some n) e = absurd cc
+agree (Some m) None e = absurd cc
+agree (Some m) (Some n) e = ap (λ (x : ℕ). let r : Option ℕ = Some x in r) (eqb-true m n e)
+
+abbrev code_test : ℕ → Bool
+code_test c = agrees (code_or_none (get_or codes c 0)) (code_of main c)
+
+pub code_is : (c : ℕ) → c < 256 → code_or_none (get_or codes c 0) ≡ code_of main c
+unfolding code_of
+code_is c small = agree (code_or_none (get_or codes c 0)) (code_of main c) (each_passes code_test 256 c refl small)
+
+-- ---- characters from U+0100 on
+
+abbrev high : List (ℕ × ℕ) → List (ℕ × ℕ)
+high [] = []
+high (sign ∷ others) = cond (ltb sign.1 256) (high others) (sign ∷ high others)
+
+high_one : (sign : ℕ × ℕ) (others : List (ℕ × ℕ)) (c : ℕ) (b : Bool) → ltb sign.1 256 ≡ b → 256 ≤ c → code_of others c ≡ code_of (high others) c → code_of (sign ∷ others) c ≡ code_of (cond b (high others) (sign ∷ high others)) c
+unfolding code_of
+high_one sign others c true low big rest =
+    let other : (sign.1 == c) ≡ false = ne_eqb sign.1 c (λ same_one. omega (arith, ltb-true sign.1 256 low, same_one)) in
+    rw other rest
+high_one sign others c false low big rest = ap (cond (sign.1 == c) (Some sign.0)) rest
+
+high_enough : (table : List (ℕ × ℕ)) (c : ℕ) → 256 ≤ c → code_of table c ≡ code_of (high table) c
+high_enough [] c big = refl
+high_enough (sign ∷ others) c big = high_one sign others c (ltb sign.1 256) refl big (high_enough others c big)
+
+pub greek_is : (c : ℕ) → 256 ≤ c → code_of greek c ≡ code_of main c
+greek_is c big = sym (high_enough main c big)
+
+-- ---- what the code does with an entry
+
+pub coded_none : (c : ℕ) → c < 256 → get_or codes c 0 ≡ 255 → None ≡ code_of main c
+coded_none c small is = ap code_or_none (sym is) ∙ code_is c small
+
+pub coded_some : (c : ℕ) → c < 256 → get_or codes c 0 ≢ 255 → Some (get_or codes c 0) ≡ code_of main c
+coded_some c small other = ap (λ (b : Bool). cond b None (Some (get_or codes c 0))) (sym (ne_eqb (get_or codes c 0) 255 other)) ∙ code_is c small

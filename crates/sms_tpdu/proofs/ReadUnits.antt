@@ -1,0 +1,197 @@
+-- What is read of octets has a spelling: units, and headers.
+use Rattle.std.proofs.Common.{◌≡◌, ℕ, suc, ◌+◌, ◌-◌, ◌<◌, ◌≤◌, Bool, true, false, cond, leb, List, [], ◌∷◌, length, Option, Some, None, Result, Ok, Err, refl, sym, subst, arith}
+use Rattle.std.specs.Prelude.{IfSome}
+use Rattle.std.proofs.lemmas.Bool.{leb-true}
+use Rattle.sms_text.specs.Octets.{IsOctets}
+use Rattle.sms_field.specs.Field.{Field, octet, octet_by, octets_of, map_reason}
+use Rattle.sms_field.specs.Address.{address}
+use Rattle.sms_field.specs.AddressValue.{HasSpelling}
+use Rattle.sms_field.specs.Coding.{alphabet_at}
+use Rattle.sms_field.specs.ReadAddressLaws.{has_octet, has_stamp, has_up_to, has_address}
+use Rattle.sms_field.specs.ReadValues.{Has, Any}
+use Rattle.sms_field.specs.ReadValueLaws.{has_join}
+use Rattle.sms_field.specs.Stamp.{IsStamp}
+use Rattle.sms_field.specs.declared.coding.Alphabet.{Alphabet}
+use Rattle.sms_field.specs.declared.coding.Alphabet.TheVariants.{Gsm7, EightBit, Ucs2, Compressed}
+use Rattle.sms_tpdu.specs.Deliver.{deliver, IsDeliverable}
+use Rattle.sms_tpdu.specs.Report.{Parts, report_length, report_data, IsReportData, part_if, report_alphabet, parts, AreParts}
+use Rattle.sms_tpdu.specs.Report.DeliverAck.{deliver_ack, IsDeliverAck}
+use Rattle.sms_tpdu.specs.Report.DeliverError.{deliver_error, IsDeliverError}
+use Rattle.sms_tpdu.specs.Report.SubmitAck.{submit_ack, IsSubmitAck}
+use Rattle.sms_tpdu.specs.Report.SubmitError.{submit_error, IsSubmitError}
+use Rattle.sms_tpdu.specs.Submit.{submit, IsSubmittable}
+use Rattle.sms_tpdu.specs.Submit.ValidityPeriod.{validity, IsInRange}
+use Rattle.sms_tpdu.specs.UserData.{FitsAlphabet, BodyFits, body_of, length_with_header, header_length, user_data}
+use Rattle.sms_tpdu.specs.UserData.Header.{IsHeader, header}
+use Rattle.sms_tpdu.specs.UserData.Lengths.{greatest_length, octets_of_length, length_of_header}
+use Rattle.sms_tpdu.specs.declared.fault.UnitFault.TheVariants.{Short, DataTooLong, HeaderTooLong}
+use Rattle.sms_tpdu.specs.declared.report.indicator.Indicator.{Indicator}
+use Rattle.sms_tpdu.specs.declared.submit.validity.ValidityFormat.{ValidityFormat}
+use Rattle.sms_tpdu.specs.declared.submit.validity.ValidityFormat.TheVariants.{Absent, Relative, Enhanced, Absolute}
+use Rattle.sms_tpdu.proofs.BodyFits.{body_fits, header_small, no_room}
+
+record IsChosen {A : Type 0} (b : Bool) (x v : A) : Type 0 where
+  tested : b ≡ true
+  value : v ≡ x
+
+chosen : {A W : Type 0} (b : Bool) (x v : A) (why : W) → cond b (Ok x) (Err why) ≡ Ok v → IsChosen b x v
+chosen true x v why e = record { tested = refl; value = cc }
+chosen false x v why e = absurd cc
+
+both_chosen : {A W : Type 0} (a b : Bool) (x v : A) (why other : W) → cond a (cond b (Ok x) (Err why)) (Err other) ≡ Ok v → IsChosen a x v
+both_chosen true b x v why other e = let c = chosen b x v why e in record { tested = refl; value = c.value }
+both_chosen false b x v why other e = absurd cc
+
+abbrev AreCounted : ℕ → List ℕ → Type 0
+AreCounted n octets = (length octets ≡ n) × IsOctets octets
+
+has_counted : {W : Type 0} (short : W) (n : ℕ) → Has (AreCounted n) (octets_of short n)
+has_counted short n v octets rest are r = (r.1, subst IsOctets r.0 are)
+
+-- ---- user data
+
+abbrev IsLength : Alphabet → ℕ → Type 0
+IsLength alphabet count = count ≤ greatest_length alphabet
+
+has_length : (alphabet : Alphabet) → Has (IsLength alphabet) (octet_by Short (length_with_header alphabet))
+has_length alphabet v octets rest are r =
+    let c = both_chosen (leb r.0 (greatest_length alphabet)) (leb (length_of_header alphabet 1) r.0) r.0 v HeaderTooLong DataTooLong r.2 in
+    let few : r.0 ≤ greatest_length alphabet = leb-true r.0 (greatest_length alphabet) c.tested in
+    subst (IsLength alphabet) (sym c.value) few
+
+abbrev HasRoom : Alphabet → ℕ → ℕ → Type 0
+HasRoom alphabet count size = length_of_header alphabet (size + 1) ≤ count
+
+has_size : (alphabet : Alphabet) (count : ℕ) → Has (HasRoom alphabet count) (octet_by Short (header_length alphabet count))
+has_size alphabet count v octets rest are r =
+    let c = chosen (leb (length_of_header alphabet (r.0 + 1)) count) r.0 v HeaderTooLong r.2 in
+    let room : HasRoom alphabet count r.0 = leb-true (length_of_header alphabet (r.0 + 1)) count c.tested in
+    subst (HasRoom alphabet count) (sym c.value) room
+
+has_user : (headed : Bool) (alphabet : Alphabet) → Has (FitsAlphabet alphabet) (user_data headed alphabet)
+unfolding user_data
+has_user false alphabet =
+    has_join (IsLength alphabet) (FitsAlphabet alphabet) _ _ (has_up_to Short (greatest_length alphabet) DataTooLong) (λ count few.
+    has_join (AreCounted (octets_of_length alphabet count)) (FitsAlphabet alphabet) _ _ (has_counted Short (octets_of_length alphabet count)) (λ octets h.
+    λ v others rest are r. subst (FitsAlphabet alphabet) (sym r.0) (tt, body_fits alphabet 0 count octets few (no_room alphabet count) (omega (arith, h.0)) h.1)))
+has_user true alphabet =
+    has_join (IsLength alphabet) (FitsAlphabet alphabet) _ _ (has_length alphabet) (λ count few.
+    has_join (HasRoom alphabet count) (FitsAlphabet alphabet) _ _ (has_size alphabet count) (λ size room.
+    has_join (AreCounted size) (FitsAlphabet alphabet) _ _ (has_counted Short size) (λ octets h.
+    has_join (AreCounted (octets_of_length alphabet count - (size + 1))) (FitsAlphabet alphabet) _ _ (has_counted Short (octets_of_length alphabet count - (size + 1))) (λ written k.
+    λ v others rest are r.
+    let small : length octets < 256 = subst (λ (n : ℕ). n < 256) (sym h.0) (header_small alphabet size count few room) in
+    let taken : size + 1 ≡ suc (length octets) = omega (arith, h.0) in
+    let fits : BodyFits alphabet (suc (length octets)) (body_of alphabet (size + 1) count written) = subst (λ (n : ℕ). BodyFits alphabet n (body_of alphabet (size + 1) count written)) taken (body_fits alphabet (size + 1) count written few room k.0 k.1) in
+    subst (FitsAlphabet alphabet) (sym r.0) ((small, h.1), fits)))))
+
+-- ---- messages
+
+has_validity : (format : ValidityFormat) → Has IsInRange (validity format)
+unfolding validity
+has_validity Absent = λ v octets rest are r. subst IsInRange (sym r.0) tt
+has_validity Relative = has_join (λ octet. octet < 256) IsInRange _ _ (has_octet Short) (λ value h. λ v octets rest are r. subst IsInRange (sym r.0) h)
+has_validity Enhanced = has_join IsStamp IsInRange _ _ (has_stamp Short) (λ values h. λ v octets rest are r. subst IsInRange (sym r.0) h)
+has_validity Absolute = has_join IsStamp IsInRange _ _ (has_stamp Short) (λ end h. λ v octets rest are r. subst IsInRange (sym r.0) h)
+
+pub has_submit : Has IsSubmittable submit
+unfolding submit
+has_submit =
+    has_join Any IsSubmittable _ _ (λ v octets rest are r. tt) (λ flags _.
+    has_join (λ octet. octet < 256) IsSubmittable _ _ (has_octet Short) (λ reference small.
+    has_join HasSpelling IsSubmittable _ _ has_address (λ target spelled.
+    has_join (λ octet. octet < 256) IsSubmittable _ _ (has_octet Short) (λ pid pid_small.
+    has_join (λ octet. octet < 256) IsSubmittable _ _ (has_octet Short) (λ dcs dcs_small.
+    has_join IsInRange IsSubmittable _ _ (has_validity flags.format) (λ period in_range.
+    has_join (FitsAlphabet (alphabet_at dcs)) IsSubmittable _ _ (has_user flags.header (alphabet_at dcs)) (λ user fits.
+    λ v octets rest are r. subst IsSubmittable (sym r.0) (record { validity = in_range; reference = small; target = spelled; pid = pid_small; dcs = dcs_small; user = fits }))))))))
+
+pub has_deliver : Has IsDeliverable deliver
+unfolding deliver
+has_deliver =
+    has_join Any IsDeliverable _ _ (λ v octets rest are r. tt) (λ flags _.
+    has_join HasSpelling IsDeliverable _ _ has_address (λ origin spelled.
+    has_join (λ octet. octet < 256) IsDeliverable _ _ (has_octet Short) (λ pid pid_small.
+    has_join (λ octet. octet < 256) IsDeliverable _ _ (has_octet Short) (λ dcs dcs_small.
+    has_join IsStamp IsDeliverable _ _ (has_stamp Short) (λ stamp is_stamp.
+    has_join (FitsAlphabet (alphabet_at dcs)) IsDeliverable _ _ (has_user flags.header (alphabet_at dcs)) (λ user fits.
+    λ v octets rest are r. subst IsDeliverable (sym r.0) (record { origin = spelled; pid = pid_small; dcs = dcs_small; stamp = is_stamp; user = fits })))))))
+
+-- ---- reports
+
+few_counted : (alphabet : Alphabet) (count : ℕ) → octets_of_length alphabet count ≤ 159 → count < 256
+few_counted Gsm7 count h = omega arith
+few_counted EightBit count h = omega arith
+few_counted Ucs2 count h = omega arith
+few_counted Compressed count h = omega arith
+
+abbrev AreFew : Alphabet → ℕ → Type 0
+AreFew alphabet count = octets_of_length alphabet count ≤ 159
+
+has_report_length : (alphabet : Alphabet) → Has (AreFew alphabet) (octet_by Short (report_length alphabet))
+has_report_length alphabet v octets rest are r =
+    let c = chosen (leb (octets_of_length alphabet r.0) 159) r.0 v DataTooLong r.2 in
+    let few : AreFew alphabet r.0 = leb-true (octets_of_length alphabet r.0) 159 c.tested in
+    subst (AreFew alphabet) (sym c.value) few
+
+has_report_data : (alphabet : Alphabet) → Has (IsReportData alphabet) (report_data alphabet)
+unfolding report_data
+has_report_data alphabet =
+    has_join (AreFew alphabet) (IsReportData alphabet) _ _ (has_report_length alphabet) (λ count few.
+    has_join (AreCounted (octets_of_length alphabet count)) (IsReportData alphabet) _ _ (has_counted Short (octets_of_length alphabet count)) (λ octets h.
+    λ v others rest are r. subst (IsReportData alphabet) (sym r.0) (record { small = few_counted alphabet count few; counted = h.0; few = subst (λ (n : ℕ). n ≤ 159) (sym h.0) few; octets = h.1 })))
+
+has_part : {V W : Type 0} (P : V → Type 0) (there : Bool) (part : Field V W) → Has P part → Has (λ (o : Option V). IfSome o P) (part_if there part)
+has_part P false part h = λ v octets rest are r. subst (λ o. IfSome o P) (sym r.0) tt
+has_part P true part h = has_join P (λ o. IfSome o P) _ _ h (λ value p. λ v octets rest are r. subst (λ o. IfSome o P) (sym r.0) p)
+
+abbrev IsSmall : Option ℕ → Type 0
+IsSmall o = IfSome o (λ n. n < 256)
+
+has_parts : (there : Indicator) → Has AreParts (parts there)
+unfolding parts
+has_parts there =
+    has_join IsSmall AreParts _ _ (has_part (λ n. n < 256) there.pid (octet Short) (has_octet Short)) (λ pid p.
+    has_join IsSmall AreParts _ _ (has_part (λ n. n < 256) there.dcs (octet Short) (has_octet Short)) (λ dcs d.
+    has_join (λ o. IfSome o (IsReportData (report_alphabet dcs))) AreParts _ _ (has_part (IsReportData (report_alphabet dcs)) there.user (report_data (report_alphabet dcs)) (has_report_data (report_alphabet dcs))) (λ user u.
+    λ v octets rest are r. subst AreParts (sym r.0) (record { pid = p; dcs = d; user = u }))))
+
+pub has_submit_ack : Has IsSubmitAck submit_ack
+unfolding submit_ack
+has_submit_ack =
+    has_join Any IsSubmitAck _ _ (λ v octets rest are r. tt) (λ headed _.
+    has_join Any IsSubmitAck _ _ (λ v octets rest are r. tt) (λ there _.
+    has_join IsStamp IsSubmitAck _ _ (has_stamp Short) (λ stamp is_stamp.
+    has_join AreParts IsSubmitAck _ _ (has_parts there) (λ those fits.
+    λ v octets rest are r. subst IsSubmitAck (sym r.0) (record { stamp = is_stamp; parts = fits })))))
+
+pub has_submit_error : Has IsSubmitError submit_error
+unfolding submit_error
+has_submit_error =
+    has_join Any IsSubmitError _ _ (λ v octets rest are r. tt) (λ headed _.
+    has_join (λ octet. octet < 256) IsSubmitError _ _ (has_octet Short) (λ cause small.
+    has_join Any IsSubmitError _ _ (λ v octets rest are r. tt) (λ there _.
+    has_join IsStamp IsSubmitError _ _ (has_stamp Short) (λ stamp is_stamp.
+    has_join AreParts IsSubmitError _ _ (has_parts there) (λ those fits.
+    λ v octets rest are r. subst IsSubmitError (sym r.0) (record { cause = small; stamp = is_stamp; parts = fits }))))))
+
+pub has_deliver_ack : Has IsDeliverAck deliver_ack
+unfolding deliver_ack
+has_deliver_ack =
+    has_join Any IsDeliverAck _ _ (λ v octets rest are r. tt) (λ headed _.
+    has_join Any IsDeliverAck _ _ (λ v octets rest are r. tt) (λ there _.
+    has_join AreParts IsDeliverAck _ _ (has_parts there) (λ those fits.
+    λ v octets rest are r. subst IsDeliverAck (sym r.0) (record { parts = fits }))))
+
+pub has_deliver_error : Has IsDeliverError deliver_error
+unfolding deliver_error
+has_deliver_error =
+    has_join Any IsDeliverError _ _ (λ v octets rest are r. tt) (λ headed _.
+    has_join (λ octet. octet < 256) IsDeliverError _ _ (has_octet Short) (λ cause small.
+    has_join Any IsDeliverError _ _ (λ v octets rest are r. tt) (λ there _.
+    has_join AreParts IsDeliverError _ _ (has_parts there) (λ those fits.
+    λ v octets rest are r. subst IsDeliverError (sym r.0) (record { cause = small; parts = fits })))))
+
+pub has_header : Has IsHeader header
+unfolding header
+has_header = has_join (λ size. size ≤ 139) IsHeader _ _ (has_up_to Short 139 HeaderTooLong) (λ size few. λ v octets rest are r. (subst (λ (n : ℕ). n ≤ 139) (sym r.1) few, subst IsOctets r.0 are))

@@ -1,0 +1,20 @@
+-- The first octet of a report (3GPP TS 23.040, 9.2.2.1a and 9.2.2.2a): its type, and whether the data begin with a header.
+use Rattle.std.specs.Prelude.{ℕ, ◌+◌, ◌||◌, Bool, true, not, Result, Ok, Err, if◌then◌else◌}
+use Rattle.sms_field.specs.Bit.{bit, weight}
+use Rattle.sms_tpdu.specs.declared.fault.UnitFault.{UnitFault}
+use Rattle.sms_tpdu.specs.declared.fault.UnitFault.TheVariants.{WrongType}
+
+-- of a report on a submission bits 1 and 0 are 01; bit 6 UDHI; the others are free
+abbrev pub submit_report : ℕ → Result Bool UnitFault
+submit_report octet = if bit 1 octet || not (bit 0 octet) then Err WrongType else Ok (bit 6 octet)
+
+-- of a report on a delivery they are 00
+abbrev pub deliver_report : ℕ → Result Bool UnitFault
+deliver_report octet = if bit 0 octet || bit 1 octet then Err WrongType else Ok (bit 6 octet)
+
+-- as they are written: the free bits are 0
+abbrev pub submit_report_octet : Bool → ℕ
+submit_report_octet header = weight 0 true + weight 6 header
+
+abbrev pub deliver_report_octet : Bool → ℕ
+deliver_report_octet header = weight 6 header

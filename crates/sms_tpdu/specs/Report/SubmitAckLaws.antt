@@ -1,0 +1,44 @@
+-- An SMS-SUBMIT-REPORT under an acknowledgement is a lawful field, and what is written is read back.
+use Rattle.std.proofs.Common.{◌≡◌, ℕ, List, [], ◌∷◌, ◌++◌, length, refl, sym, subst}
+use Rattle.sms_text.specs.Octets.{IsOctets}
+use Rattle.sms_field.specs.Field.{IsLawful}
+use Rattle.sms_tpdu.specs.UnitLaws.{AreUnitLaws, laws_by}
+use Rattle.sms_field.specs.JoinLaws.{join_lawful}
+use Rattle.sms_field.specs.OctetLists.{octets-append}
+use Rattle.sms_field.specs.SingleLaws.{always_lawful, octet_by_self, octets_of_self, octets_of_lawful}
+use Rattle.sms_tpdu.specs.Report.Octet.{submit_report, submit_report_octet}
+use Rattle.sms_tpdu.specs.Report.OctetLaws.{submit_report_lawful, submit_report_again}
+use Rattle.sms_tpdu.specs.Report.ParameterIndicator.{indicator_octet}
+use Rattle.sms_tpdu.specs.Report.ParameterIndicatorLaws.{indicator_self, indicator_lawful, indicator_is, indicator_again}
+use Rattle.sms_tpdu.specs.Report.{indicator_of, parts_octets}
+use Rattle.sms_tpdu.specs.Report.Laws.{parts_self, parts_lawful, parts_again, parts_are_octets}
+use Rattle.sms_field.specs.JoinedReading.{joined, ended}
+use Rattle.sms_tpdu.specs.Report.SubmitAck.{SubmitAckValue, parts_in, IsSubmitAck, submit_ack, submit_ack_octets, SpellsSubmitAck}
+use Rattle.sms_tpdu.specs.declared.fault.UnitFault.TheVariants.{Short}
+
+pub submit_ack_lawful : IsLawful Short submit_ack
+unfolding submit_ack
+submit_ack_lawful =
+    join_lawful _ _ Short (octet_by_self Short submit_report) submit_report_lawful (λ header _ _ _.
+    join_lawful _ _ Short indicator_self indicator_lawful (λ there _ _ _.
+    join_lawful _ _ Short (octets_of_self Short 7) (octets_of_lawful Short 7) (λ stamp _ _ _.
+    join_lawful _ _ Short (parts_self there) (parts_lawful there) (λ those _ _ _.
+    always_lawful Short _))))
+
+-- ---- what is written
+
+submit_ack_again : (r : SubmitAckValue) (rest : List ℕ) → IsSubmitAck r → submit_ack.reads r (submit_ack_octets r) rest
+unfolding submit_ack
+submit_ack_again r rest fits =
+    let there = indicator_of (parts_in r) in
+    joined _ _ r.has_header r (submit_report_octet r.has_header ∷ []) _ rest (submit_report_octet r.has_header, refl, (submit_report_again r.has_header).again) (
+    joined _ _ there r (indicator_octet there ∷ []) _ rest (indicator_again there _) (
+    joined _ _ r.stamp r r.stamp _ rest (refl, fits.stamp.0) (
+    ended _ _ (parts_in r) r (parts_octets (parts_in r)) rest (parts_again (parts_in r) rest fits.parts)
+    (refl, refl))))
+
+submit_ack_is_octets : (r : SubmitAckValue) → IsSubmitAck r → IsOctets (submit_ack_octets r)
+submit_ack_is_octets r fits = ((submit_report_again r.has_header).small, ((indicator_is (indicator_of (parts_in r))).small, octets-append r.stamp _ fits.stamp.1 (parts_are_octets (parts_in r) fits.parts)))
+
+pub submit_ack_laws : AreUnitLaws Short submit_ack SpellsSubmitAck (λ _ _. Unit {0})
+submit_ack_laws = laws_by Short submit_ack IsSubmitAck submit_ack_octets submit_ack_lawful submit_ack_is_octets submit_ack_again

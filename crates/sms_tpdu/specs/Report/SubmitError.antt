@@ -1,0 +1,49 @@
+-- SMS-SUBMIT-REPORT under an error of the relay: the submission was refused (3GPP TS 23.040, 9.2.2.2a).
+use Rattle.std.specs.Prelude.{◌≡◌, ℕ, ◌<◌, Bool, List, ◌∷◌, ◌++◌, Option}
+use Rattle.sms_field.specs.Field.{Field, ◌>>=◌, always, octet, octet_by}
+use Rattle.sms_field.specs.Stamp.{IsStamp}
+use Rattle.sms_field.specs.Stamp as time
+use Rattle.sms_tpdu.specs.Report.Octet.{submit_report, submit_report_octet}
+use Rattle.sms_tpdu.specs.Report.ParameterIndicator.{indicator, indicator_octet}
+use Rattle.sms_tpdu.specs.Report.{Parts, parts, indicator_of, AreParts, parts_octets}
+use Rattle.sms_tpdu.specs.declared.report.ReportData.{ReportData}
+use Rattle.sms_tpdu.specs.declared.fault.UnitFault.{UnitFault}
+use Rattle.sms_tpdu.specs.declared.fault.UnitFault.TheVariants.{Short}
+
+pub record SubmitErrorValue : Type 0 where
+  pub has_header : Bool
+  pub cause : ℕ
+  pub stamp : List ℕ
+  pub pid : Option ℕ
+  pub dcs : Option ℕ
+  pub user : Option ReportData
+
+abbrev pub parts_in : SubmitErrorValue → Parts
+parts_in r = record { pid = r.pid; dcs = r.dcs; user = r.user }
+
+-- what has a spelling
+pub record IsSubmitError (r : SubmitErrorValue) : Type 0 where
+  pub cause : r.cause < 256
+  pub stamp : IsStamp r.stamp
+  pub parts : AreParts (parts_in r)
+
+unfoldable pub submit_error : Field SubmitErrorValue UnitFault
+submit_error = do
+  -- TP-MTI and TP-UDHI; another TP-MTI: WrongType
+  header ← octet_by Short submit_report
+  -- TP-FCS
+  cause ← octet Short
+  -- TP-PI
+  there ← indicator
+  -- TP-SCTS
+  stamp ← time.stamp Short
+  -- TP-PID, TP-DCS, TP-UDL and TP-UD, where they are there
+  those ← parts there
+  always (record { has_header = header; cause = cause; stamp = stamp; pid = those.pid; dcs = those.dcs; user = those.user })
+
+-- how it is written
+abbrev pub submit_error_octets : SubmitErrorValue → List ℕ
+submit_error_octets r = submit_report_octet r.has_header ∷ r.cause ∷ indicator_octet (indicator_of (parts_in r)) ∷ (r.stamp ++ parts_octets (parts_in r))
+
+abbrev pub SpellsSubmitError : SubmitErrorValue → List ℕ → Type 0
+SpellsSubmitError r octets = IsSubmitError r × (octets ≡ submit_error_octets r)

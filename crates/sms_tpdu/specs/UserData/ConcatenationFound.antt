@@ -1,0 +1,64 @@
+-- The place of a segment that a user data header tells, as a function (3GPP TS 23.040, 9.2.3.24.1 and 9.2.3.24.8).
+use Rattle.std.specs.Prelude.{◌≡◌, ℕ, zero, suc, ◌+◌, ◌*◌, ◌^◌, ◌<◌, ◌≤◌, ◌&&◌, ◌==◌, nat_le, if◌then◌else◌, List, [], ◌∷◌, length, take, drop, Option, Some, None}
+use Rattle.std.specs.Option.{option_or}
+use Rattle.sms_text.specs.Octets.{IsOctets}
+use Rattle.sms_tpdu.specs.UserData.Concatenation.{IsConcatOf}
+use Rattle.sms_tpdu.specs.UserData.Elements.{Element, AreElements}
+use Rattle.sms_tpdu.specs.declared.user_data.concat.Concat.{Concat}
+use Rattle.sms_tpdu.specs.declared.user_data.concat.Width.{Width}
+use Rattle.sms_tpdu.specs.declared.user_data.concat.Width.TheVariants.{Eight, Sixteen}
+
+-- the place, where its sequence is 1 to its maximum
+abbrev pub in_order : Concat → Option Concat
+in_order c = if nat_le 1 c.sequence && nat_le c.sequence c.maximum then Some c else None
+
+-- the place that an element with this identifier and these octets tells
+abbrev pub told_by : ℕ → List ℕ → Option Concat
+told_by identifier (reference ∷ maximum ∷ sequence ∷ []) =
+    if identifier == 0 then in_order (record { width = Eight; reference = reference; maximum = maximum; sequence = sequence }) else None
+told_by identifier (high ∷ low ∷ maximum ∷ sequence ∷ []) =
+    if identifier == 8 then in_order (record { width = Sixteen; reference = 256 * high + low; maximum = maximum; sequence = sequence }) else None
+told_by identifier _ = None
+
+-- the last place that the elements tell, after what was told before; none where the last element is cut; the first
+-- number bounds the elements
+abbrev pub last_told : ℕ → List ℕ → Option Concat → Option Concat
+last_told n [] last = last
+last_told n (identifier ∷ []) last = None
+last_told zero (identifier ∷ size ∷ behind) last = None
+last_told (suc n) (identifier ∷ size ∷ behind) last =
+    if nat_le size (length behind)
+    then last_told n (drop size behind) (option_or (told_by identifier (take size behind)) last)
+    else None
+
+-- the place that the header of a unit tells, if it has one and that tells one
+abbrev pub concat_of_header : Option (List ℕ) → Option Concat
+concat_of_header None = None
+concat_of_header (Some header) = last_told (length header) header None
+
+-- the reference is one octet or two, by the width
+abbrev pub FitsWidth : Width → ℕ → Type 0
+FitsWidth Eight reference = reference < 2 ^ 8
+FitsWidth Sixteen reference = reference < 2 ^ 16
+
+-- a place that can be told: a sequence from 1 to the maximum, and a reference of the width
+abbrev pub IsPlace : Option Concat → Type 0
+IsPlace None = Unit {0}
+IsPlace (Some c) = (0 < c.sequence) × (c.sequence ≤ c.maximum) × FitsWidth c.width c.reference
+
+-- ---- laws
+
+-- a header has one list of elements
+abbrev pub ElementsAreOne : Type 0
+ElementsAreOne = (header : List ℕ) (elements others : List Element) → AreElements header elements → AreElements header others → others ≡ elements
+
+-- what is computed is the place that the header tells
+abbrev pub ConcatIsThere : Type 0
+ConcatIsThere = (header : List ℕ) → IsOctets header → IsConcatOf header (concat_of_header (Some header))
+
+-- and the only one
+abbrev pub ConcatIsOne : Type 0
+ConcatIsOne = (header : List ℕ) (told : Option Concat) → IsOctets header → IsConcatOf header told → told ≡ concat_of_header (Some header)
+
+abbrev pub ConcatIsPlace : Type 0
+ConcatIsPlace = (header : List ℕ) → IsOctets header → IsPlace (concat_of_header (Some header))

@@ -1,0 +1,66 @@
+//! SMS-DELIVER-REPORT under an acknowledgement of the relay.
+
+ghost use Rattle.sms_tpdu.specs.Report.DeliverAck.{deliver_ack};
+
+pub mod view;
+
+use crate::fault::UnitFault;
+use crate::report::deliver_ack::view::DeliverAckView;
+use crate::report::octet::deliver_report_octet;
+use crate::report::{ReportData, indicator_of, put_parts};
+use crate::unit::Unit;
+use crate::view::View;
+use sms_field::{Cursor, Refusal};
+use std::alloc::{AllocError, Global};
+use std::marker::Model;
+
+/// That a delivery was accepted (TS 23.040, 9.2.2.1a).
+#[derive(Drop)]
+pub struct DeliverAck {
+    /// TP-UDHI: the data begin with a header.
+    pub has_header: bool,
+    /// TP-PID: the protocol identifier.
+    pub pid: Option<u8>,
+    /// TP-DCS: the data coding scheme.
+    pub dcs: Option<u8>,
+    /// TP-UDL and TP-UD, counted under the 7-bit alphabet where there is no data coding scheme.
+    pub user: Option<ReportData>,
+}
+
+impl Model for DeliverAck {
+    ghost use Rattle.sms_tpdu.specs.Report.DeliverAck.{DeliverAckValue, IsDeliverAck};
+
+    ghost Value = { DeliverAckValue };
+
+    ghost view = { λ r. record { has_header = r.has_header; pid = r.pid; dcs = r.dcs; user = r.user } };
+
+    ghost invariant = { λ r. IsDeliverAck (record { has_header = r.has_header; pid = r.pid; dcs = r.dcs; user = r.user }) };
+}
+
+/// Another type is `UnitFault::WrongType`, and data above 159 octets are `UnitFault::DataTooLong`.
+impl Unit for DeliverAck {
+    ghost use Rattle.sms_tpdu.specs.Report.DeliverAck.{deliver_ack, SpellsDeliverAck};
+    ghost use Rattle.sms_tpdu.specs.Report.DeliverAckLaws.{deliver_ack_laws};
+
+    type Why = UnitFault;
+
+    ghost field = { deliver_ack };
+
+    ghost spells = { SpellsDeliverAck };
+
+    fn read_at(alloc: Global, input: &mut Cursor) -> Result<DeliverAck, Refusal<UnitFault>> {
+        let view = DeliverAckView::read_at(input)?;
+        Ok(view.to_value(alloc)?)
+    }
+
+    fn write(&self, alloc: Global) -> Result<Vec<u8>, AllocError> {
+        let there = indicator_of(self.pid, self.dcs, &self.user);
+        let mut out = Vec::new(alloc);
+        out.push(deliver_report_octet(self.has_header))?;
+        out.push(there.to_octet())?;
+        put_parts(&mut out, self.pid, self.dcs, &self.user)?;
+        Ok(out)
+    }
+
+    ghost laws = { deliver_ack_laws };
+}

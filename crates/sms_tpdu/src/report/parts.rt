@@ -1,0 +1,176 @@
+//! The data of a report and the parts that are not always there, where they lie.
+
+ghost use Rattle.std.specs.Prelude.{◌≡◌, ◌≤◌, length, IfOk, IfSome};
+ghost use Rattle.sms_field.specs.Field.{octet, octet_by};
+ghost use Rattle.sms_field.specs.Answer.{Sees};
+ghost use Rattle.sms_tpdu.specs.UserData.Lengths as lengths;
+ghost use Rattle.sms_tpdu.specs.Report as formats;
+ghost use Rattle.sms_tpdu.specs.Report.{report_data, IsReportData, part_if, AreParts};
+ghost use Rattle.sms_tpdu.specs.declared.fault.UnitFault.TheVariants.{Short};
+
+use crate::fault::UnitFault;
+use crate::report::ReportData;
+use crate::report::indicator::Indicator;
+use crate::user_data::body::Octets;
+use crate::user_data::lengths::octets_of_length;
+use sms_field::{Alphabet, Cursor, Fault, alphabet_of};
+use std::alloc::{AllocError, Global};
+use std::marker::Model;
+
+/// The most octets of a report's data.
+const DATA_MAX: usize = 159;
+
+/// The data of a report, where they lie. Contracts see them as the data.
+#[derive(Drop)]
+pub struct ReportDataView<'a> {
+    /// TP-UDL: septets under the 7-bit alphabet, else octets.
+    pub length: u8,
+    /// TP-UD: the octets as they came, at most 159.
+    pub octets: &'a [u8],
+}
+
+impl<'a> Model for ReportDataView<'a> {
+    ghost use Rattle.sms_tpdu.specs.declared.report.ReportData.{ReportData};
+
+    ghost Value = { ReportData };
+
+    ghost view = { λ d. record { length = d.length; octets = d.octets.now } };
+}
+
+/// The parts that an indicator says are there. Contracts see them as the parts.
+#[derive(Drop)]
+pub struct PartsView<'a> {
+    /// TP-PID: the protocol identifier.
+    pub pid: Option<u8>,
+    /// TP-DCS: the data coding scheme.
+    pub dcs: Option<u8>,
+    /// TP-UDL and TP-UD.
+    pub user: Option<ReportDataView<'a>>,
+}
+
+impl<'a> Model for PartsView<'a> {
+    ghost use Rattle.sms_tpdu.specs.Report.{Parts};
+
+    ghost Value = { Parts };
+
+    ghost view = { λ p. record { pid = p.pid; dcs = p.dcs; user = p.user } };
+}
+
+/// The alphabet by which a report's data are counted.
+fn report_alphabet(dcs: Option<u8>) -> Alphabet
+    ensures { result ≡ formats.report_alphabet dcs }
+{
+    match dcs {
+        Some(dcs) => alphabet_of(dcs),
+        None => Alphabet::Gsm7,
+    }
+}
+
+/// The length of a report's data.
+fn report_length_at(input: &mut Cursor, alphabet: Alphabet) -> Result<u8, Fault<UnitFault>>
+    ensures few { IfOk result (λ count. lengths.octets_of_length alphabet count ≤ 159) }
+    ensures read { Sees (octet_by Short (formats.report_length alphabet))
+        input.old result input.new }
+{
+    let place = input.place();
+    let count = input.take_octet()?;
+    if octets_of_length(alphabet, count) > DATA_MAX {
+        return Err(Fault {
+            place,
+            why: UnitFault::DataTooLong,
+        });
+    }
+    Ok(count)
+}
+
+/// The data of a length and octets.
+fn data_seen<'a>(alphabet: Alphabet, count: u8, octets: &'a [u8]) -> ReportDataView<'a>
+    requires counted { length octets.now ≡ lengths.octets_of_length alphabet count }
+    requires few { length octets.now ≤ 159 }
+    ensures is { result ≡ formats.data_in count octets.now }
+    ensures fits { IsReportData alphabet result }
+{
+    ReportDataView {
+        length: count,
+        octets,
+    }
+}
+
+/// The data of a report.
+#[tactic(auto, unfolding(crate::specs::Report::report_data))]
+fn report_data_seen_at<'a>(
+    input: &mut Cursor<'a>,
+    alphabet: Alphabet,
+) -> Result<ReportDataView<'a>, Fault<UnitFault>>
+    ensures fits { IfOk result (IsReportData alphabet) }
+    ensures read { Sees (report_data alphabet) input.old result input.new }
+{
+    let count = report_length_at(input, alphabet)?;
+    let octets = input.take_octets(octets_of_length(alphabet, count))?;
+    Ok(data_seen(alphabet, count, octets))
+}
+
+/// An octet, where it is there.
+fn octet_if(input: &mut Cursor, there: bool) -> Result<Option<u8>, Fault<UnitFault>>
+    ensures { Sees (part_if there (octet Short)) input.old result input.new }
+{
+    if there {
+        let octet = input.take_octet()?;
+        Ok(Some(octet))
+    } else {
+        Ok(None)
+    }
+}
+
+/// The data of a report, where they are there.
+fn report_data_seen_if<'a>(
+    input: &mut Cursor<'a>,
+    there: bool,
+    alphabet: Alphabet,
+) -> Result<Option<ReportDataView<'a>>, Fault<UnitFault>>
+    ensures fits { IfOk result (λ user. IfSome user (IsReportData alphabet)) }
+    ensures read { Sees (part_if there (report_data alphabet)) input.old result input.new }
+{
+    if there {
+        let user = report_data_seen_at(input, alphabet)?;
+        Ok(Some(user))
+    } else {
+        Ok(None)
+    }
+}
+
+impl<'a> PartsView<'a> {
+    /// Sees the parts of a report that are there at a cursor.
+    #[tactic(auto, unfolding(crate::specs::Report::parts))]
+    pub fn read_at(
+        input: &mut Cursor<'a>,
+        there: Indicator,
+    ) -> Result<PartsView<'a>, Fault<UnitFault>>
+        ensures fit { IfOk result AreParts }
+        ensures read { Sees (formats.parts there) input.old result input.new }
+    {
+        let pid = octet_if(input, there.pid)?;
+        let dcs = octet_if(input, there.dcs)?;
+        let user = report_data_seen_if(input, there.user, report_alphabet(dcs))?;
+        Ok(PartsView { pid, dcs, user })
+    }
+}
+
+/// The data themselves, where they are there.
+pub fn data_of(
+    alloc: Global,
+    view: &Option<ReportDataView<'_>>,
+) -> Result<Option<ReportData>, AllocError>
+    ensures { IfOk result (λ user. user ≡ view.now) }
+{
+    match view {
+        Some(user) => {
+            let octets = Octets::from_slice(alloc, user.octets)?;
+            Ok(Some(ReportData {
+                length: user.length,
+                octets,
+            }))
+        }
+        None => Ok(None),
+    }
+}

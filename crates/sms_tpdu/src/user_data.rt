@@ -1,0 +1,36 @@
+//! User data: a header, and septets of a text or octets.
+
+ghost use Rattle.std.specs.Prelude.{◌≡◌, IfOk};
+
+pub mod body;
+pub mod concat;
+pub mod elements;
+pub mod header;
+pub mod lengths;
+pub mod view;
+pub mod writing;
+
+use crate::user_data::body::Body;
+use crate::user_data::header::Header;
+use std::alloc::{AllocError, Global};
+
+/// What a unit carries, TP-UD (TS 23.040, 9.2.3.24): a header, if TP-UDHI says so, and what stands after it.
+#[derive(Drop)]
+pub struct UserData {
+    pub header: Option<Header>,
+    pub body: Body,
+}
+
+impl UserData {
+    /// The same user data.
+    pub fn copy(&self, alloc: Global) -> Result<UserData, AllocError>
+        ensures { IfOk result (λ user. user ≡ self.now) }
+    {
+        let header = match &self.header {
+            Some(header) => Some(header.copy(alloc)?),
+            None => None,
+        };
+        let body = self.body.copy(alloc)?;
+        Ok(UserData { header, body })
+    }
+}

@@ -1,0 +1,46 @@
+//! The lengths of user data (TP-UDL), of their header, and the octets that they take.
+
+ghost use Rattle.std.specs.Prelude.{◌≡◌, ◌≤◌, ◌<◌};
+ghost use Rattle.sms_tpdu.specs.UserData.Lengths as lengths;
+
+use sms_field::Alphabet;
+
+/// The greatest user data length under an alphabet: septets for Gsm7, else octets.
+pub fn greatest_length(alphabet: Alphabet) -> usize
+    ensures { result ≡ lengths.greatest_length alphabet }
+{
+    match alphabet {
+        Alphabet::Gsm7 => 160,
+        _ => 140,
+    }
+}
+
+/// The number of octets that user data of a length take.
+pub fn octets_of_length(alphabet: Alphabet, count: u8) -> usize
+    ensures { result ≡ lengths.octets_of_length alphabet count }
+{
+    match alphabet {
+        Alphabet::Gsm7 => (7 * count as usize + 7) / 8,
+        _ => count as usize,
+    }
+}
+
+/// How much of TP-UDL a header takes, from its octets with their length octet.
+pub fn length_of_header(alphabet: Alphabet, octets: usize) -> usize
+    requires { octets ≤ 256 }
+    ensures { result ≡ lengths.length_of_header alphabet octets }
+{
+    match alphabet {
+        Alphabet::Gsm7 => (8 * octets + 6) / 7,
+        _ => octets,
+    }
+}
+
+/// The bits between the octets of a header and the next septet.
+pub fn fill_bits(octets: usize) -> u8
+    requires { octets ≤ 256 }
+    ensures is { result ≡ lengths.fill_bits octets }
+    ensures few { result < 7 }
+{
+    (7 * length_of_header(Alphabet::Gsm7, octets) - 8 * octets) as u8
+}

@@ -1,0 +1,236 @@
+//! User data seen in a unit's octets: a header, and septets or octets.
+
+ghost use Rattle.std.specs.Prelude.{true, false, ◌≡◌, ◌+◌, ◌-◌, ◌≤◌, length, Some, None, IfOk};
+ghost use Rattle.sms_field.specs.Field.{octet_by};
+ghost use Rattle.sms_field.specs.Answer.{Sees};
+ghost use Rattle.sms_tpdu.specs.UserData as formats;
+ghost use Rattle.sms_tpdu.specs.UserData.{FitsAlphabet, user_data, length_in};
+ghost use Rattle.sms_tpdu.specs.UserData.Lengths as lengths;
+ghost use Rattle.sms_tpdu.specs.UserData.Seen.{user_data_in};
+ghost use Rattle.sms_tpdu.specs.declared.fault.UnitFault.TheVariants.{Short};
+
+pub mod body;
+pub mod header;
+
+use crate::fault::UnitFault;
+use crate::user_data::UserData;
+use crate::user_data::lengths::{fill_bits, greatest_length, length_of_header, octets_of_length};
+use crate::user_data::view::body::{BodyView, SeptetsView, body_from};
+use crate::user_data::view::header::HeaderView;
+use crate::view::View;
+use sms_field::{Alphabet, Cursor, Fault};
+use std::alloc::{AllocError, Global};
+use std::marker::Model;
+
+/// User data that lie in a unit's octets. Contracts see them as the user data.
+#[derive(Drop)]
+pub struct UserDataView<'a> {
+    header: Option<HeaderView<'a>>,
+    alphabet: Alphabet,
+    /// Septets under the 7-bit alphabet, else octets; those of the header too.
+    count: u8,
+    /// After the header.
+    octets: &'a [u8],
+}
+
+impl<'a> Model for UserDataView<'a> {
+    ghost use Rattle.sms_tpdu.specs.declared.user_data.UserData.{UserData};
+    ghost use Rattle.sms_tpdu.specs.UserData.Seen.{user_data_in, IsUserDataIn};
+
+    ghost Value = { UserData };
+
+    ghost view = { λ u. user_data_in u.header u.alphabet u.count u.octets.now };
+
+    ghost invariant = { λ u. IsUserDataIn u.header u.alphabet u.count u.octets.now };
+}
+
+/// User data without a header, of a length.
+fn body_seen<'a>(alphabet: Alphabet, count: u8, octets: &'a [u8]) -> UserDataView<'a>
+    requires few { count ≤ lengths.greatest_length alphabet }
+    requires whole { length octets.now ≡ lengths.octets_of_length alphabet count }
+    ensures is { result ≡ user_data_in None alphabet count octets.now }
+    ensures fits { FitsAlphabet alphabet result }
+{
+    UserDataView {
+        header: None,
+        alphabet,
+        count,
+        octets,
+    }
+}
+
+/// User data with a header, of a length.
+fn header_and_body_seen<'a>(
+    header: &'a [u8],
+    alphabet: Alphabet,
+    count: u8,
+    octets: &'a [u8],
+) -> UserDataView<'a>
+    requires few { count ≤ lengths.greatest_length alphabet }
+    requires room { lengths.length_of_header alphabet (length header.now + 1) ≤ count }
+    requires whole { length octets.now ≡
+        lengths.octets_of_length alphabet count - (length header.now + 1) }
+    ensures is { result ≡ user_data_in (Some header.now) alphabet count octets.now }
+    ensures fits { FitsAlphabet alphabet result }
+{
+    UserDataView {
+        header: Some(HeaderView::new(header)),
+        alphabet,
+        count,
+        octets,
+    }
+}
+
+/// The length of user data with a header.
+fn length_with_header_seen_at(
+    input: &mut Cursor,
+    alphabet: Alphabet,
+) -> Result<u8, Fault<UnitFault>>
+    ensures few { IfOk result (λ count. count ≤ lengths.greatest_length alphabet) }
+    ensures read { Sees (octet_by Short (formats.length_with_header alphabet))
+        input.old result input.new }
+{
+    let place = input.place();
+    let count = input.take_octet()?;
+    if count as usize > greatest_length(alphabet) {
+        return Err(Fault {
+            place,
+            why: UnitFault::DataTooLong,
+        });
+    }
+    if length_of_header(alphabet, 1) > count as usize {
+        return Err(Fault {
+            place,
+            why: UnitFault::HeaderTooLong,
+        });
+    }
+    Ok(count)
+}
+
+/// The length octet of a header, in user data of a length.
+fn header_length_seen_at(
+    input: &mut Cursor,
+    alphabet: Alphabet,
+    count: u8,
+) -> Result<u8, Fault<UnitFault>>
+    ensures room { IfOk result (λ size. lengths.length_of_header alphabet (size + 1) ≤ count) }
+    ensures read { Sees (octet_by Short (formats.header_length alphabet count))
+        input.old result input.new }
+{
+    let place = input.place();
+    let size = input.take_octet()?;
+    if length_of_header(alphabet, size as usize + 1) > count as usize {
+        return Err(Fault {
+            place,
+            why: UnitFault::HeaderTooLong,
+        });
+    }
+    Ok(size)
+}
+
+/// User data without a header.
+#[tactic(auto, unfolding(crate::specs::UserData::user_data))]
+fn body_seen_at<'a>(
+    input: &mut Cursor<'a>,
+    alphabet: Alphabet,
+) -> Result<UserDataView<'a>, Fault<UnitFault>>
+    ensures fits { IfOk result (FitsAlphabet alphabet) }
+    ensures read { Sees (user_data false alphabet) input.old result input.new }
+{
+    let greatest = greatest_length(alphabet) as u8;
+    let count = input.take_octet_up_to(greatest, UnitFault::DataTooLong)?;
+    let octets = input.take_octets(octets_of_length(alphabet, count))?;
+    Ok(body_seen(alphabet, count, octets))
+}
+
+/// User data with a header.
+#[tactic(auto, unfolding(crate::specs::UserData::user_data))]
+fn header_and_body_seen_at<'a>(
+    input: &mut Cursor<'a>,
+    alphabet: Alphabet,
+) -> Result<UserDataView<'a>, Fault<UnitFault>>
+    ensures fits { IfOk result (FitsAlphabet alphabet) }
+    ensures read { Sees (user_data true alphabet) input.old result input.new }
+{
+    let count = length_with_header_seen_at(input, alphabet)?;
+    let size = header_length_seen_at(input, alphabet, count)?;
+    let header = input.take_octets(usize::from(size))?;
+    let octets = input.take_octets(octets_of_length(alphabet, count) - (usize::from(size) + 1))?;
+    Ok(header_and_body_seen(header, alphabet, count, octets))
+}
+
+impl<'a> UserDataView<'a> {
+    ghost use Rattle.sms_tpdu.specs.UserData.BodySeen.{seen_body};
+
+    /// Sees user data, with a header or without, at a cursor.
+    pub fn read_at(
+        input: &mut Cursor<'a>,
+        with_header: bool,
+        alphabet: Alphabet,
+    ) -> Result<UserDataView<'a>, Fault<UnitFault>>
+        ensures fits { IfOk result (FitsAlphabet alphabet) }
+        ensures read { Sees (user_data with_header alphabet) input.old result input.new }
+    {
+        if with_header {
+            header_and_body_seen_at(input, alphabet)
+        } else {
+            body_seen_at(input, alphabet)
+        }
+    }
+
+    /// The user data themselves.
+    pub fn to_value(&self, alloc: Global) -> Result<UserData, AllocError>
+        ensures { IfOk result (λ user. user ≡ self.now) }
+    {
+        match &self.header {
+            Some(header) => {
+                let taken = header.as_slice().len() + 1;
+                let body = body_from(alloc, self.alphabet, taken, self.count, self.octets)?;
+                let header = header.to_value(alloc)?;
+                Ok(UserData {
+                    header: Some(header),
+                    body,
+                })
+            }
+            None => {
+                let body = body_from(alloc, self.alphabet, 0, self.count, self.octets)?;
+                Ok(UserData { header: None, body })
+            }
+        }
+    }
+
+    /// TP-UDL: the septets under the 7-bit alphabet, else the octets, those of the header with them.
+    pub fn length(&self) -> u8
+        ensures { result ≡ length_in self.now }
+    {
+        self.count
+    }
+
+    /// The header, where there is one.
+    pub fn header(&self) -> &Option<HeaderView<'a>>
+        ensures { result.now ≡ self.now.header }
+    {
+        &self.header
+    }
+
+    /// The body where it lies.
+    pub fn body(&self) -> BodyView<'a>
+        ensures { seen_body result ≡ self.now.body }
+    {
+        match self.alphabet {
+            Alphabet::Gsm7 => {
+                let taken = match &self.header {
+                    Some(header) => header.as_slice().len() + 1,
+                    None => 0,
+                };
+                BodyView::Septets(SeptetsView {
+                    octets: self.octets,
+                    fill: fill_bits(taken),
+                    count: (usize::from(self.count)
+                        - length_of_header(Alphabet::Gsm7, taken)) as u8,
+                })
+            }
+            _ => BodyView::Octets(self.octets),
+        }
+    }
+}

@@ -1,0 +1,77 @@
+//! A user data header where it lies in a unit's octets.
+
+ghost use Rattle.std.specs.Prelude.{◌≡◌, ◌≤◌, length, IfOk, IfErr};
+ghost use Rattle.sms_field.specs.Reading.{Reads};
+ghost use Rattle.sms_field.specs.WholeAnswer.{IsFaultOf, SeesExactly};
+ghost use Rattle.sms_tpdu.specs.UserData.Header.{header};
+ghost use Rattle.sms_tpdu.specs.declared.fault.UnitFault.TheVariants.{Short};
+
+use crate::fault::UnitFault;
+use crate::user_data::header::{HEADER_MAX, Header};
+use crate::view::{View, see};
+use sms_field::{Cursor, Fault};
+use std::alloc::{AllocError, Global};
+use std::marker::Model;
+
+/// A user data header that lies in a unit's octets. Contracts see it as the octets after its length octet.
+#[derive(Drop)]
+pub struct HeaderView<'a> {
+    octets: &'a [u8],
+}
+
+impl<'a> Model for HeaderView<'a> {
+    ghost use Rattle.std.specs.Prelude.{ℕ, List};
+    ghost use Rattle.sms_tpdu.specs.UserData.Header.{IsHeader};
+
+    ghost Value = { List ℕ };
+
+    ghost view = { λ h. h.octets.now };
+
+    ghost invariant = { λ h. IsHeader h.octets.now };
+}
+
+impl<'a> HeaderView<'a> {
+    /// The header of these octets, which are those after the length octet.
+    #[tactic(auto, using(sms_field::specs::OctetLists::octets_are))]
+    pub fn new(octets: &'a [u8]) -> HeaderView<'a>
+        requires { length octets.now ≤ 139 }
+        ensures { result ≡ octets.now }
+    {
+        HeaderView { octets }
+    }
+
+    /// The octets after the length octet.
+    pub fn as_slice(&self) -> &'a [u8]
+        ensures value { result.now ≡ self.now }
+        ensures few { length result.now ≤ 139 }
+    {
+        self.octets
+    }
+
+    /// Sees a length octet and the header after it at the front of the octets, and says how many octets they take.
+    pub fn read(input: &'a [u8]) -> Result<(HeaderView<'a>, usize), Fault<UnitFault>>
+        ensures found { IfOk result (λ x. Reads header x.0 input.now x.1) }
+        ensures refused { IfErr result (IsFaultOf header Short input.now) }
+        ensures exact { SeesExactly (λ view. view) header input.now result }
+    {
+        see(input)
+    }
+}
+
+/// The length octet and the octets; a length above 139 is `UnitFault::HeaderTooLong`.
+impl<'a> View<'a> for HeaderView<'a> {
+    type Owned = Header;
+
+    ghost value = { λ h. h };
+
+    #[tactic(auto, unfolding(crate::specs::UserData::Header::header))]
+    fn read_at(input: &mut Cursor<'a>) -> Result<HeaderView<'a>, Fault<UnitFault>> {
+        let size = input.take_octet_up_to(HEADER_MAX, UnitFault::HeaderTooLong)?;
+        let octets = input.take_octets(usize::from(size))?;
+        Ok(HeaderView::new(octets))
+    }
+
+    fn to_value(&self, alloc: Global) -> Result<Header, AllocError> {
+        Ok(Header::new(Vec::from_slice(alloc, self.octets)?))
+    }
+}
