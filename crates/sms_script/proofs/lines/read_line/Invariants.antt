@@ -1,0 +1,15 @@
+use Rattle.std.proofs.Common.{◌≡◌, ◌≤◌, ◌-◌, length, vec_len, false}
+use Rattle.std.specs.Io.KnownBytes.{Consumes}
+use Rattle.sms_script.specs.Lines.{line_limit, strip_carriage_return, HasNoLineFeed}
+use Rattle.sms_script.proofs.lines.read_line.Given as goal
+
+abbrev pub invariant-loop-line : goal.invariant-loop-line
+invariant-loop-line g l = record {
+  works : g.S.Source.has_failed l.source ≡ false;
+  no_feed : HasNoLineFeed l.line.items;
+  few : length (strip_carriage_return l.line.items) ≤ line_limit;
+  taken : Consumes (g.S.Source.remaining l.initial.source) (g.S.Source.remaining l.source) l.line.items;
+}
+
+abbrev pub decreases-loop-line : goal.decreases-loop-line
+decreases-loop-line g l = 4098 - vec_len l.line

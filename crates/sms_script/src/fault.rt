@@ -1,0 +1,112 @@
+//! Why a line of a script means nothing, and why a script is not played to its end.
+
+ghost use Rattle.std.specs.Prelude.{◌≡◌};
+ghost use Rattle.sms_script.specs.declared.fault.MeaningFault.TheVariants.{Memory, Script};
+ghost use Rattle.sms_script.specs.declared.fault.PlayFault.TheVariants as play_faults;
+
+use std::alloc::{AllocError, AllocFailed};
+use thiserror::Error;
+
+/// Why a line of a script means nothing. Where several reasons apply, the first of them is given,
+/// in the order in which they stand here up to the number of words, and from there on word by word.
+#[derive(Clone, Copy, Debug, PartialEq, Eq, Error)]
+pub enum ScriptFault {
+    /// A script has at most 100,000 lines.
+    #[error("too many lines")]
+    TooManyLines,
+    /// A line has at most 4,096 octets.
+    #[error("line too long")]
+    LineTooLong,
+    #[error("not utf-8")]
+    NotUtf8,
+    #[error("unknown command")]
+    UnknownCommand,
+    /// Settings and phones stand before the first event.
+    #[error("setting after event")]
+    SettingAfterEvent,
+    /// Too many or too few words stand after the command.
+    #[error("bad words")]
+    BadWords,
+    /// Not 1 to 10 decimal digits, or out of range.
+    #[error("bad number")]
+    BadNumber,
+    #[error("bad name")]
+    BadName,
+    #[error("bad address")]
+    BadAddress,
+    #[error("bad hex")]
+    BadHex,
+    #[error("unknown phone")]
+    UnknownPhone,
+    #[error("name taken")]
+    NameTaken,
+    #[error("address taken")]
+    AddressTaken,
+    /// A script has at most 100 phones.
+    #[error("too many phones")]
+    TooManyPhones,
+}
+
+/// Why a line has no meaning: it is at fault, or memory ran out.
+#[derive(Clone, Copy, Debug, PartialEq, Eq)]
+pub enum MeaningFault {
+    Memory,
+    Script(ScriptFault),
+}
+
+impl From<AllocError> for MeaningFault {
+    ghost from_gives = { λ _ e. e ≡ Memory };
+
+    fn from(_e: AllocError) -> MeaningFault {
+        MeaningFault::Memory
+    }
+}
+
+impl<T: Drop> From<AllocFailed<T>> for MeaningFault {
+    ghost from_gives = { λ _ e. e ≡ Memory };
+
+    fn from(_e: AllocFailed<T>) -> MeaningFault {
+        MeaningFault::Memory
+    }
+}
+
+impl From<ScriptFault> for MeaningFault {
+    ghost from_gives = { λ why e. e ≡ Script why };
+
+    fn from(why: ScriptFault) -> MeaningFault {
+        MeaningFault::Script(why)
+    }
+}
+
+/// Why a script is not played to its end.
+#[derive(Clone, Copy, Debug, PartialEq, Eq, Error)]
+pub enum PlayFault {
+    /// A line means nothing. Lines are counted from 1.
+    #[error("line {line}: {why}")]
+    Script { line: u64, why: ScriptFault },
+    /// The source failed.
+    #[error("read failed")]
+    Read,
+    /// The sink failed, or took nothing.
+    #[error("write failed")]
+    Write,
+    /// Memory ran out.
+    #[error("out of memory")]
+    Memory,
+}
+
+impl From<AllocError> for PlayFault {
+    ghost from_gives = { λ _ e. e ≡ play_faults.Memory };
+
+    fn from(_e: AllocError) -> PlayFault {
+        PlayFault::Memory
+    }
+}
+
+impl<T: Drop> From<AllocFailed<T>> for PlayFault {
+    ghost from_gives = { λ _ e. e ≡ play_faults.Memory };
+
+    fn from(_e: AllocFailed<T>) -> PlayFault {
+        PlayFault::Memory
+    }
+}

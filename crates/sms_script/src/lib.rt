@@ -1,0 +1,20 @@
+//! Scripts of a network of phones: what gives and takes octets, lines, and what a line of a script
+//! means.
+#![tactic(auto)]
+
+mod devices;
+mod fault;
+mod lines;
+mod meaning;
+mod playing;
+mod script;
+mod transcript;
+mod words;
+
+pub use devices::{DeviceFailed, Sink, Source, Watched, next_octet, write_whole};
+pub use fault::{MeaningFault, PlayFault, ScriptFault};
+pub use lines::{LINE_LIMIT, LineEnd, LineFault, read_line};
+pub use meaning::{Event, Known, Limit, Octets, PHONE_LIMIT, Phone, Statement, Text, meaning_of};
+pub use playing::{Network, play};
+pub use script::{Limits, Script};
+pub use transcript::{Entry, Packet};

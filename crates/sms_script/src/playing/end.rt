@@ -1,0 +1,102 @@
+//! What stands at the phones in the end.
+
+ghost use Rattle.std.specs.Prelude.{◌≡◌, ◌<◌, false, length, flat_map};
+ghost use Rattle.sms_script.specs.Play.{told_in_the_end};
+ghost use Rattle.sms_script.specs.Play.Puts.{Puts, HasFailed};
+ghost use Rattle.sms_script.specs.Play.Runs.{statuses_at, store_at, ended_at};
+ghost use Rattle.sms_script.specs.Transcript.{sent_lines, phone_lines};
+ghost use Rattle.sms_script.specs.Transcript.Lines.{entry_line};
+
+use crate::devices::Sink;
+use crate::fault::PlayFault;
+use crate::playing::network::Network;
+use crate::playing::put::put;
+use crate::script::Script;
+use crate::transcript::{entry_line, sent_line, store_line};
+use std::alloc::Global;
+
+/// Puts the lines of the texts that were typed at a phone.
+fn put_statuses<N: Network, K: Sink>(
+    alloc: Global,
+    name: &str,
+    network: &N,
+    phone: usize,
+    sink: &mut K,
+) -> Result<(), PlayFault>
+    requires works { K.has_failed sink.old ≡ false }
+    requires phone { phone < length (N.conduct.ends network.now) }
+    ensures puts { let all = statuses_at (N.conduct.ends network.now) phone in
+        Puts (K.contents sink.old) (K.contents sink.new) (sent_lines name.now 1 all) result }
+    ensures failed { HasFailed result (K.has_failed sink.new) }
+{
+    for place in 0..network.typed(phone) {
+        let Some(word) = network.status(phone, place + 1) else {
+            return Ok(());
+        };
+        let line = sent_line(alloc, name, place + 1, word)?;
+        put(sink, line.as_bytes())?;
+    }
+    Ok(())
+}
+
+/// Puts the lines of the texts in the store of a phone.
+fn put_entries<N: Network, K: Sink>(
+    alloc: Global,
+    network: &N,
+    phone: usize,
+    sink: &mut K,
+) -> Result<(), PlayFault>
+    requires works { K.has_failed sink.old ≡ false }
+    requires phone { phone < length (N.conduct.ends network.now) }
+    ensures puts { let text = flat_map entry_line (store_at (N.conduct.ends network.now) phone) in
+        Puts (K.contents sink.old) (K.contents sink.new) text result }
+    ensures failed { HasFailed result (K.has_failed sink.new) }
+{
+    for place in 0..network.stored(phone) {
+        let Some(entry) = network.entry(phone, place) else {
+            return Ok(());
+        };
+        let line = entry_line(alloc, entry)?;
+        put(sink, &line)?;
+    }
+    Ok(())
+}
+
+/// Puts what stands at a phone.
+fn put_phone<N: Network, K: Sink>(
+    alloc: Global,
+    name: &str,
+    network: &N,
+    phone: usize,
+    sink: &mut K,
+) -> Result<(), PlayFault>
+    requires works { K.has_failed sink.old ≡ false }
+    requires phone { phone < length (N.conduct.ends network.now) }
+    ensures puts { let text = phone_lines name.now (ended_at (N.conduct.ends network.now) phone) in
+        Puts (K.contents sink.old) (K.contents sink.new) text result }
+    ensures failed { HasFailed result (K.has_failed sink.new) }
+{
+    put_statuses(alloc, name, network, phone, sink)?;
+    let line = store_line(alloc, name, network.stored(phone))?;
+    put(sink, line.as_bytes())?;
+    put_entries(alloc, network, phone, sink)
+}
+
+/// Puts what stands at each phone, in their order.
+pub fn put_phones<N: Network, K: Sink>(
+    alloc: Global,
+    script: &Script,
+    network: &N,
+    sink: &mut K,
+) -> Result<(), PlayFault>
+    requires works { K.has_failed sink.old ≡ false }
+    requires phones { length script.now.known.addresses ≡ length (N.conduct.ends network.now) }
+    ensures puts { let text = told_in_the_end script.now (N.conduct.ends network.now) in
+        Puts (K.contents sink.old) (K.contents sink.new) text result }
+    ensures failed { HasFailed result (K.has_failed sink.new) }
+{
+    for phone in 0..script.addresses().len() {
+        put_phone(alloc, script.name(phone), network, phone, sink)?;
+    }
+    Ok(())
+}

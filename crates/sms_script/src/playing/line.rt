@@ -1,0 +1,46 @@
+//! One line of a script played.
+
+ghost use Rattle.std.specs.Prelude.{◌≡◌, ◌≢◌, ◌+◌, ◌<◌, ◌≤◌, ◌^◌, Err, OnOk, true, false, length};
+ghost use Rattle.sms_script.specs.Lines.{line_limit};
+ghost use Rattle.sms_script.specs.Script.{lines_limit};
+ghost use Rattle.sms_script.specs.Play.Standing.{at, Advances};
+ghost use Rattle.sms_script.specs.declared.fault.PlayFault.TheVariants.{Write};
+
+use crate::devices::Sink;
+use crate::fault::PlayFault;
+use crate::playing::event::take_event;
+use crate::playing::network::Network;
+use crate::playing::start::started;
+use crate::script::Script;
+use std::alloc::Global;
+
+/// Plays the next line of a script, and puts what it tells into the sink.
+pub fn play_line<N: Network, K: Sink>(
+    alloc: Global,
+    script: &mut Script,
+    network: &mut Option<N>,
+    events: &mut u64,
+    line: &[u8],
+    sink: &mut K,
+) -> Result<(), PlayFault>
+    requires works { K.has_failed sink.old ≡ false }
+    requires lines { script.old.lines < lines_limit }
+    requires octets { length line.now ≤ line_limit }
+    requires events { events.old < 2 ^ 60 }
+    ensures advances { let from = at script.old network.old events.old (K.contents sink.old) in
+        let to = at script.new network.new events.new (K.contents sink.new) in
+        Advances N.conduct from line.now to result }
+    ensures lines { OnOk result (script.new.lines ≡ script.old.lines + 1) }
+    ensures events { OnOk result (events.new ≤ events.old + 1) }
+    ensures fails { result ≡ Err Write → K.has_failed sink.new ≡ true }
+    ensures works { result ≢ Err Write → K.has_failed sink.new ≡ false }
+{
+    let Some(event) = script.take(alloc, line)? else {
+        return Ok(());
+    };
+    let mut current = started(alloc, script, network.take())?;
+    *events += 1;
+    take_event(alloc, script, &mut current, *events, &event, sink)?;
+    *network = Some(current);
+    Ok(())
+}

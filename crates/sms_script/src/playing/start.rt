@@ -1,0 +1,32 @@
+//! The network of a script.
+
+ghost use Rattle.std.specs.Prelude.{◌≡◌, IfOk, IfErr};
+ghost use Rattle.sms_script.specs.Play.Standing.{OpensAt};
+ghost use Rattle.sms_script.specs.declared.fault.PlayFault.TheVariants.{Memory};
+
+use crate::fault::PlayFault;
+use crate::meaning::Event;
+use crate::playing::network::Network;
+use crate::script::Script;
+use std::alloc::Global;
+
+/// The network that there is, or one that begins as the script has set.
+pub fn started<N: Network>(
+    alloc: Global,
+    script: &Script,
+    network: Option<N>,
+) -> Result<N, PlayFault>
+    ensures there { IfOk result (λ n. OpensAt N.conduct script.now network n) }
+    ensures memory { IfErr result (λ e. e ≡ Memory) }
+{
+    match network {
+        Some(network) => Ok(network),
+        None => {
+            let mut network = N::begin(alloc, script.limits(), script.addresses())?;
+            if let Some(seconds) = script.clock() {
+                let _ = network.step(alloc, &Event::Tick(seconds));
+            }
+            Ok(network)
+        }
+    }
+}

@@ -1,0 +1,109 @@
+//! The lines of a transcript.
+
+mod escapes;
+
+ghost use Rattle.std.specs.Prelude.{◌≡◌, IfOk};
+ghost use Rattle.std.specs.String.{string_bytes};
+ghost use Rattle.std.specs.Str.{encode_utf8_all};
+ghost use Rattle.sms_field.specs.AddressText.{address_text};
+ghost use Rattle.sms_script.specs.Transcript.Lines.{event_line, packet_line, sent_line, store_line, entry_line, octets_text};
+ghost use Rattle.sms_script.specs.Transcript.Shown.{shown, stored};
+
+use crate::transcript::escapes::push_escaped;
+use sms_field::Address;
+use std::alloc::{AllocError, Global};
+
+/// A packet, as a network put it out.
+#[derive(Clone, Copy, Debug)]
+pub struct Packet<'a> {
+    /// Whether it goes from the phone up to the centre, and not down to the phone.
+    pub up: bool,
+    /// The phone that it comes from or goes to, counted from 0.
+    pub phone: usize,
+    pub octets: &'a [u8],
+}
+
+/// A text in the store of a phone.
+#[derive(Clone, Copy, Debug)]
+pub struct Entry<'a> {
+    /// Whom it is from (TP-OA).
+    pub origin: &'a Address,
+    pub text: &'a str,
+}
+
+/// The line of an event, from what it answered in words.
+pub fn event_line(alloc: Global, number: u64, words: &str) -> Result<String, AllocError>
+    ensures { IfOk result (λ s. string_bytes s ≡ event_line number words.now) }
+{
+    format!(in alloc; "{number} {words}\n")
+}
+
+/// The octets of a packet in hexadecimal, none as `-`, or how many they are.
+fn octets_text(alloc: Global, brief: bool, octets: &[u8]) -> Result<String, AllocError>
+    ensures { IfOk result (λ s. string_bytes s ≡ octets_text brief octets.now) }
+{
+    if brief {
+        return octets.len().to_string(alloc);
+    }
+    if octets.is_empty() {
+        return "-".to_string(alloc);
+    }
+    hex::encode_upper(alloc, octets)
+}
+
+/// The line of the packet of this number, between the centre and the phone of this name.
+pub fn packet_line(
+    alloc: Global,
+    brief: bool,
+    number: usize,
+    name: &str,
+    packet: Packet<'_>,
+) -> Result<String, AllocError>
+    ensures { let text = packet_line brief number name.now (shown packet.entry) in
+        IfOk result (λ s. string_bytes s ≡ text) }
+{
+    let octets = octets_text(alloc, brief, packet.octets)?;
+    if packet.up {
+        format!(in alloc; "#{number} {name}>centre {octets}\n")
+    } else {
+        format!(in alloc; "#{number} centre>{name} {octets}\n")
+    }
+}
+
+/// The line of a text that was typed, from what became of it in a word.
+pub fn sent_line(alloc: Global, name: &str, number: usize, word: &str) -> Result<String, AllocError>
+    ensures { IfOk result (λ s. string_bytes s ≡ sent_line name.now number word.now) }
+{
+    format!(in alloc; "sent {name} {number} {word}\n")
+}
+
+/// The line that begins a store.
+pub fn store_line(alloc: Global, name: &str, count: usize) -> Result<String, AllocError>
+    ensures { IfOk result (λ s. string_bytes s ≡ store_line name.now count) }
+{
+    format!(in alloc; "store {name} {count}\n")
+}
+
+/// The text of an address, in octets.
+fn origin_text(alloc: Global, origin: &Address) -> Result<String, AllocError>
+    ensures { IfOk result (λ s. string_bytes s ≡ encode_utf8_all (address_text origin.now)) }
+{
+    let text = origin.to_text(alloc)?;
+    Ok(text)
+}
+
+/// The line of a text in a store.
+pub fn entry_line(alloc: Global, entry: Entry<'_>) -> Result<Vec<u8>, AllocError>
+    ensures { IfOk result (λ line. line.items ≡ entry_line (stored entry.entry)) }
+{
+    let origin = origin_text(alloc, entry.origin)?;
+    let mut line = Vec::new(alloc);
+    push_escaped(&mut line, origin.as_bytes())?;
+    line.push(b' ')?;
+    push_escaped(&mut line, entry.text.as_bytes())?;
+    line.push(b'\n')?;
+    Ok(line)
+}
+
+#[cfg(test)]
+mod tests;

@@ -1,0 +1,39 @@
+//! Addresses in a script.
+
+ghost use Rattle.std.specs.Prelude.{◌≡◌};
+ghost use Rattle.sms_field.specs.SameAddress.{same_address};
+ghost use Rattle.sms_script.specs.Reasons.{Gives};
+ghost use Rattle.sms_script.specs.Words.Addresses.{address, can_be_phone};
+
+use crate::fault::{MeaningFault, ScriptFault};
+use sms_field::{Address, AddressFault, Symbols};
+use std::alloc::Global;
+
+/// The address of which a word is the text.
+pub fn address_of(alloc: Global, word: &str) -> Result<Address, MeaningFault>
+    ensures { Gives (λ a. a) result (address word.now) }
+{
+    match Address::from_text(alloc, word) {
+        Ok(address) => Ok(address),
+        Err(AddressFault::Memory) => Err(MeaningFault::Memory),
+        Err(_) => Err(MeaningFault::Script(ScriptFault::BadAddress)),
+    }
+}
+
+/// Whether two addresses are the same: of one type and plan, and with the same digits or name.
+#[tactic(auto, unfolding(sms_field::specs::SameAddress::same_address))]
+pub fn is_same_address(a: &Address, b: &Address) -> bool
+    ensures { result ≡ same_address a.now b.now }
+{
+    *a == *b
+}
+
+/// Whether an address may be that of a phone: of type 0 or 1, and with a digit.
+pub fn can_be_phone(address: &Address) -> bool
+    ensures { result ≡ can_be_phone address.now }
+{
+    match &address.symbols {
+        Symbols::Digits(digits) => address.type_of_number < 2 && !digits.as_slice().is_empty(),
+        Symbols::Name(_) => false,
+    }
+}
