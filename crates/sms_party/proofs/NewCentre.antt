@@ -1,0 +1,37 @@
+-- A new centre stands for the first state.
+use Rattle.std.proofs.Common.{◌≡◌, ℕ, zero, suc, List, [], ◌∷◌, map, Some, None, refl, sym, ap, ◌∙◌, subst, arith}
+use Rattle.std.specs.List.{slice_get}
+use Rattle.std.specs.List.{IsDistinct}
+use Rattle.std.specs.Map.{keys_of}
+use Rattle.sms_field.specs.AddressValue.{AddressValue}
+use Rattle.sms_party.specs.Centre.State.{new_centre}
+use Rattle.sms_party.specs.Centre.Value.{LineValue, addresses, key_eq}
+use Rattle.sms_party.specs.declared.centre.held.HeldKey.{HeldKey}
+use Rattle.sms_party.specs.Centre.Lines.{new_line}
+use Rattle.sms_party.specs.Centre.Standing.{LineStands, StandsFor}
+
+pub new_addresses : (phones : List AddressValue) → addresses (map new_line phones) ≡ phones
+new_addresses [] = refl
+new_addresses (a ∷ phones) = ap (λ (l : List AddressValue). a ∷ l) (new_addresses phones)
+
+-- each line has nothing
+new_stands : (phones all : List AddressValue) (clock : ℕ) (r n : ℕ) (line : LineValue) → slice_get (map new_line phones) n ≡ Some line → LineStands all clock [] r line (record { queue = []; pushes = 0; latest = None })
+new_stands [] all clock r n line e = absurd cc
+new_stands (a ∷ phones) all clock r zero line e =
+    let is : line ≡ new_line a = cc in
+    subst (λ (l : LineValue). LineStands all clock [] r l (record { queue = []; pushes = 0; latest = None })) (sym is)
+    (record { queue = refl; free = λ now. omega arith; value = refl; reference = refl; latest = refl })
+new_stands (a ∷ phones) all clock r (suc n) line e = new_stands phones all clock r n line e
+
+none_apart : IsDistinct key_eq (keys_of {K = HeldKey} {X = ℕ} [])
+unfolding IsDistinct
+none_apart = tt
+
+pub new_centre_stands : (limit : ℕ) (phones : List AddressValue) (lines : List LineValue) → lines ≡ map new_line phones → (clock : ℕ) → StandsFor limit phones clock (record { limit = limit; held = record { ends = []; last = [] }; lines = lines }) new_centre
+unfolding new_centre
+new_centre_stands limit phones lines is clock = record {
+  limit_is = refl;
+  phones_are = ap addresses is ∙ new_addresses phones;
+  held_stand = record { ends = refl; kept = λ phone reference recipient now le. refl; apart = none_apart };
+  lines_stand = λ r line e. new_stands phones phones clock r r line (subst (λ (l : List LineValue). slice_get l r ≡ Some line) is e);
+}

@@ -1,0 +1,7 @@
+use Rattle.sms_tpdu.specs.Report.DeliverAck.{SpellsDeliverAck}
+use Rattle.sms_tpdu.specs.SizeLaws.{deliver_ack_within}
+use Rattle.sms_party.proofs.Short.{not_long}
+use Rattle.sms_party.proofs.receiver.replying.ack_packet.Goals as goal
+
+pub wrapped-requires : goal.wrapped-requires
+wrapped-requires c = λ e. let h = c.wrap_answer.ensures.too_long e in not_long SpellsDeliverAck deliver_ack_within _ h.0 h.1 h.2

@@ -1,0 +1,41 @@
+use Rattle.std.proofs.Common.{ℕ, ◌+◌, ◌%◌, ◌++◌, List, [], ◌∷◌, Option, Some, None, Vec, map, drop, length, ◌≡◌, refl, sym, ap, ◌∙◌, subst, Ok, arith}
+use Rattle.std.specs.Global.{Global}
+use Rattle.std.specs.Option.{option_to_list}
+use Rattle.std.specs.List.{slice_get}
+use Rattle.sms_party.specs.declared.message.Message.{Message}
+use Rattle.sms_party.specs.declared.outcome.Outcome.TheVariants as outcome
+use Rattle.sms_party.specs.Does.{CarriesEach}
+use Rattle.sms_party.specs.Sender.Value.{TextValue, SenderValue, first_put, counted, entered, next_set}
+use Rattle.sms_party.proofs.SenderParts.{carried, is_out}
+use Rattle.sms_party.proofs.sender.Sender.enter.Goals as goal
+
+pub returns-clause-did : goal.returns-clause-did
+returns-clause-did c =
+    let messages : List Message = first_put c.args.self.now c.args.text in
+    let out : CarriesEach (map (λ (p : Vec ℕ Global). p.items) (option_to_list c.in_ok-submission.submission)) messages = c.in_ok-submission.ensures.carries in
+    let ended : c.len.result ≡ length c.args.self.now.ended = c.len.ensures ∙ (c.self.inside.ended.ok.0 ∙ ap (λ (v : SenderValue). length v.ended) c.self.view_is) in
+    let pending : c.len-2.result ≡ length c.args.self.now.pending = c.len-2.ensures ∙ (c.self.inside.pending.ok.0 ∙ ap (λ (v : SenderValue). length v.pending) c.self.view_is) in
+    let size : c.len-size.result ≡ length c.args.text.segments = c.len-size.ensures ∙ (c.text.inside.segments.ok.0 ∙ ap (λ (t : TextValue). length t.segments) c.text.view_is) in
+    let pushed : c.push_back_reserved.new.self.items ≡ c.self.inside.pending.items ++ c.args.text ∷ [] =
+    c.push_back_reserved.ensures.items ∙ ap (λ (l : List TextValue). l ++ c.args.text ∷ []) c.in_ok-reserve.ensures.items in
+    let next : c.next_set-self-inside.result ≡ next_set c.self.inside.width c.len-size.result c.self.inside.set_reference = c.next_set-self-inside.ensures in
+    let w : List TextValue → ℕ → ℕ → SenderValue = λ p m r. record {
+      width = c.self.inside.width;
+      reject = c.self.inside.reject;
+      pending = p;
+      accepted = c.self.inside.accepted;
+      repeats = c.self.inside.repeats;
+      ended = c.self.inside.ended.items;
+      message_reference = m;
+      set_reference = r;
+      next = c.self.inside.next;
+      latest = c.self.inside.latest;
+    } in (
+      ap (λ n. Ok (outcome.Typed (n + length c.args.self.now.pending + 1))) (sym ended) ∙ ap (λ n. Ok (outcome.Typed (c.len.result + n + 1))) (sym pending),
+      carried (λ (p : Vec ℕ Global). p.items) c.in_ok-packets.packets.items None c.in_ok-submission.submission [] messages c.in_ok-packets.ensures tt out,
+      c.count.ensures messages (c.is_some-is_out.ensures ∙ is_out (λ (p : Vec ℕ Global). p.items) c.in_ok-submission.submission messages out)
+          ∙ (ap (λ (p : List TextValue). counted (w p ((c.self.inside.message_reference + c.len-size.result) % 256) c.next_set-self-inside.result) messages) pushed
+          ∙ (ap (λ (r : ℕ). counted (w (c.self.inside.pending.items ++ c.args.text ∷ []) ((c.self.inside.message_reference + c.len-size.result) % 256) r) messages) next
+          ∙ (ap (λ (n : ℕ). counted (w (c.self.inside.pending.items ++ c.args.text ∷ []) ((c.self.inside.message_reference + n) % 256) (next_set c.self.inside.width n c.self.inside.set_reference)) messages) size
+          ∙ ap (λ (v : SenderValue). counted (entered v c.args.text) messages) c.self.view_is))),
+    )

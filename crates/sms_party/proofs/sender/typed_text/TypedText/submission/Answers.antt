@@ -1,0 +1,30 @@
+use Rattle.std.proofs.Common.{◌≡◌, ◌<◌, ◌%◌, ◌+◌, refl, sym, ap, subst, ◌∙◌, rules, arith}
+use Rattle.sms_field.specs.AddressValue.{AddressValue, HasSpelling}
+use Rattle.sms_field.specs.Coding.{alphabet_at}
+use Rattle.sms_field.specs.declared.coding.Alphabet.{Alphabet}
+use Rattle.sms_tpdu.specs.UserData.{FitsAlphabet}
+use Rattle.sms_join.specs.declared.units.Units.{Units}
+use Rattle.sms_join.specs.declared.units.Units.TheVariants.{Gsm, Ucs2}
+use Rattle.sms_join.specs.SegmentUser.{coding_of}
+use Rattle.sms_party.specs.Sender.Segments.{dcs_of}
+use Rattle.sms_party.proofs.sender.typed_text.TypedText.submission.Goals as goal
+
+dcs_range : (u : Units) → dcs_of u < 256
+dcs_range (Gsm s) = omega arith
+dcs_range (Ucs2 s) = omega arith
+
+same_alphabet : (u : Units) → coding_of u ≡ alphabet_at (dcs_of u)
+unfolding alphabet_at
+same_alphabet (Gsm s) = refl
+same_alphabet (Ucs2 s) = refl
+
+pub invariant_of-result : goal.invariant_of-result
+invariant_of-result c = record {
+  validity = tt;
+  reference = omega arith;
+  target = subst HasSpelling c.result.view_is c.result.invariant;
+  pid = omega arith;
+  dcs = subst (λ n. n < 256) (sym c.dcs_of.ensures) (dcs_range c.args.segment.now.units);
+  user = subst (λ n. FitsAlphabet (alphabet_at n) c.in_ok-segment_user.field-0) (sym c.dcs_of.ensures)
+      (subst (λ (a : Alphabet). FitsAlphabet a c.in_ok-segment_user.field-0) (same_alphabet c.args.segment.now.units) c.in_ok-segment_user.ensures.fits);
+}

@@ -1,0 +1,45 @@
+-- What the code checks a submission against.
+use Rattle.std.specs.Prelude.{◌≡◌, ℕ, ◌<◌, max, Bool, false, ◌&&◌, ◌||◌, nat_lt, length, zero, suc, List, [], ◌∷◌, ◌++◌, Option, Some, None}
+use Rattle.std.specs.List.{IsDistinct}
+use Rattle.std.specs.Map.{keys_of, lookup}
+use Rattle.sms_tpdu.specs.Submit.{Submission}
+use Rattle.sms_party.specs.Centre.Checks.{Books}
+use Rattle.sms_party.specs.Centre.Value.{LineValue, HeldValue, CentreValue, key_eq, phones_of}
+use Rattle.sms_party.specs.declared.centre.held.HeldKey.{HeldKey}
+use Rattle.sms_party.specs.declared.centre.check.Check.{Check}
+use Rattle.sms_party.specs.declared.centre.check.Check.TheVariants.{Refuse, Accept}
+
+abbrev pub key_of : ℕ → ℕ → ℕ → HeldKey
+key_of phone reference recipient = record { phone = phone; reference = reference; recipient = recipient }
+
+abbrev pub ends_after : ℕ → Option ℕ → Bool
+ends_after now None = false
+ends_after now (Some end) = nat_lt now end
+
+-- One with this key ends after the moment.
+abbrev pub is_kept : List (HeldKey × ℕ) → HeldKey → ℕ → Bool
+is_kept last key now = ends_after now (lookup (key_eq key) last)
+
+-- One message more is held, with this key, to this end.
+pub record HoldsAlso (old : HeldValue) (key : HeldKey) (end : ℕ) (new : HeldValue) : Type 0 where
+  pub ends : new.ends ≡ old.ends ++ end ∷ []
+  pub kept : (other : HeldKey) (now : ℕ) → is_kept new.last other now ≡ ((nat_lt now end && key_eq key other) || is_kept old.last other now)
+  pub apart : IsDistinct key_eq (keys_of new.last)
+
+abbrev pub free_at : List LineValue → ℕ → ℕ
+free_at [] r = 0
+free_at (line ∷ lines) zero = line.free
+free_at (line ∷ lines) (suc r) = free_at lines r
+
+abbrev pub books_in : CentreValue → ℕ → ℕ → Submission → Books
+books_in v now phone s =
+    record {
+      is_held = λ recipient. is_kept v.held.last (key_of phone s.reference recipient) now;
+      count = length v.held.ends;
+      stamp = λ recipient. max (free_at v.lines recipient) now;
+    }
+
+-- causes are those of an RP-ERROR, and what is accepted has a recipient and a stamp
+abbrev pub IsLawfulCheck : CentreValue → Check → Type 0
+IsLawfulCheck v (Refuse cause failure) = cause < 128
+IsLawfulCheck v (Accept recipient ends stamp) = (recipient < length (phones_of v)) × (stamp < 3155760000)

@@ -1,0 +1,42 @@
+-- What the service centre has ever accepted, and what it knows of each recipient. Lists of what was have the newest first.
+use Rattle.std.specs.Prelude.{ℕ, if◌then◌else◌, ◌==◌, List, [], Option, None}
+use Rattle.sms_tpdu.specs.Submit.{Submission}
+use Rattle.sms_party.specs.Message.{Origin}
+use Rattle.sms_party.specs.declared.message.Tag.{Tag}
+
+-- A submission that was accepted from a phone for a recipient, with the stamp that it was given and the end of its
+-- validity. Phones and recipients are numbers of phones, from 0.
+pub record Acceptance : Type 0 where
+  pub phone : ℕ
+  pub submission : Submission
+  pub recipient : ℕ
+  -- moments, in seconds from the year 2000 on
+  pub stamp : ℕ
+  pub ends : ℕ
+  pub origin : Option Origin
+
+-- A message that was pushed, and the tag that it was given.
+pub record Pushing : Type 0 where
+  pub tag : Tag
+  pub message : Acceptance
+
+-- What the centre knows of one recipient.
+pub record Line : Type 0 where
+  -- what is neither delivered nor abandoned, in order of its latest acceptance or push
+  pub queue : List Acceptance
+  -- how many there were
+  pub pushes : ℕ
+  -- the latest push, until it is answered
+  pub latest : Option Pushing
+
+-- All that was ever accepted: nothing is removed from it. The lines are those of the phones by number.
+pub record CentreState : Type 0 where
+  pub accepted : List Acceptance
+  pub line : ℕ → Line
+
+unfoldable pub new_centre : CentreState
+new_centre = record { accepted = []; line = λ _. record { queue = []; pushes = 0; latest = None } }
+
+-- the function with this value at n
+abbrev pub changed : {X : Type 0} → (ℕ → X) → ℕ → X → ℕ → X
+changed f n x i = if i == n then x else f i

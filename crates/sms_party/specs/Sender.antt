@@ -1,0 +1,10 @@
+-- The sending phones.
+pub mod Texts
+pub mod Segments
+pub mod Putting
+pub mod Calls
+pub mod Answers
+pub mod Splitting
+pub mod Value
+pub mod Stands
+pub mod Others

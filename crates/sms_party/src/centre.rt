@@ -1,0 +1,439 @@
+//! The service centre.
+
+ghost use Rattle.std.specs.Prelude.{◌≡◌, ◌<◌, ◌≤◌, IsTrue, length, position, map, ◌&&◌, IfSome, IfOk, IfErr, OnOk, OnErr};
+ghost use Rattle.sms_field.specs.SameAddress.{same_address};
+ghost use Rattle.sms_party.specs.Address.{are_distinct, phone_at};
+ghost use Rattle.sms_party.specs.Message.Reading.{HasTag};
+ghost use Rattle.sms_party.specs.Centre.State.{new_centre};
+ghost use Rattle.sms_party.specs.Centre.Checks.{check_space, checked_by};
+ghost use Rattle.sms_party.specs.Centre.Submissions.{centre_takes};
+ghost use Rattle.sms_party.specs.Centre.{centre_opened, centre_answered, centre_receives};
+ghost use Rattle.sms_party.specs.Centre.Value.{centre_at, phones_of};
+ghost use Rattle.sms_party.specs.Centre.Lines.{new_line, accepting_line};
+ghost use Rattle.sms_party.specs.Centre.Kept.{books_in, is_kept, key_of, HoldsAlso, IsLawfulCheck};
+ghost use Rattle.sms_party.specs.Centre.Calls.{StandsLater, StandsAlways, PushSteps, SettlesAs, Steps, ReceivesAs};
+ghost use Rattle.sms_party.specs.declared.outcome.Dropped.TheVariants.{Memory};
+
+mod answering;
+mod check;
+mod held;
+mod line;
+mod waiting;
+
+use crate::centre::answering::{approval, refusal};
+use crate::centre::check::Check;
+use crate::centre::held::{HeldKey, HeldMessages};
+use crate::centre::line::Line;
+use crate::centre::waiting::WaitingMessage;
+use crate::message::packets::relay_refusal;
+use crate::message::reading::read_message;
+use crate::message::stamping::LAST_MOMENT;
+use crate::message::{Message, Relay, Tag, TransferUnit};
+use crate::outcome::{Dropped, Outcome, Step};
+use sms_field::{Address, ValidityFault};
+use sms_relay::Side;
+use sms_tpdu::Submit;
+use std::alloc::{AllocError, Global};
+use std::marker::Model;
+
+/// The service centre.
+#[derive(Drop)]
+pub struct Centre {
+    limit: usize,
+    held: HeldMessages,
+    /// One for each phone.
+    lines: Vec<Line>,
+}
+
+impl Model for Centre {
+    ghost use Rattle.sms_party.specs.Centre.Value.{CentreValue};
+
+    ghost Value = { CentreValue };
+
+    ghost view = { λ c. record { limit = c.limit; held = c.held; lines = c.lines.items } };
+}
+
+/// Whether two addresses are the same.
+#[tactic(auto, unfolding(sms_field::specs::SameAddress::same_address))]
+fn is_same_address(a: &Address, b: &Address) -> bool
+    ensures { result ≡ same_address a.now b.now }
+{
+    a == b
+}
+
+/// The line with this address.
+fn find(lines: &[Line], target: &Address) -> Option<usize>
+    ensures { result ≡ position (λ line. same_address line.address target.now) lines.now }
+{
+    lines
+        .iter()
+        .position(|line| is_same_address(&line.address, target))
+}
+
+/// A line for each address.
+fn new_lines(alloc: Global, phones: &[Address]) -> Result<Vec<Line>, AllocError>
+    ensures { IfOk result (λ lines. lines.items ≡ map new_line phones.now) }
+{
+    let mut lines = Vec::new(alloc);
+    for phone in phones {
+        let address = phone.copy(alloc)?;
+        lines.push(Line {
+            address,
+            queue: Vec::new(alloc),
+            free: 0,
+            value: 0,
+            reference: 0,
+            latest: None,
+        })?;
+    }
+    Ok(lines)
+}
+
+/// Holds a message, and puts it into the queue of its recipient. All growths come before the first change; if memory runs
+/// out, nothing has changed.
+fn hold(
+    held: &mut HeldMessages,
+    line: &mut Line,
+    key: HeldKey,
+    message: WaitingMessage,
+) -> Result<(), Dropped>
+    ensures held { OnOk result (HoldsAlso held.old key message.ends held.new) }
+    ensures line { OnOk result (line.new ≡ accepting_line line.old message) }
+    ensures err_held { OnErr result (held.new ≡ held.old) }
+    ensures err_line { OnErr result (line.new ≡ line.old) }
+    ensures memory { IfErr result (λ e. e ≡ Memory) }
+{
+    line.queue.reserve(1)?;
+    held.hold(key, message.ends)?;
+    line.free = message.stamp + 1;
+    line.queue.push_reserved(message);
+    Ok(())
+}
+
+impl Centre {
+    /// A centre that holds nothing, for phones of these addresses, which are different, and for at most so many messages:
+    /// 1 to 1,000. There are at most 100 phones; a phone is its number among them, from 0.
+    pub fn new(alloc: Global, held: usize, phones: &[Address]) -> Result<Centre, AllocError>
+        requires distinct { IsTrue (are_distinct phones.now) }
+        requires few { length phones.now ≤ 100 }
+        requires some { 0 < held }
+        requires most { held ≤ 1000 }
+        ensures stands { IfOk result (λ centre. StandsAlways held phones.now centre new_centre) }
+        ensures phones { IfOk result (λ centre. phones_of centre ≡ phones.now) }
+    {
+        Ok(Centre {
+            limit: held,
+            held: HeldMessages::new(alloc),
+            lines: new_lines(alloc, phones)?,
+        })
+    }
+
+    /// Forgets the messages whose validity has ended. It takes no memory.
+    pub fn advance(&mut self, now: u64)
+        ensures stands { StandsLater now self.old self.new }
+        ensures phones { phones_of self.new ≡ phones_of self.old }
+    {
+        self.forget(now);
+    }
+
+    /// Forgets the messages whose validity has ended.
+    fn forget(&mut self, now: u64)
+        ensures value { self.new ≡ centre_at now self.old }
+        ensures stands { StandsLater now self.old self.new }
+        ensures phones { phones_of self.new ≡ phones_of self.old }
+    {
+        self.held.forget(now);
+        for line in self.lines.iter_mut() {
+            line.advance(now);
+        }
+    }
+
+    /// Puts out the message to this phone whose latest acceptance or push is the earliest.
+    pub fn push(&mut self, alloc: Global, now: u64, phone: usize) -> Result<Step, Dropped>
+        requires { phone < length (phones_of self.old) }
+        ensures steps { PushSteps now phone self.old result self.new }
+        ensures phones { phones_of self.new ≡ phones_of self.old }
+    {
+        self.forget(now);
+        let line = &mut self.lines[phone];
+        line.push(alloc)
+    }
+
+    /// Takes what comes from this phone: a submission, or the answer to a push.
+    pub fn receive(
+        &mut self,
+        alloc: Global,
+        now: u64,
+        phone: usize,
+        octets: &[u8],
+    ) -> Result<Step, Dropped>
+        requires phone { phone < length (phones_of self.old) }
+        requires moment { now < 3155760000 }
+        ensures receives { ReceivesAs now phone octets.now self.old result self.new }
+        ensures phones { phones_of self.new ≡ phones_of self.old }
+    {
+        self.forget(now);
+        let message = read_message(alloc, octets)?;
+        self.take(alloc, now, phone, message)
+    }
+
+    /// Takes a message from this phone.
+    fn take(
+        &mut self,
+        alloc: Global,
+        now: u64,
+        phone: usize,
+        message: Message,
+    ) -> Result<Step, Dropped>
+        requires phone { phone < length (phones_of self.old) }
+        requires moment { now < 3155760000 }
+        requires tag { HasTag message }
+        ensures steps { Steps now (λ limit phones c origin.
+            centre_receives limit phones c now phone message origin)
+            self.old result self.new }
+        ensures phones { phones_of self.new ≡ phones_of self.old }
+    {
+        match message {
+            Message::NotCp => Err(Dropped::NotCp),
+            Message::Note { .. } => Ok(Step {
+                outcome: Outcome::Noted,
+                packets: Vec::new(alloc),
+            }),
+            Message::Tiny { .. } => Err(Dropped::Unmatched),
+            Message::Data { flag, tag, relay } => {
+                if flag {
+                    self.take_answer(alloc, now, phone, tag, relay)
+                } else {
+                    self.take_request(alloc, now, phone, tag, relay)
+                }
+            }
+        }
+    }
+
+    /// Takes a message of a transaction that the phone has opened.
+    fn take_request(
+        &mut self,
+        alloc: Global,
+        now: u64,
+        phone: usize,
+        tag: Tag,
+        relay: Relay,
+    ) -> Result<Step, Dropped>
+        requires phone { phone < length (phones_of self.old) }
+        requires moment { now < 3155760000 }
+        requires tag { tag.value < 7 }
+        ensures steps { Steps now (λ limit phones c origin.
+            centre_opened limit phones c now phone tag relay origin)
+            self.old result self.new }
+        ensures phones { phones_of self.new ≡ phones_of self.old }
+    {
+        match relay {
+            Relay::Transfer { side, unit } => match side {
+                Side::FromPhone => self.take_unit(alloc, now, phone, tag, unit),
+                Side::ToPhone => Err(Dropped::Unmatched),
+            },
+            Relay::Answer { .. } => Err(Dropped::Unmatched),
+            Relay::UnknownType => relay_refusal(alloc, Side::ToPhone, tag, 97),
+            Relay::Unreadable => relay_refusal(alloc, Side::ToPhone, tag, 96),
+        }
+    }
+
+    /// Takes a message of a transaction that the centre has opened.
+    fn take_answer(
+        &mut self,
+        alloc: Global,
+        now: u64,
+        phone: usize,
+        tag: Tag,
+        relay: Relay,
+    ) -> Result<Step, Dropped>
+        requires phone { phone < length (phones_of self.old) }
+        requires tag { tag.value < 7 }
+        ensures steps { Steps now (λ limit phones c origin.
+            centre_answered c now phone tag relay)
+            self.old result self.new }
+        ensures phones { phones_of self.new ≡ phones_of self.old }
+    {
+        match relay {
+            Relay::Answer { side, cause, .. } => match side {
+                Side::FromPhone => {
+                    let line = &mut self.lines[phone];
+                    line.hear(alloc, now, tag, cause)
+                }
+                Side::ToPhone => Err(Dropped::Unmatched),
+            },
+            Relay::Transfer { .. } => Err(Dropped::Unmatched),
+            Relay::UnknownType => Err(Dropped::Unmatched),
+            Relay::Unreadable => Err(Dropped::Unmatched),
+        }
+    }
+
+    /// Takes the unit of a transfer.
+    fn take_unit(
+        &mut self,
+        alloc: Global,
+        now: u64,
+        phone: usize,
+        tag: Tag,
+        unit: TransferUnit,
+    ) -> Result<Step, Dropped>
+        requires phone { phone < length (phones_of self.old) }
+        requires moment { now < 3155760000 }
+        requires tag { tag.value < 7 }
+        ensures steps { Steps now (λ limit phones c origin.
+            centre_takes limit phones c now phone tag unit origin)
+            self.old result self.new }
+        ensures phones { phones_of self.new ≡ phones_of self.old }
+    {
+        match unit {
+            TransferUnit::Submit(submission) => {
+                let check = self.check(now, phone, &submission);
+                self.settle(alloc, now, phone, tag, submission, check)
+            }
+            TransferUnit::Deliver(_) => refusal(alloc, now, tag, 21, 0xB0),
+            TransferUnit::OtherUnit => refusal(alloc, now, tag, 21, 0xB0),
+            TransferUnit::BadUnit => refusal(alloc, now, tag, 21, 0xFF),
+        }
+    }
+
+    /// Answers a submission as it was checked.
+    fn settle(
+        &mut self,
+        alloc: Global,
+        now: u64,
+        phone: usize,
+        tag: Tag,
+        submission: Submit,
+        check: Check,
+    ) -> Result<Step, Dropped>
+        requires phone { phone < length (phones_of self.old) }
+        requires moment { now < 3155760000 }
+        requires tag { tag.value < 7 }
+        requires check { IsLawfulCheck self.old check }
+        ensures steps { SettlesAs now phone tag submission check self.old result self.new }
+        ensures phones { phones_of self.new ≡ phones_of self.old }
+    {
+        match check {
+            Check::Refuse { cause, failure } => refusal(alloc, now, tag, cause, failure),
+            Check::Accept {
+                recipient,
+                ends,
+                stamp,
+            } => {
+                let step = approval(alloc, tag, stamp)?;
+                let origin = self.lines[phone].address.copy(alloc)?;
+                let key = HeldKey {
+                    phone,
+                    reference: submission.reference,
+                    recipient,
+                };
+                let message = WaitingMessage {
+                    origin,
+                    submission,
+                    stamp,
+                    ends,
+                };
+                let line = &mut self.lines[recipient];
+                hold(&mut self.held, line, key, message)?;
+                Ok(step)
+            }
+        }
+    }
+
+    /// What becomes of a submission.
+    #[tactic(auto, unfolding(crate::specs::Centre::Checks::checked_by))]
+    fn check(&self, now: u64, phone: usize, submission: &Submit) -> Check
+        requires { now < 3155760000 }
+        ensures result_is { result ≡ checked_by self.now.limit (phones_of self.now)
+            (books_in self.now now phone submission.now) now submission.now }
+        ensures lawful { IsLawfulCheck self.now result }
+    {
+        match submission.validity.ends(now) {
+            Err(ValidityFault::EnhancedValidity) => Check::Refuse {
+                cause: 21,
+                failure: 0xC6,
+            },
+            Err(ValidityFault::NoMoment) => Check::Refuse {
+                cause: 21,
+                failure: 0xC7,
+            },
+            Ok(ends) => {
+                if ends <= now {
+                    return Check::Refuse {
+                        cause: 21,
+                        failure: 0xC7,
+                    };
+                }
+                match self.recipient_of(&submission.target) {
+                    None => Check::Refuse {
+                        cause: 1,
+                        failure: 0xC3,
+                    },
+                    Some(recipient) => self.check_space(now, phone, submission, ends, recipient),
+                }
+            }
+        }
+    }
+
+    /// The phone with this address.
+    fn recipient_of(&self, target: &Address) -> Option<usize>
+        ensures is { result ≡ phone_at (phones_of self.now) target.now }
+        ensures within { IfSome result (λ r. r < length (phones_of self.now)) }
+    {
+        find(&self.lines, target)
+    }
+
+    /// Whether repeats are to be rejected, and a held message is the same.
+    fn is_duplicate(&self, now: u64, phone: usize, submission: &Submit, recipient: usize) -> bool
+        ensures { result ≡ (submission.now.reject
+            && is_kept self.now.held.last (key_of phone submission.now.reference recipient) now) }
+    {
+        let key = HeldKey {
+            phone,
+            reference: submission.reference,
+            recipient,
+        };
+        submission.reject && self.held.is_held(key, now)
+    }
+
+    /// Whether there is room for a submission.
+    fn check_space(
+        &self,
+        now: u64,
+        phone: usize,
+        submission: &Submit,
+        ends: u64,
+        recipient: usize,
+    ) -> Check
+        requires { recipient < length (phones_of self.now) }
+        ensures result_is { result ≡ check_space self.now.limit
+            (books_in self.now now phone submission.now) submission.now ends recipient }
+        ensures lawful { IsLawfulCheck self.now result }
+    {
+        if self.is_duplicate(now, phone, submission, recipient) {
+            return Check::Refuse {
+                cause: 21,
+                failure: 0xC5,
+            };
+        }
+        if self.held.count() >= self.limit {
+            return Check::Refuse {
+                cause: 42,
+                failure: 0xC0,
+            };
+        }
+        let line = &self.lines[recipient];
+        let stamp = line.free.max(now);
+        if stamp >= LAST_MOMENT {
+            return Check::Refuse {
+                cause: 38,
+                failure: 0xC2,
+            };
+        }
+        Check::Accept {
+            recipient,
+            ends,
+            stamp,
+        }
+    }
+}

@@ -1,0 +1,87 @@
+//! The packets of the centre's answers to submissions.
+
+ghost use Rattle.std.specs.Prelude.{◌≡◌, ◌<◌, ℕ, [], ◌∷◌, true, None, Some, IfOk, IfErr, option_copied, List, Option, Bool};
+ghost use Rattle.std.specs.Option.{ForSome};
+ghost use Rattle.sms_relay.specs.Carried as carried;
+ghost use Rattle.sms_relay.specs.declared.side.Side.TheVariants.{ToPhone};
+ghost use Rattle.sms_party.specs.declared.message.Message.TheVariants.{Note, Data};
+ghost use Rattle.sms_party.specs.declared.message.Relay.TheVariants.{Answer};
+ghost use Rattle.sms_party.specs.declared.message.Report.{Report};
+ghost use Rattle.sms_party.specs.Message.Carrying.{Carries, SpellsReport};
+ghost use Rattle.sms_party.specs.Message.Answers.{answers, submit_error_of, submit_ack_of};
+ghost use Rattle.sms_party.specs.Does.{Puts};
+ghost use Rattle.sms_party.specs.declared.outcome.Dropped.TheVariants.{Memory};
+ghost use Rattle.sms_party.specs.declared.outcome.Outcome.TheVariants.{Held, Refused};
+
+use crate::message::Tag;
+use crate::message::packets::{answered, wrapped};
+use crate::message::stamping::stamp_of;
+use crate::outcome::{Dropped, Outcome, Step};
+use sms_relay::{Side, wrap_answer};
+use sms_tpdu::{SubmitAck, SubmitError};
+use std::alloc::Global;
+
+/// A CP-ACK, and an RP-ERROR with a report.
+pub(crate) fn refusal(
+    alloc: Global,
+    now: u64,
+    tag: Tag,
+    cause: u8,
+    failure: u8,
+) -> Result<Step, Dropped>
+    requires value { tag.value < 7 }
+    requires moment { now < 3155760000 }
+    requires cause { cause < 128 }
+    ensures { Puts (Refused cause (Some failure))
+        (answers ToPhone tag (Some cause) (Some (submit_error_of failure now))) result }
+{
+    let report = SubmitError {
+        has_header: false,
+        cause: failure,
+        stamp: stamp_of(now),
+        pid: None,
+        dcs: None,
+        user: None,
+    };
+    let packet = wrap_answer(
+        alloc,
+        true,
+        tag.value,
+        Side::ToPhone,
+        tag.reference,
+        Some(cause),
+        Some(&report),
+    );
+    let packet = wrapped(packet)?;
+    let outcome = Outcome::Refused {
+        cause,
+        failure: Some(failure),
+    };
+    answered(alloc, outcome, tag, packet)
+}
+
+/// A CP-ACK, and an RP-ACK with a report.
+pub(crate) fn approval(alloc: Global, tag: Tag, stamp: u64) -> Result<Step, Dropped>
+    requires value { tag.value < 7 }
+    requires moment { stamp < 3155760000 }
+    ensures { Puts Held (answers ToPhone tag None (Some (submit_ack_of stamp))) result }
+{
+    let report = SubmitAck {
+        has_header: false,
+        stamp: stamp_of(stamp),
+        pid: None,
+        dcs: None,
+        user: None,
+    };
+    let packet = wrap_answer(
+        alloc,
+        true,
+        tag.value,
+        Side::ToPhone,
+        tag.reference,
+        None,
+        Some(&report),
+    );
+    let packet = wrapped(packet)?;
+    answered(alloc, Outcome::Held, tag, packet)
+}

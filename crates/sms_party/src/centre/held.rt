@@ -1,0 +1,93 @@
+//! The messages that the centre holds.
+
+ghost use Rattle.std.specs.Prelude.{◌≡◌, ◌++◌, [], ◌∷◌, nat_lt, length, OnOk, OnErr};
+ghost use Rattle.sms_party.specs.Centre.Value.{HeldValue, held_at};
+ghost use Rattle.sms_party.specs.Centre.Kept.{is_kept, HoldsAlso};
+
+use indexmap::IndexMap;
+use std::alloc::{AllocError, Global};
+use std::marker::Model;
+
+/// What tells a duplicate: the originating phone, the message reference and the recipient (3GPP TS 23.040, 9.2.3.25).
+#[derive(Clone, Copy, Debug, PartialEq, Eq, Hash)]
+pub(crate) struct HeldKey {
+    pub phone: usize,
+    pub reference: u8,
+    pub recipient: usize,
+}
+
+/// The messages whose validity has not ended, delivered or not.
+#[derive(Drop)]
+pub(crate) struct HeldMessages {
+    /// The end of each, in order of acceptance.
+    ends: Vec<u64>,
+    /// For each key the greatest end of those that have it.
+    last: IndexMap<HeldKey, u64>,
+}
+
+impl Model for HeldMessages {
+    ghost use Rattle.indexmap.specs.IndexMap.{IsUnique};
+    ghost use Rattle.sms_party.specs.Centre.Value.{HeldValue, key_eq};
+
+    ghost Value = { HeldValue };
+
+    ghost view = { λ h. record { ends = h.ends.items; last = h.last.entries } };
+
+    ghost invariant = { λ h. IsUnique key_eq h.last };
+}
+
+impl HeldMessages {
+    /// None.
+    pub(crate) fn new(alloc: Global) -> HeldMessages
+        ensures { result ≡ record { ends = []; last = [] } }
+    {
+        HeldMessages {
+            ends: Vec::new(alloc),
+            last: IndexMap::new(alloc),
+        }
+    }
+
+    /// How many there are.
+    pub(crate) fn count(&self) -> usize
+        ensures { result ≡ length self.now.ends }
+    {
+        self.ends.len()
+    }
+
+    /// Whether one with this key ends after a moment.
+    pub(crate) fn is_held(&self, key: HeldKey, now: u64) -> bool
+        ensures { result ≡ is_kept self.now.last key now }
+    {
+        match self.last.get(&key) {
+            Some(end) => *end > now,
+            None => false,
+        }
+    }
+
+    /// Forgets those that have ended.
+    pub(crate) fn forget(&mut self, now: u64)
+        ensures { self.new ≡ held_at now self.old }
+    {
+        self.ends.retain(|end| *end > now);
+        self.last.retain(
+            |_key: &HeldKey, end: &mut u64| -> bool
+                ensures { (result ≡ nat_lt now end.old) × (end.new ≡ end.old) }
+            { *end > now },
+        );
+    }
+
+    /// Holds one more, with this key, to this end. If memory runs out, nothing has changed.
+    pub(crate) fn hold(&mut self, key: HeldKey, end: u64) -> Result<(), AllocError>
+        ensures ok { OnOk result (HoldsAlso self.old key end self.new) }
+        ensures err { OnErr result (self.new ≡ self.old) }
+    {
+        self.ends.reserve(1)?;
+        let greatest = match self.last.get(&key) {
+            Some(other) => end.max(*other),
+            None => end,
+        };
+        self.last.insert(key, greatest)?;
+        self.ends.push_reserved(end);
+        Ok(())
+    }
+}

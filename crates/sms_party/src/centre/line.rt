@@ -1,0 +1,178 @@
+//! What the centre knows of one recipient.
+
+ghost use Rattle.std.specs.Prelude.{◌≡◌, ◌<◌, false, IfOk, IfErr};
+ghost use Rattle.sms_relay.specs.declared.side.Side.TheVariants.{ToPhone};
+ghost use Rattle.sms_party.specs.declared.message.Message.TheVariants.{Data};
+ghost use Rattle.sms_party.specs.declared.message.Relay.TheVariants.{Transfer};
+ghost use Rattle.sms_party.specs.declared.message.TransferUnit.TheVariants.{Deliver};
+ghost use Rattle.sms_party.specs.Message.Carrying.{Carries};
+ghost use Rattle.sms_party.specs.Centre.Verdicts.{stays, verdict};
+ghost use Rattle.sms_party.specs.Centre.Value.{line_at};
+ghost use Rattle.sms_party.specs.Centre.Lines.{delivery_of, left_waiting, LinePushes, LineHears};
+ghost use Rattle.sms_party.specs.declared.outcome.Dropped.TheVariants.{Memory};
+
+use crate::centre::waiting::{Push, WaitingMessage};
+use crate::message::Tag;
+use crate::message::packets::{acknowledgement, address_of_centre, wrapped};
+use crate::outcome::{Dropped, Outcome, Step};
+use sms_field::Address;
+use sms_relay::{Side, wrap_transfer};
+use std::alloc::Global;
+use std::marker::Model;
+
+/// What the centre knows of one recipient.
+#[derive(Drop)]
+pub(crate) struct Line {
+    pub address: Address,
+    /// What is to be delivered, in order of its latest acceptance or push.
+    pub queue: Vec<WaitingMessage>,
+    /// No stamp below this one is given any more.
+    pub free: u64,
+    /// The transaction value and the reference of the next push.
+    pub value: u8,
+    pub reference: u8,
+    /// The latest push, until it is answered.
+    pub latest: Option<Push>,
+}
+
+impl Model for Line {
+    ghost use Rattle.sms_party.specs.Centre.Value.{LineValue};
+
+    ghost Value = { LineValue };
+
+    ghost use Rattle.std.specs.Prelude.{◌<◌};
+
+    ghost invariant = { λ l. l.value < 7 };
+
+    ghost view = { λ l. record {
+      address = l.address;
+      queue = l.queue.items;
+      free = l.free;
+      value = l.value;
+      reference = l.reference;
+      latest = l.latest;
+    } };
+}
+
+/// The packet that brings a message to its recipient.
+fn delivery_packet(
+    alloc: Global,
+    value: u8,
+    reference: u8,
+    message: &WaitingMessage,
+    more: bool,
+) -> Result<Vec<u8>, Dropped>
+    requires { value < 7 }
+    ensures carries { IfOk result (λ p. Carries p.items
+        (Data false (record { value = value; reference = reference })
+        (Transfer ToPhone (Deliver (delivery_of message.now more))))) }
+    ensures err { IfErr result (λ e. e ≡ Memory) }
+{
+    let address = address_of_centre(alloc)?;
+    let deliver = message.delivery(alloc, more)?;
+    wrapped(wrap_transfer(
+        alloc,
+        false,
+        value,
+        Side::ToPhone,
+        reference,
+        Some(&address),
+        &deliver,
+    ))
+}
+
+/// What an answer to a push makes of the message.
+fn verdict(cause: Option<u8>) -> Outcome
+    ensures { result ≡ verdict cause }
+{
+    match cause {
+        None => Outcome::Delivered,
+        Some(22) => Outcome::Returned,
+        Some(_) => Outcome::Abandoned,
+    }
+}
+
+/// Whether the message waits on.
+fn stays(cause: Option<u8>) -> bool
+    ensures { result ≡ stays cause }
+{
+    match cause {
+        None => false,
+        Some(cause) => cause == 22,
+    }
+}
+
+/// Takes the message with this stamp from the queue, as the answer to its push says.
+fn take_out(queue: &mut Vec<WaitingMessage>, stamp: u64, cause: Option<u8>)
+    ensures { queue.new.items ≡ left_waiting queue.old.items stamp cause }
+{
+    if !stays(cause) {
+        queue.retain(|message| message.stamp != stamp);
+    }
+}
+
+impl Line {
+    /// Removes the messages whose validity has ended.
+    pub(crate) fn advance(&mut self, now: u64)
+        ensures { self.new ≡ line_at now self.old }
+    {
+        self.queue.retain(|message| message.ends > now);
+    }
+
+    /// Puts out the first message of the queue, which goes to its end. If memory runs out, the line is as it was.
+    pub(crate) fn push(&mut self, alloc: Global) -> Result<Step, Dropped>
+        ensures { LinePushes self.old result self.new }
+    {
+        let Some((first, others)) = self.queue.as_slice().split_first() else {
+            return Ok(Step {
+                outcome: Outcome::NothingWaits,
+                packets: Vec::new(alloc),
+            });
+        };
+        let more = !others.is_empty();
+        let packet = delivery_packet(alloc, self.value, self.reference, first, more)?;
+        let latest = Push {
+            value: self.value,
+            reference: self.reference,
+            stamp: first.stamp,
+            ends: first.ends,
+        };
+        let packets = vec![in alloc; packet]?;
+        self.queue.rotate_left(1);
+        self.latest = Some(latest);
+        self.value = (self.value + 1) % 7;
+        self.reference = self.reference.wrapping_add(1);
+        Ok(Step {
+            outcome: Outcome::Pushed,
+            packets,
+        })
+    }
+
+    /// Takes the answer to the latest push: an acknowledgement, or a refusal with a cause.
+    pub(crate) fn hear(
+        &mut self,
+        alloc: Global,
+        now: u64,
+        tag: Tag,
+        cause: Option<u8>,
+    ) -> Result<Step, Dropped>
+        requires { tag.value < 7 }
+        ensures { LineHears now tag cause self.old result self.new }
+    {
+        let Some(latest) = &self.latest else {
+            return Err(Dropped::Unmatched);
+        };
+        if tag.value != latest.value || tag.reference != latest.reference || latest.ends <= now {
+            return Err(Dropped::Unmatched);
+        }
+        let stamp = latest.stamp;
+        let packet = acknowledgement(alloc, false, tag.value)?;
+        let packets = vec![in alloc; packet]?;
+        self.latest = None;
+        take_out(&mut self.queue, stamp, cause);
+        Ok(Step {
+            outcome: verdict(cause),
+            packets,
+        })
+    }
+}

@@ -1,0 +1,64 @@
+//! Messages that wait for their delivery.
+
+ghost use Rattle.std.specs.Prelude.{◌≡◌, Bool, IfOk};
+ghost use Rattle.sms_party.specs.Centre.Lines.{delivery_of};
+
+use crate::message::stamping::stamp_of;
+use sms_field::Address;
+use sms_tpdu::{Deliver, Submit};
+use std::alloc::{AllocError, Global};
+use std::marker::Model;
+
+/// The latest push to a phone.
+#[derive(Drop)]
+pub(crate) struct Push {
+    pub value: u8,
+    pub reference: u8,
+    pub stamp: u64,
+    pub ends: u64,
+}
+
+/// A message that is to be delivered.
+#[derive(Drop)]
+pub(crate) struct WaitingMessage {
+    pub origin: Address,
+    pub submission: Submit,
+    /// Below the first moment that has no stamp.
+    pub stamp: u64,
+    pub ends: u64,
+}
+
+impl Model for WaitingMessage {
+    ghost use Rattle.std.specs.Prelude.{◌<◌};
+    ghost use Rattle.sms_party.specs.Centre.Value.{WaitingValue};
+
+    ghost Value = { WaitingValue };
+
+    ghost view = { λ m. record {
+      origin = m.origin;
+      submission = m.submission;
+      stamp = m.stamp;
+      ends = m.ends;
+    } };
+
+    ghost invariant = { λ m. m.stamp < 3155760000 };
+}
+
+impl WaitingMessage {
+    /// The message on its way to its recipient; `more` says whether another one waits.
+    pub(crate) fn delivery(&self, alloc: Global, more: bool) -> Result<Deliver, AllocError>
+        ensures { IfOk result (λ d. d ≡ delivery_of self.now more) }
+    {
+        Ok(Deliver {
+            more,
+            looped: false,
+            report: false,
+            reply: self.submission.reply,
+            origin: self.origin.copy(alloc)?,
+            pid: self.submission.pid,
+            dcs: self.submission.dcs,
+            stamp: stamp_of(self.stamp),
+            user: self.submission.user.copy(alloc)?,
+        })
+    }
+}

@@ -1,0 +1,24 @@
+//! The parties of a short message: the sending phone, the service centre, the receiving phone.
+#![tactic(auto)]
+
+mod centre;
+mod laws;
+mod message;
+mod outcome;
+mod phone;
+mod receiver;
+mod sender;
+
+pub use centre::Centre;
+pub use laws::{
+    carried_messages_are_read, octets_are_read_as_a_message, octets_are_read_as_one_message,
+    others_leave_sender, recipients_are_addressed, stamps_rise,
+};
+pub use message::{Message, Relay, Report, Tag, TransferUnit};
+pub use outcome::{Dropped, Outcome, Step};
+pub use phone::Phone;
+pub use receiver::{Entry, Receiver};
+pub use sender::{Sender, Status};
+
+#[cfg(test)]
+mod tests;

@@ -1,0 +1,128 @@
+//! A phone, which sends and receives.
+
+ghost use Rattle.std.specs.Prelude.{◌≡◌, ◌<◌, IfOk, OnErr};
+ghost use Rattle.std.specs.Str.{chars};
+ghost use Rattle.sms_party.specs.Sender.Calls.{times_out};
+ghost use Rattle.sms_party.specs.Sender.Stands.{Steps, Types, TellsStatus, IsNewSender};
+ghost use Rattle.sms_party.specs.Receiver.State.{limits_of};
+ghost use Rattle.sms_party.specs.Receiver.Standing.{IsNew, AgesTo};
+ghost use Rattle.sms_party.specs.Phone.{is_answer, PhoneReceives};
+
+use crate::message::Message;
+use crate::message::reading::read_message;
+use crate::outcome::{Dropped, Step};
+use crate::receiver::{Entry, Receiver};
+use crate::sender::{Sender, Status};
+use sms_field::Address;
+use sms_tpdu::Width;
+use std::alloc::{AllocError, Global};
+use std::marker::Model;
+
+/// A phone, which sends texts and receives them.
+#[derive(Drop)]
+pub struct Phone {
+    sender: Sender,
+    receiver: Receiver,
+}
+
+impl Model for Phone {
+    ghost use Rattle.sms_party.specs.Phone.{PhoneValue};
+
+    ghost Value = { PhoneValue };
+
+    ghost view = { λ p. record { sender = p.sender; receiver = p.receiver } };
+}
+
+/// Whether a message is of a transaction that the phone has opened.
+fn is_answer(message: &Message) -> bool
+    ensures { result ≡ is_answer message.now }
+{
+    match message {
+        Message::NotCp => false,
+        Message::Note { flag, .. } => *flag,
+        Message::Tiny { flag, .. } => *flag,
+        Message::Data { flag, .. } => *flag,
+    }
+}
+
+impl Phone {
+    /// A phone that has typed nothing, with an empty store: how many sets of segments may be open, how many finished ones
+    /// are remembered, and how many texts are stored. For the other two see `Sender::new`.
+    pub fn new(
+        alloc: Global,
+        open_max: usize,
+        remembered: usize,
+        store: usize,
+        width: Width,
+        reject: bool,
+    ) -> Result<Phone, AllocError>
+        requires sets { 0 < open_max }
+        requires keys { 0 < remembered }
+        ensures sends { IfOk result (λ phone. IsNewSender width reject phone.sender) }
+        ensures receives { IfOk result (λ phone.
+            IsNew (limits_of open_max remembered store) phone.receiver) }
+    {
+        Ok(Phone {
+            sender: Sender::new(alloc, width, reject),
+            receiver: Receiver::new(alloc, open_max, remembered, store)?,
+        })
+    }
+
+    /// Types a text to an address. If it answers an error, the phone is as it was.
+    pub fn type_text(
+        &mut self,
+        alloc: Global,
+        target: &Address,
+        text: &str,
+    ) -> Result<Step, Dropped>
+        ensures types { Types target.now (chars text.now) self.old.sender result self.new.sender }
+        ensures receiver { self.new.receiver ≡ self.old.receiver }
+        ensures refused { OnErr result (self.new ≡ self.old) }
+    {
+        self.sender.type_text(alloc, target, text)
+    }
+
+    /// No answer has come in time. If it answers an error, the phone is as it was.
+    pub fn timeout(&mut self, alloc: Global) -> Result<Step, Dropped>
+        ensures steps { Steps times_out self.old.sender result self.new.sender }
+        ensures receiver { self.new.receiver ≡ self.old.receiver }
+        ensures refused { OnErr result (self.new ≡ self.old) }
+    {
+        self.sender.timeout(alloc)
+    }
+
+    /// How the text of this number stands; the first typed text has number 1.
+    pub fn status(&self, number: usize) -> Option<Status>
+        ensures { TellsStatus self.now.sender number result }
+    {
+        self.sender.status(number)
+    }
+
+    /// Takes what comes to the phone. If it answers an error, the phone is as it was.
+    pub fn receive(&mut self, alloc: Global, now: u64, octets: &[u8]) -> Result<Step, Dropped>
+        ensures receives { PhoneReceives now octets.now self.old result self.new }
+        ensures refused { OnErr result (self.new ≡ self.old) }
+    {
+        let message = read_message(alloc, octets)?;
+        if is_answer(&message) {
+            self.sender.take(alloc, message)
+        } else {
+            self.receiver.take(alloc, now, message)
+        }
+    }
+
+    /// Drops the sets of segments whose first segment came 604,800 seconds before, or earlier. It takes no memory.
+    pub fn age(&mut self, now: u64)
+        ensures receiver { AgesTo now self.old.receiver self.new.receiver }
+        ensures sender { self.new.sender ≡ self.old.sender }
+    {
+        self.receiver.age(now);
+    }
+
+    /// The texts that came, in order of completion.
+    pub fn store(&self) -> &[Entry]
+        ensures { result.now ≡ self.now.receiver.store }
+    {
+        self.receiver.store()
+    }
+}

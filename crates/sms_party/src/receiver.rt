@@ -1,0 +1,294 @@
+//! The receiving phone.
+
+ghost use Rattle.std.specs.Prelude.{◌≡◌, ◌<◌, nat_le, length, ◌&&◌, ℕ, IfOk, IfErr, OnErr};
+ghost use Rattle.sms_field.specs.Coding.{alphabet_at};
+ghost use Rattle.sms_join.specs.declared.units.Units.{Units as Pieces};
+ghost use Rattle.sms_join.specs.Piece.{piece_of};
+ghost use Rattle.sms_tpdu.specs.UserData.ConcatenationFound.{IsPlace, concat_of_header};
+ghost use Rattle.sms_join.specs.Finishing.{would_finish};
+ghost use Rattle.sms_party.specs.Message.Reading.{HasTag};
+ghost use Rattle.sms_party.specs.Receiver.State.{limits_of};
+ghost use Rattle.sms_party.specs.Receiver.Pieces.{units_in};
+ghost use Rattle.sms_party.specs.Receiver.Offers.{offers_units, receiver_offers};
+ghost use Rattle.sms_party.specs.Receiver.{receiver_takes, receiver_opened, receiver_receives};
+ghost use Rattle.sms_party.specs.Receiver.Standing.{IsNew, AgesTo, Steps, ReceivesAs};
+ghost use Rattle.sms_party.specs.declared.outcome.Dropped.TheVariants.{Memory};
+
+mod replying;
+
+use crate::message::packets::relay_refusal;
+use crate::message::reading::read_message;
+use crate::message::{Message, Relay, Tag, TransferUnit};
+use crate::outcome::{Dropped, Outcome, Step};
+use crate::receiver::replying::{approval, refusal};
+use sms_field::{Address, Alphabet, Stamp, alphabet_of};
+use sms_join::laws::{agings_keep_same, answer_finishes, answers_alike, same_is_equivalence};
+use sms_join::{Joiner, Offer, OfferFault, Units, WideUnits};
+use sms_relay::Side;
+use sms_text::units_of_octets;
+use sms_tpdu::{Body, Concat, Deliver, Header};
+use std::alloc::{AllocError, Global};
+use std::marker::Model;
+
+/// A text that came: whom it is from, and the text.
+#[derive(Drop)]
+pub struct Entry {
+    pub origin: Address,
+    pub text: String,
+}
+
+impl Model for Entry {
+    ghost use Rattle.std.specs.Str.{chars};
+    ghost use Rattle.std.specs.String.{string_bytes};
+    ghost use Rattle.sms_party.specs.Receiver.State.{Entry};
+
+    ghost Value = { Entry };
+
+    ghost view = { λ e. record { origin = e.origin; characters = chars (string_bytes e.text) } };
+}
+
+/// A receiving phone.
+#[derive(Drop)]
+pub struct Receiver {
+    limit: usize,
+    joiner: Joiner,
+    /// In order of completion.
+    store: Vec<Entry>,
+}
+
+impl Model for Receiver {
+    ghost use Rattle.sms_party.specs.Receiver.Standing.{ReceiverValue};
+
+    ghost Value = { ReceiverValue };
+
+    ghost view = { λ r. record { limit = r.limit; joiner = r.joiner; store = r.store.items } };
+}
+
+/// The place of a segment that the header tells, if there is one and it tells one.
+fn concat_of(header: &Option<Header>) -> Option<Concat>
+    ensures is { result ≡ concat_of_header header.now }
+    ensures place { IsPlace result }
+{
+    match header {
+        None => None,
+        Some(header) => header.concat(),
+    }
+}
+
+/// The units of a text in this alphabet; none where the alphabet is no text's.
+fn units_of(alloc: Global, alphabet: Alphabet, body: Body) -> Result<Option<Units>, AllocError>
+    ensures { IfOk result (λ units. units ≡ units_in alphabet body) }
+{
+    match (alphabet, body) {
+        (Alphabet::Gsm7, Body::Septets(septets)) => Ok(Some(Units::Gsm(septets))),
+        (Alphabet::Ucs2, Body::Octets(octets)) => {
+            let units = units_of_octets(alloc, octets.as_slice())?;
+            Ok(Some(Units::Ucs2(WideUnits::new(units))))
+        }
+        _ => Ok(None),
+    }
+}
+
+impl Receiver {
+    /// A phone with an empty store: how many sets of segments may be open, how many finished ones are remembered, and how
+    /// many texts are stored.
+    pub fn new(
+        alloc: Global,
+        open_max: usize,
+        remembered: usize,
+        store: usize,
+    ) -> Result<Receiver, AllocError>
+        requires sets { 0 < open_max }
+        requires keys { 0 < remembered }
+        ensures { IfOk result (λ receiver. IsNew (limits_of open_max remembered store) receiver) }
+    {
+        same_is_equivalence();
+        Ok(Receiver {
+            limit: store,
+            joiner: Joiner::new(alloc, open_max, remembered)?,
+            store: Vec::new(alloc),
+        })
+    }
+
+    /// The texts that came, in order of completion.
+    pub fn store(&self) -> &[Entry]
+        ensures { result.now ≡ self.now.store }
+    {
+        self.store.as_slice()
+    }
+
+    /// Drops the sets of segments whose first segment came 604,800 seconds before, or earlier. It takes no memory.
+    pub fn age(&mut self, now: u64)
+        ensures { AgesTo now self.old self.new }
+    {
+        agings_keep_same();
+        same_is_equivalence();
+        self.joiner.age(now);
+    }
+
+    /// Takes what comes to the phone in a transaction that the centre has opened. If it answers an error, the phone is
+    /// as it was.
+    pub fn receive(&mut self, alloc: Global, now: u64, octets: &[u8]) -> Result<Step, Dropped>
+        ensures receives { ReceivesAs now octets.now self.old result self.new }
+        ensures refused { OnErr result (self.new ≡ self.old) }
+    {
+        let message = read_message(alloc, octets)?;
+        self.take(alloc, now, message)
+    }
+
+    /// Takes a message.
+    pub(crate) fn take(
+        &mut self,
+        alloc: Global,
+        now: u64,
+        message: Message,
+    ) -> Result<Step, Dropped>
+        requires tag { HasTag message }
+        ensures steps { Steps (λ limits s origin. receiver_receives limits s now message origin)
+            self.old result self.new }
+        ensures refused { OnErr result (self.new ≡ self.old) }
+    {
+        match message {
+            Message::NotCp => Err(Dropped::NotCp),
+            Message::Note { .. } => Ok(Step {
+                outcome: Outcome::Noted,
+                packets: Vec::new(alloc),
+            }),
+            Message::Tiny { .. } => Err(Dropped::Unmatched),
+            Message::Data { flag, tag, relay } => {
+                if flag {
+                    Err(Dropped::Unmatched)
+                } else {
+                    self.take_request(alloc, now, tag, relay)
+                }
+            }
+        }
+    }
+
+    /// Takes a message of a transaction that the centre has opened.
+    fn take_request(
+        &mut self,
+        alloc: Global,
+        now: u64,
+        tag: Tag,
+        relay: Relay,
+    ) -> Result<Step, Dropped>
+        requires tag { tag.value < 7 }
+        ensures steps { Steps (λ limits s origin. receiver_opened limits s now tag relay origin)
+            self.old result self.new }
+        ensures refused { OnErr result (self.new ≡ self.old) }
+    {
+        match relay {
+            Relay::Transfer { side, unit } => match side {
+                Side::FromPhone => Err(Dropped::Unmatched),
+                Side::ToPhone => self.take_unit(alloc, now, tag, unit),
+            },
+            Relay::Answer { .. } => Err(Dropped::Unmatched),
+            Relay::UnknownType => relay_refusal(alloc, Side::FromPhone, tag, 97),
+            Relay::Unreadable => relay_refusal(alloc, Side::FromPhone, tag, 96),
+        }
+    }
+
+    /// Takes the unit of a transfer.
+    fn take_unit(
+        &mut self,
+        alloc: Global,
+        now: u64,
+        tag: Tag,
+        unit: TransferUnit,
+    ) -> Result<Step, Dropped>
+        requires tag { tag.value < 7 }
+        ensures steps { Steps (λ limits s origin. receiver_takes limits s now tag unit origin)
+            self.old result self.new }
+        ensures refused { OnErr result (self.new ≡ self.old) }
+    {
+        match unit {
+            TransferUnit::Deliver(delivery) => self.take_delivery(alloc, now, tag, delivery),
+            TransferUnit::Submit(_) => refusal(alloc, tag, 111, 0xB0),
+            TransferUnit::OtherUnit => refusal(alloc, tag, 111, 0xB0),
+            TransferUnit::BadUnit => refusal(alloc, tag, 111, 0xFF),
+        }
+    }
+
+    /// Takes a delivery.
+    fn take_delivery(
+        &mut self,
+        alloc: Global,
+        now: u64,
+        tag: Tag,
+        delivery: Deliver,
+    ) -> Result<Step, Dropped>
+        requires tag { tag.value < 7 }
+        ensures steps { Steps (λ limits s origin. offers_units limits s now tag delivery origin
+            (units_in (alphabet_at delivery.dcs) delivery.user.body))
+            self.old result self.new }
+        ensures refused { OnErr result (self.new ≡ self.old) }
+    {
+        let alphabet = alphabet_of(delivery.dcs);
+        let stamp = delivery.stamp;
+        let origin = delivery.origin;
+        let user = delivery.user;
+        let concat = concat_of(&user.header);
+        match units_of(alloc, alphabet, user.body)? {
+            None => refusal(alloc, tag, 111, 0x90),
+            Some(units) => self.take_piece(alloc, now, tag, origin, stamp, concat, units),
+        }
+    }
+
+    /// Whether the store is full, and such a message or segment would finish its set.
+    fn is_full_for(&self, origin: &Address, stamp: Stamp, concat: Option<Concat>) -> bool
+        requires { IsPlace concat }
+        ensures { (now : ℕ) (units : Pieces)
+            → result ≡ (nat_le self.now.limit (length self.now.store)
+            && would_finish self.now.joiner.holds (piece_of now origin.now stamp concat units)) }
+    {
+        self.store.len() >= self.limit && self.joiner.would_finish(origin, stamp, concat)
+    }
+
+    /// Takes a message or a segment. All growths come before the joiner's, which is the last call that can fail.
+    fn take_piece(
+        &mut self,
+        alloc: Global,
+        now: u64,
+        tag: Tag,
+        origin: Address,
+        stamp: Stamp,
+        concat: Option<Concat>,
+        units: Units,
+    ) -> Result<Step, Dropped>
+        requires tag { tag.value < 7 }
+        requires place { IsPlace concat }
+        ensures steps { Steps (λ limits s from. receiver_offers limits s tag origin
+            (piece_of now origin stamp concat units) from)
+            self.old result self.new }
+        ensures refused { OnErr result (self.new ≡ self.old) }
+    {
+        answers_alike();
+        answer_finishes();
+        same_is_equivalence();
+        if self.is_full_for(&origin, stamp, concat) {
+            return refusal(alloc, tag, 22, 0xD3);
+        }
+        self.store.reserve(1)?;
+        let packets = approval(alloc, tag)?;
+        match self.joiner.offer(now, &origin, stamp, concat, units) {
+            Ok(Offer::Repeat) => Ok(Step {
+                outcome: Outcome::Repeat,
+                packets,
+            }),
+            Ok(Offer::Kept) => Ok(Step {
+                outcome: Outcome::Kept,
+                packets,
+            }),
+            Ok(Offer::Finished(text)) => {
+                self.store.push_reserved(Entry { origin, text });
+                Ok(Step {
+                    outcome: Outcome::Finished,
+                    packets,
+                })
+            }
+            Err(OfferFault::TooManyOpen) => refusal(alloc, tag, 22, 0xD3),
+            Err(OfferFault::Memory) => Err(Dropped::Memory),
+        }
+    }
+}

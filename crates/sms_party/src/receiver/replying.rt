@@ -1,0 +1,95 @@
+//! The packets of a phone's answers to deliveries.
+
+ghost use Rattle.std.specs.Prelude.{◌≡◌, ◌<◌, map, true, Some, None, IfOk, IfErr};
+ghost use Rattle.sms_party.specs.Does.{Puts, CarriesEach};
+ghost use Rattle.sms_party.specs.Message.Answers.{answers, deliver_error_of, plain_ack};
+ghost use Rattle.sms_party.specs.Message.Carrying.{Carries};
+ghost use Rattle.sms_party.specs.declared.message.Message.TheVariants.{Data};
+ghost use Rattle.sms_party.specs.declared.message.Relay.TheVariants.{Answer};
+ghost use Rattle.sms_relay.specs.declared.side.Side.TheVariants.{FromPhone};
+ghost use Rattle.sms_party.specs.declared.outcome.Dropped.TheVariants.{Memory};
+ghost use Rattle.sms_party.specs.declared.outcome.Outcome.TheVariants.{Refused};
+
+use crate::message::Tag;
+use crate::message::packets::{acknowledgement, answered, wrapped};
+use crate::outcome::{Dropped, Outcome, Step};
+use sms_relay::{Side, wrap_answer};
+use sms_tpdu::{DeliverAck, DeliverError};
+use std::alloc::Global;
+
+/// The RP-ERROR of a phone, with a report.
+fn error_packet(alloc: Global, tag: Tag, cause: u8, failure: u8) -> Result<Vec<u8>, Dropped>
+    requires value { tag.value < 7 }
+    requires cause { cause < 128 }
+    ensures carries { IfOk result (λ p. Carries p.items
+        (Data true tag (Answer FromPhone (Some cause) (Some (deliver_error_of failure))))) }
+    ensures err { IfErr result (λ e. e ≡ Memory) }
+{
+    let report = DeliverError {
+        has_header: false,
+        cause: failure,
+        pid: None,
+        dcs: None,
+        user: None,
+    };
+    wrapped(wrap_answer(
+        alloc,
+        true,
+        tag.value,
+        Side::FromPhone,
+        tag.reference,
+        Some(cause),
+        Some(&report),
+    ))
+}
+
+/// The RP-ACK of a phone.
+fn ack_packet(alloc: Global, tag: Tag) -> Result<Vec<u8>, Dropped>
+    requires value { tag.value < 7 }
+    ensures carries { IfOk result (λ p. Carries p.items
+        (Data true tag (Answer FromPhone None (Some plain_ack)))) }
+    ensures err { IfErr result (λ e. e ≡ Memory) }
+{
+    let report = DeliverAck {
+        has_header: false,
+        pid: None,
+        dcs: None,
+        user: None,
+    };
+    wrapped(wrap_answer(
+        alloc,
+        true,
+        tag.value,
+        Side::FromPhone,
+        tag.reference,
+        None,
+        Some(&report),
+    ))
+}
+
+/// A CP-ACK, and an RP-ERROR with a report.
+pub(crate) fn refusal(alloc: Global, tag: Tag, cause: u8, failure: u8) -> Result<Step, Dropped>
+    requires value { tag.value < 7 }
+    requires cause { cause < 128 }
+    ensures { Puts (Refused cause (Some failure))
+        (answers FromPhone tag (Some cause) (Some (deliver_error_of failure))) result }
+{
+    let packet = error_packet(alloc, tag, cause, failure)?;
+    let outcome = Outcome::Refused {
+        cause,
+        failure: Some(failure),
+    };
+    answered(alloc, outcome, tag, packet)
+}
+
+/// A CP-ACK, and an RP-ACK with a report: what a piece that is taken is answered, whatever becomes of it.
+pub(crate) fn approval(alloc: Global, tag: Tag) -> Result<Vec<Vec<u8>>, Dropped>
+    requires value { tag.value < 7 }
+    ensures carries { IfOk result (λ ps. CarriesEach (map (λ packet. packet.items) ps.items)
+        (answers FromPhone tag None (Some plain_ack))) }
+    ensures err { IfErr result (λ e. e ≡ Memory) }
+{
+    let packet = ack_packet(alloc, tag)?;
+    let note = acknowledgement(alloc, true, tag.value)?;
+    Ok(vec![in alloc; note, packet]?)
+}

@@ -1,0 +1,116 @@
+//! A typed text on its way.
+
+ghost use Rattle.std.specs.Prelude.{◌≡◌, ◌<◌, Some, IfOk, IfErr};
+ghost use Rattle.sms_join.specs.SegmentUser.{IsSendable};
+ghost use Rattle.sms_party.specs.Sender.Segments.{dcs_of};
+ghost use Rattle.sms_party.specs.Sender.Value.{submission_in, text_put, CarriesOptional};
+ghost use Rattle.sms_party.specs.declared.outcome.Dropped.TheVariants.{Memory};
+
+use crate::message::Tag;
+use crate::message::packets::{address_of_centre, wrapped};
+use crate::outcome::Dropped;
+use sms_field::{Address, Validity};
+use sms_join::{Segment, Units, segment_user};
+use sms_relay::{Side, wrap_transfer};
+use sms_tpdu::{Submit, Width};
+use std::alloc::{AllocError, Global};
+use std::marker::Model;
+
+/// A typed text that has not ended.
+#[derive(Drop)]
+pub(crate) struct TypedText {
+    pub target: Address,
+    /// In order, 255 at most.
+    pub segments: Vec<Segment>,
+    /// The TP-Message-Reference of the first segment.
+    pub reference: u8,
+    pub width: Width,
+    /// The concatenation reference, where there is more than one segment; below 256 for `Width::Eight`.
+    pub set_reference: u16,
+}
+
+impl Model for TypedText {
+    ghost use Rattle.std.specs.Prelude.{◌≡◌, ◌<◌, ◌≤◌, All, length};
+    ghost use Rattle.sms_tpdu.specs.declared.user_data.concat.Width.TheVariants.{Eight};
+    ghost use Rattle.sms_join.specs.SegmentUser.{IsSendable};
+    ghost use Rattle.sms_party.specs.Sender.Value.{TextValue};
+
+    ghost Value = { TextValue };
+
+    ghost view = { λ t. record {
+      target = t.target;
+      segments = t.segments.items;
+      reference = t.reference;
+      width = t.width;
+      set_reference = t.set_reference;
+    } };
+
+    ghost invariant = { λ t. (t.width ≡ Eight → t.set_reference < 256)
+        × (length t.segments.items ≤ 255) × All (IsSendable t.width) t.segments.items };
+}
+
+/// The TP-DCS of units: the default alphabet, or UCS-2.
+fn dcs_of(units: &Units) -> u8
+    ensures { result ≡ dcs_of units.now }
+{
+    match units {
+        Units::Gsm(_) => 0x00,
+        Units::Ucs2(_) => 0x08,
+    }
+}
+
+impl TypedText {
+    /// The submission of its segment at a place, counted from 0.
+    fn submission(
+        &self,
+        alloc: Global,
+        place: u8,
+        segment: &Segment,
+        reject: bool,
+    ) -> Result<Submit, AllocError>
+        requires { IsSendable self.now.width segment.now }
+        ensures { IfOk result (λ s. s ≡ submission_in self.now place segment.now reject) }
+    {
+        Ok(Submit {
+            reject,
+            validity: Validity::Absent,
+            report: false,
+            reply: false,
+            reference: self.reference.wrapping_add(place),
+            target: self.target.copy(alloc)?,
+            pid: 0,
+            dcs: dcs_of(&segment.units),
+            user: segment_user(alloc, segment, self.width, self.set_reference)?,
+        })
+    }
+
+    /// The packet of the segment at a place, counted from 0, if there is one there.
+    pub(crate) fn packet(
+        &self,
+        alloc: Global,
+        tag: Tag,
+        place: u8,
+        reject: bool,
+    ) -> Result<Option<Vec<u8>>, Dropped>
+        requires { tag.value < 7 }
+        ensures carries { IfOk result (λ packet.
+            CarriesOptional packet (text_put tag reject place (Some self.now))) }
+        ensures err { IfErr result (λ e. e ≡ Memory) }
+    {
+        let Some(segment) = self.segments.get(usize::from(place)) else {
+            return Ok(None);
+        };
+        let submission = self.submission(alloc, place, segment, reject)?;
+        let address = address_of_centre(alloc)?;
+        let packet = wrapped(wrap_transfer(
+            alloc,
+            false,
+            tag.value,
+            Side::FromPhone,
+            tag.reference,
+            Some(&address),
+            &submission,
+        ))?;
+        Ok(Some(packet))
+    }
+}
