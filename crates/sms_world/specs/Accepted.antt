@@ -1,0 +1,34 @@
+-- What it means that a text is shown as accepted.
+use Rattle.std.specs.Prelude.{◌≡◌, ℕ, ◌<◌, ◌≤◌, true, List, Some}
+use Rattle.std.specs.List.{Contains}
+use Rattle.sms_field.specs.AddressValue.{AddressValue}
+use Rattle.sms_party.specs.Centre.State.{Acceptance}
+use Rattle.sms_world.specs.Told.{Told}
+use Rattle.sms_world.specs.declared.limits.Limits.{Limits}
+use Rattle.sms_world.specs.Machine.{Machine, start}
+use Rattle.sms_world.specs.Machine.Event.{Event}
+use Rattle.sms_world.specs.Machine.Step.{RunWith}
+use Rattle.sms_world.specs.Texts.{size_in}
+use Rattle.sms_world.specs.Orderly.Injections.{NothingIsInjected}
+use Rattle.sms_world.specs.Accepted.Answers.{AnswersAnswerWhatTheyName}
+use Rattle.sms_world.specs.Accepted.References.{ReferencesAreNotUsedAgain}
+pub mod Answers
+pub mod References
+pub mod Few
+pub mod Reject
+
+-- Answers and rejections are of what they seem to be of, and nothing is injected.
+pub record IsHonest (m : Machine) (event : Event) : Type 0 where
+  pub answers : AnswersAnswerWhatTheyName m event
+  pub references : ReferencesAreNotUsedAgain m event
+  pub plain : NothingIsInjected event
+
+-- After every run in which each event is so: where a text has ended at its phone as accepted, the centre has accepted each
+-- of its segments.
+abbrev pub AcceptedIsAccepted : Type 0
+AcceptedIsAccepted =
+    (limits : Limits) (phones : List AddressValue) (past : List (Event × Told)) (m : Machine)
+    → RunWith IsHonest (start limits phones) past m
+    → (phone n : ℕ) → Contains (m.senders.sender phone).ended (n, true)
+    → (s : ℕ) → 0 < s → s ≤ size_in m.senders.texts n
+    → (a : Acceptance) × Contains m.centre.accepted a × (a.origin ≡ Some (record { text = n; segment = s }))

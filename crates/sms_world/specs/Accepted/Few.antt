@@ -1,0 +1,19 @@
+-- Up to 1,792 puttings out, answers answer what they name by themselves.
+use Rattle.std.specs.Prelude.{ℕ, ◌≤◌, List}
+use Rattle.sms_field.specs.AddressValue.{AddressValue}
+use Rattle.sms_world.specs.Told.{Told}
+use Rattle.sms_world.specs.declared.limits.Limits.{Limits}
+use Rattle.sms_world.specs.Machine.{Machine, start}
+use Rattle.sms_world.specs.Machine.Event.{Event}
+use Rattle.sms_world.specs.Machine.Step.{RunWith}
+use Rattle.sms_world.specs.Orderly.Injections.{NothingIsInjected}
+use Rattle.sms_world.specs.Accepted.Answers.{AnswersAnswerWhatTheyName}
+
+-- Transaction values count modulo 7 and RP references modulo 256: the two together come again after 1,792 puttings out.
+-- Where nothing is injected and no sender has put out more, each event meets the condition.
+abbrev pub FewPuttingsOut : Type 0
+FewPuttingsOut =
+    (limits : Limits) (phones : List AddressValue) (past : List (Event × Told)) (m : Machine)
+    → RunWith (λ old event. NothingIsInjected event) (start limits phones) past m
+    → ((phone : ℕ) → (m.senders.sender phone).outs ≤ 1792)
+    → (event : Event) → AnswersAnswerWhatTheyName m event

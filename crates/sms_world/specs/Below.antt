@@ -1,0 +1,28 @@
+-- The laws of the crates below on which those of this one stand.
+use Rattle.sms_field.specs.Times.{MomentComesBackOfZone0}
+use Rattle.sms_join.specs.Aging.{SetsStayFew}
+use Rattle.sms_join.specs.Completion.{CompletedAreWhole, CompleteInOrder}
+use Rattle.sms_join.specs.Cut.{HasOneCut}
+use Rattle.sms_join.specs.Joining.{JoinsOne}
+use Rattle.sms_join.specs.OpenTexts.{OpenSetsAreOpenTexts, StayApart, AgesOne, NewIsFresh, TurnsAway}
+use Rattle.sms_join.specs.Reading.{CutIsReadAsText}
+use Rattle.sms_party.specs.Message.Laws.{EachIsRead, OneMessageIsRead, CarriedIsRead}
+use Rattle.sms_party.specs.Centre.Stamps.{StampsRise}
+
+pub record Below : Type 0 where
+  pub back : MomentComesBackOfZone0
+  pub few : SetsStayFew
+  pub whole : CompletedAreWhole
+  pub order : CompleteInOrder
+  pub cut : HasOneCut
+  pub joins : JoinsOne
+  pub rooms : OpenSetsAreOpenTexts
+  pub apart : StayApart
+  pub ages : AgesOne
+  pub fresh : NewIsFresh
+  pub turned : TurnsAway
+  pub reads : CutIsReadAsText
+  pub each : EachIsRead
+  pub one : OneMessageIsRead
+  pub carried : CarriedIsRead
+  pub stamps : StampsRise

@@ -1,0 +1,12 @@
+pub mod Told
+pub mod Below
+pub mod Machine
+pub mod Texts
+pub mod Orderly
+pub mod OrderTests
+pub mod Headline
+pub mod Claims
+pub mod Accepted
+pub mod Understood
+pub mod Unread
+pub mod Rows
