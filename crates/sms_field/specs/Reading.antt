@@ -19,8 +19,8 @@ pub record IsReadable {V : Type 0} (reads : V → List ℕ → ℕ → Type 0) (
   pub used : ℕ
   pub read : reads value input used
 
--- Some continuation has one. It consists of octets, since only octets can follow: a continuation by other numbers would be none.
--- The front need not be said to consist of octets, here and where an input has a reading: each input of a reader does.
+-- Some continuation has a reading: octets that can follow, since numbers above 255 can not. Of the front it need not be said
+-- that it consists of octets, since it comes from an input of a reader.
 pub record IsViable {V : Type 0} (reads : V → List ℕ → ℕ → Type 0) (front : List ℕ) : Type 0 where
   pub more : List ℕ
   pub are_octets : IsOctets more

@@ -7,7 +7,7 @@ use Rattle.sms_field.specs.Field.{Field}
 abbrev pub AreOctetsOf : {V : Type 0} → (V → Type 0) → (V → List ℕ) → Type 0
 AreOctetsOf {V} is octets_of = (value : V) → is value → IsOctets (octets_of value)
 
--- so many at most
+-- they are no more than a limit
 abbrev pub AreAtMost : {V : Type 0} → ℕ → (V → Type 0) → (V → List ℕ) → Type 0
 AreAtMost {V} limit is octets_of = (value : V) → is value → length (octets_of value) ≤ limit
 

@@ -42,6 +42,9 @@ impl Model for Address {
     ghost invariant = { λ a. HasSpelling (record { kind = a.type_of_number; plan = a.plan; symbols = a.symbols }) };
 }
 
+/// The most octets of an address.
+pub(crate) const OCTETS_MAX: usize = 12;
+
 /// The type of number of names.
 pub(crate) const ALPHANUMERIC: u8 = 5;
 
@@ -68,11 +71,11 @@ impl Address {
         })
     }
 
-    /// The octets of the address: the number of semi-octets, the type octet with bit 7 set, and the symbols.
+    /// The octets of the address: how many semi-octets there are, the type octet with bit 7 set, and the symbols.
     pub fn write(&self, alloc: Global) -> Result<Vec<u8>, AllocError>
         ensures { IfOk result (λ octets. octets.items ≡ address_octets self.now) }
     {
-        let mut octets = Vec::new(alloc);
+        let mut octets = Vec::with_capacity(alloc, OCTETS_MAX)?;
         self.write_to(&mut octets)?;
         Ok(octets)
     }

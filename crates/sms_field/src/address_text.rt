@@ -46,11 +46,12 @@ pub fn text_of_number(
     ensures { IfOk result (λ text.
         chars (string_bytes text) ≡ sign type_of_number ++ text_of_digits digits.now) }
 {
-    let mut text = String::new(alloc);
+    let digits = digits.as_slice();
+    let mut text = String::with_capacity(alloc, digits.len() + 1)?;
     if type_of_number == 1 {
         text.push('+')?;
     }
-    push_digits(&mut text, digits.as_slice())?;
+    push_digits(&mut text, digits)?;
     Ok(text)
 }
 

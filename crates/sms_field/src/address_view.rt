@@ -86,7 +86,7 @@ pub fn digits_from(alloc: Global, octets: &[u8], count: u8) -> Result<Vec<u8>, A
     requires { length octets.now ≡ (count + 1) / 2 }
     ensures { IfOk result (λ values. values.items ≡ digits_in count octets.now) }
 {
-    let mut digits = Vec::new(alloc);
+    let mut digits = Vec::with_capacity(alloc, count as usize)?;
     for place in 0..count {
         let octet = octets[usize::from(place / 2)];
         let digit = if place % 2 == 0 {

@@ -180,7 +180,7 @@ pub fn digits_of(alloc: Global, text: &str) -> Result<Option<Vec<u8>>, AllocErro
     ensures digits { IfOk result (λ found. IfSome found
         (λ digits. AllByRecursion (λ digit. digit < 15) digits.items)) }
 {
-    let mut digits = Vec::new(alloc);
+    let mut digits = Vec::with_capacity(alloc, text.len().min(20))?;
     for c in text.chars() {
         let Some(digit) = digit_of(c) else {
             return Ok(None);

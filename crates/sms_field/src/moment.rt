@@ -51,7 +51,8 @@ impl Stamp {
     pub fn at(seconds: u64, quarters: i8) -> Option<Stamp>
         ensures found { IsSome result ↔ HasStamp seconds quarters }
         ensures value { IfSome result (IsStampAt seconds quarters) }
-        ensures octets { quarters ≡ pos 0 → IfSome result (λ stamp. stamp ≡ stamp_octets seconds) }
+        ensures octets { quarters ≡ pos 0 →
+            IfSome result (λ stamp. stamp ≡ stamp_octets seconds) }
         ensures in_range { IfSome result IsStamp }
     {
         if quarters < -79 || quarters > 79 {

@@ -9,7 +9,7 @@ ghost use Rattle.std.specs.Cmp.Rules.{comparing, hashing};
 ghost use Rattle.std.specs.Hash as fed;
 ghost use Rattle.std.proofs.Common.{rules};
 
-use sms_text::pack;
+use sms_text::pack_into;
 use std::alloc::{AllocError, Global};
 use std::hash::{Hash, Hasher};
 use std::marker::Model;
@@ -83,23 +83,16 @@ impl Name {
     }
 }
 
-/// The octets of a name.
-fn octets_of_name(alloc: Global, name: &Name) -> Result<Vec<u8>, AllocError>
-    ensures { IfOk result (λ octets. octets.items ≡ name_octets name.now) }
-{
-    let octets = pack(alloc, name.as_slice(), 0)?;
-    Ok(octets)
-}
-
 /// Adds two octets, and those of a name.
 pub fn put_name(out: &mut Vec<u8>, first: u8, second: u8, name: &Name) -> Result<(), AllocError>
     ensures ok { OnOk result (out.new.items ≡ out.old.items ++
         first ∷ second ∷ name_octets name.now) }
     ensures err { OnErr result (out.new.items ≡ out.old.items) }
 {
-    let octets = octets_of_name(*out.allocator(), name)?;
-    out.reserve(2 + octets.len())?;
+    let septets = name.as_slice();
+    out.reserve(2 + septets.len() + 1)?;
     out.push_reserved(first);
     out.push_reserved(second);
-    out.extend_from_slice(&octets)
+    pack_into(out, septets, 0)?;
+    Ok(())
 }

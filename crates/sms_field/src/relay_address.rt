@@ -19,6 +19,7 @@ ghost use Rattle.std.specs.Hash as fed;
 ghost use Rattle.std.proofs.Common.{rules};
 ghost use Rattle.sms_field.specs.Answer.{Takes};
 
+use crate::address::OCTETS_MAX;
 use crate::address_text::{digits_of_number, international, text_of_number};
 use crate::cursor::Cursor;
 use crate::digits::{Digits, put_number};
@@ -139,11 +140,11 @@ impl RpAddress {
         })
     }
 
-    /// The octets of the address: the number of octets that follow, the type octet with bit 7 set, and the digits.
+    /// The octets of the address: how many octets follow, the type octet with bit 7 set, and the digits.
     pub fn write(&self, alloc: Global) -> Result<Vec<u8>, AllocError>
         ensures { IfOk result (λ octets. octets.items ≡ relay_address_octets self.now) }
     {
-        let mut octets = Vec::new(alloc);
+        let mut octets = Vec::with_capacity(alloc, OCTETS_MAX)?;
         self.write_to(&mut octets)?;
         Ok(octets)
     }
@@ -151,7 +152,8 @@ impl RpAddress {
     /// Adds the octets of the address; none where memory runs out.
     #[tactic(auto, unfolding(crate::specs::RelayAddress::relay_address_octets))]
     pub fn write_to(&self, out: &mut Vec<u8>) -> Result<(), AllocError>
-        ensures ok { OnOk result (out.new.items ≡ out.old.items ++ relay_address_octets self.now) }
+        ensures ok { OnOk result
+            (out.new.items ≡ out.old.items ++ relay_address_octets self.now) }
         ensures err { OnErr result (out.new.items ≡ out.old.items) }
     {
         let digits = self.digits.as_slice();

@@ -74,7 +74,7 @@ fn relay_digits_seen_at<'a>(
     Ok(&octets[..count as usize])
 }
 
-/// The number of digits in octets.
+/// How many digits are in octets.
 fn digit_count(octets: &[u8]) -> u8
     requires { length octets.now ≤ 10 }
     ensures { result ≡ relay_count octets.now }

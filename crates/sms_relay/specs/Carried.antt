@@ -20,9 +20,12 @@ pub data Carried : Type 0 where
 -- a transfer is an RP-DATA, an answer an RP-ACK, or with a cause an RP-ERROR without diagnostic
 abbrev pub relay_of : Carried → Option RpValue
 relay_of acknowledgement = None
-relay_of (transfer side reference address unit) = Some (record { side = side; reference = reference; body = rp.Transfer address unit })
-relay_of (answer side reference None unit) = Some (record { side = side; reference = reference; body = rp.Ack unit })
-relay_of (answer side reference (Some cause) unit) = Some (record { side = side; reference = reference; body = rp.Fail cause None unit })
+relay_of (transfer side reference address unit) =
+    Some (record { side = side; reference = reference; body = rp.Transfer address unit })
+relay_of (answer side reference None unit) =
+    Some (record { side = side; reference = reference; body = rp.Ack unit })
+relay_of (answer side reference (Some cause) unit) =
+    Some (record { side = side; reference = reference; body = rp.Fail cause None unit })
 
 abbrev pub in_transaction : Bool → ℕ → CpBody → CpValue
 in_transaction flag value body = record { flag = flag; value = value; body = body }
@@ -30,7 +33,9 @@ in_transaction flag value body = record { flag = flag; value = value; body = bod
 -- a CP-ACK, or a CP-DATA whose octets spell an RP message
 abbrev pub CarriesRelay : Bool → ℕ → Option RpValue → List ℕ → Type 0
 CarriesRelay flag value None packet = SpellsCp (in_transaction flag value cp.Ack) packet
-CarriesRelay flag value (Some message) packet = (octets : List ℕ) × SpellsRp message octets × SpellsCp (in_transaction flag value (cp.Transfer octets)) packet
+CarriesRelay flag value (Some message) packet =
+    (octets : List ℕ) × SpellsRp message octets
+    × SpellsCp (in_transaction flag value (cp.Transfer octets)) packet
 
 abbrev pub Carries : Bool → ℕ → Carried → List ℕ → Type 0
 Carries flag value message packet = CarriesRelay flag value (relay_of message) packet
@@ -38,11 +43,13 @@ Carries flag value message packet = CarriesRelay flag value (relay_of message) p
 -- a packet carries at most one message
 abbrev pub OneMessageIsCarried : Type 0
 OneMessageIsCarried =
-    (flag other : Bool) (value number : ℕ) (m n : Carried) (packet : List ℕ) → Carries flag value m packet → Carries other number n packet
+    (flag other : Bool) (value number : ℕ) (m n : Carried) (packet : List ℕ)
+    → Carries flag value m packet → Carries other number n packet
     → (other ≡ flag) × (number ≡ value) × (n ≡ m)
 
 -- how a unit that may be left out is written
-abbrev pub SpellsOptional : {V : Type 0} → (V → List ℕ → Type 0) → Option V → Option (List ℕ) → Type 0
+abbrev pub SpellsOptional : {V : Type 0} → (V → List ℕ → Type 0) → Option V → Option (List ℕ)
+    → Type 0
 SpellsOptional spells None None = Unit {0}
 SpellsOptional spells None (Some octets) = ⊥
 SpellsOptional spells (Some unit) None = ⊥

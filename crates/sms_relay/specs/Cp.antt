@@ -14,11 +14,13 @@ use Rattle.sms_relay.specs.declared.fault.RelayFault.TheVariants.{Short}
 -- CP-DATA has a length octet and as many octets as it says, CP-ACK nothing, CP-ERROR its cause
 unfoldable pub cp_body : CpKind → Field CpBody RelayFault
 cp_body kind.Data = do
+  -- CP-User Data: their length, and the octets
   count ← octet Short
   octets ← octets_of Short count
   always (body.Transfer octets)
 cp_body kind.Ack = always body.Ack
 cp_body kind.Error = do
+  -- CP-Cause
   cause ← octet Short
   always (body.Fail cause)
 
@@ -42,7 +44,9 @@ cp_body_octets body.Ack = []
 cp_body_octets (body.Fail cause) = cause ∷ []
 
 abbrev pub cp_octets : CpValue → List ℕ
-cp_octets m = transaction_octet (record { flag = m.flag; value = m.value }) ∷ kind_octet (kind_of m.body) ∷ cp_body_octets m.body
+cp_octets m =
+    transaction_octet (record { flag = m.flag; value = m.value })
+    ∷ kind_octet (kind_of m.body) ∷ cp_body_octets m.body
 
 -- how a CP message is written
 abbrev pub SpellsCp : CpValue → List ℕ → Type 0

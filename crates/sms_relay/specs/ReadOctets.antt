@@ -23,7 +23,11 @@ HasRpOctets (rp.Ack user) = AreOptionalOctets user
 HasRpOctets (rp.Fail cause added user) = AreOptionalOctets user
 
 abbrev pub CpOctetsAre : Type 0
-CpOctetsAre = (m : CpValue) (input : List ℕ) (used : ℕ) → IsOctets input → Reads cp_message m input used → HasCpOctets m.body
+CpOctetsAre =
+    (m : CpValue) (input : List ℕ) (used : ℕ) → IsOctets input → Reads cp_message m input used
+    → HasCpOctets m.body
 
 abbrev pub RpOctetsAre : Type 0
-RpOctetsAre = (m : RpValue) (input : List ℕ) (used : ℕ) → IsOctets input → Reads rp_message m input used → HasRpOctets m.body
+RpOctetsAre =
+    (m : RpValue) (input : List ℕ) (used : ℕ) → IsOctets input → Reads rp_message m input used
+    → HasRpOctets m.body

@@ -70,12 +70,16 @@ rp_data_octets FromPhone address user = 0 ∷ (address ++ user)
 rp_data_octets ToPhone address user = address ++ (0 ∷ user)
 
 abbrev pub rp_body_octets : Side → RpBody → List ℕ
-rp_body_octets side (body.Transfer address user) = rp_data_octets side (optional_address_octets address) (user_octets user)
+rp_body_octets side (body.Transfer address user) =
+    rp_data_octets side (optional_address_octets address) (user_octets user)
 rp_body_octets side (body.Ack user) = optional_user_octets user
-rp_body_octets side (body.Fail cause added user) = cause_octets cause added ++ optional_user_octets user
+rp_body_octets side (body.Fail cause added user) =
+    cause_octets cause added ++ optional_user_octets user
 
 abbrev pub rp_octets : RpValue → List ℕ
-rp_octets m = type_octet (record { kind = kind_of m.body; side = m.side }) ∷ m.reference ∷ rp_body_octets m.side m.body
+rp_octets m =
+    type_octet (record { kind = kind_of m.body; side = m.side })
+    ∷ m.reference ∷ rp_body_octets m.side m.body
 
 -- how an RP message is written
 abbrev pub SpellsRp : RpValue → List ℕ → Type 0

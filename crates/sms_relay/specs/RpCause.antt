@@ -6,7 +6,8 @@ use Rattle.sms_relay.specs.declared.fault.RelayFault.TheVariants.{Short, BadCaus
 
 -- whether a diagnostic follows the cause: the length is 1 or 2
 abbrev pub has_diagnostic : ℕ → Result Bool RelayFault
-has_diagnostic count = if count == 1 then Ok false else (if count == 2 then Ok true else Err BadCause)
+has_diagnostic count =
+    if count == 1 then Ok false else (if count == 2 then Ok true else Err BadCause)
 
 unfoldable pub diagnostic : Bool → Field (Option ℕ) RelayFault
 diagnostic false = always None

@@ -10,7 +10,9 @@ use Rattle.sms_relay.specs.declared.fault.RelayFault.TheVariants.{NotSms, BadTra
 abbrev pub transaction : ℕ → Result Transaction RelayFault
 transaction octet =
     if octet % 16 == 9
-    then (if octet / 16 % 8 == 7 then Err BadTransaction else Ok (record { flag = bit 7 octet; value = octet / 16 % 8 }))
+    then (if octet / 16 % 8 == 7
+    then Err BadTransaction
+    else Ok (record { flag = bit 7 octet; value = octet / 16 % 8 }))
     else Err NotSms
 
 -- as it is written

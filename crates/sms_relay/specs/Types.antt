@@ -13,7 +13,8 @@ use Rattle.sms_relay.specs.declared.fault.RelayFault.TheVariants.{Short, Unknown
 
 -- the octets are refused at a place, for a reason
 abbrev pub IsRelayRefused : {V : Type 0} → Field V RelayFault → List ℕ → ℕ → RelayFault → Type 0
-IsRelayRefused field octets place why = IsRefused (Reads field) field.reason Short octets (At place why)
+IsRelayRefused field octets place why =
+    IsRefused (Reads field) field.reason Short octets (At place why)
 
 -- the first octet names no type of an RP message
 abbrev pub NamesNoType : List ℕ → Type 0
@@ -21,13 +22,17 @@ NamesNoType octets = StartsAs rp_type UnknownType octets
 
 pub record TellsUnknownTypes : Type 0 where
   -- what is refused as of no known type begins with an octet that names none
-  pub unknown : (octets : List ℕ) (place : ℕ) → IsRelayRefused rp_message octets place UnknownType → NamesNoType octets
+  pub unknown : (octets : List ℕ) (place : ℕ) → IsRelayRefused rp_message octets place UnknownType
+      → NamesNoType octets
   -- what is refused for another reason does not, and is not readable
-  pub bad : (octets : List ℕ) (place : ℕ) (why : RelayFault) → IsOctets octets → (why ≡ UnknownType → ⊥) → IsRelayRefused rp_message octets place why
+  pub bad : (octets : List ℕ) (place : ℕ) (why : RelayFault) → IsOctets octets
+      → (why ≡ UnknownType → ⊥) → IsRelayRefused rp_message octets place why
       → (¬ IsReadable (Reads rp_message) octets) × (¬ NamesNoType octets)
   -- what begins with an octet that names no type is not readable
   pub unread : (octets : List ℕ) → NamesNoType octets → ¬ IsReadable (Reads rp_message) octets
 
 -- the reference of an RP message is its second octet
 abbrev pub ReferenceIsSecond : Type 0
-ReferenceIsSecond = (m : RpValue) (first second : ℕ) (rest : List ℕ) (used : ℕ) → Reads rp_message m (first ∷ second ∷ rest) used → m.reference ≡ second
+ReferenceIsSecond =
+    (m : RpValue) (first second : ℕ) (rest : List ℕ) (used : ℕ)
+    → Reads rp_message m (first ∷ second ∷ rest) used → m.reference ≡ second

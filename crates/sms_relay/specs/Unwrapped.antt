@@ -21,7 +21,8 @@ use Rattle.sms_relay.specs.declared.fault.RelayFault.TheVariants.{Short}
 abbrev pub IsReadAs : List ℕ → Inner → Type 0
 IsReadAs octets Empty = ⊥
 IsReadAs octets (Relay message) = (used : ℕ) × Reads rp_message message octets used
-IsReadAs octets (Bad place why) = IsRefused (Reads rp_message) rp_message.reason Short octets (At place why)
+IsReadAs octets (Bad place why) =
+    IsRefused (Reads rp_message) rp_message.reason Short octets (At place why)
 
 -- CP-ACK and CP-ERROR hold nothing
 abbrev pub Holds : CpBody → Inner → Type 0
@@ -31,13 +32,20 @@ Holds (cp.Fail cause) inner = inner ≡ Empty
 
 -- what a packet that carries this is unwrapped to
 abbrev pub IsUnwrapped : Bool → ℕ → Option RpValue → CpValue → Inner → Type 0
-IsUnwrapped flag value None outer inner = (outer ≡ in_transaction flag value cp.Ack) × (inner ≡ Empty)
-IsUnwrapped flag value (Some message) outer inner = (outer ≡ in_transaction flag value (cp.Transfer (rp_octets message))) × (inner ≡ Relay message)
+IsUnwrapped flag value None outer inner =
+    (outer ≡ in_transaction flag value cp.Ack) × (inner ≡ Empty)
+IsUnwrapped flag value (Some message) outer inner =
+    (outer ≡ in_transaction flag value (cp.Transfer (rp_octets message))) × (inner ≡ Relay message)
 
 -- a packet that carries a message is unwrapped to it, or memory is wanted
 abbrev pub UnwrapsCarried : List ℕ → Result (CpValue × Inner) (Refusal RelayFault) → Type 0
-UnwrapsCarried packet result = (flag : Bool) (value : ℕ) (message : Carried) → Carries flag value message packet → MatchResult result (λ x. IsUnwrapped flag value (relay_of message) x.0 x.1) (λ e. e ≡ Memory)
+UnwrapsCarried packet result =
+    (flag : Bool) (value : ℕ) (message : Carried) → Carries flag value message packet
+    → MatchResult result (λ x. IsUnwrapped flag value (relay_of message) x.0 x.1) (λ e. e ≡ Memory)
 
 -- a packet that carries a message is seen as it
 abbrev pub SeesCarried : List ℕ → Result (CpValue × InnerView) (Fault RelayFault) → Type 0
-SeesCarried packet result = (flag : Bool) (value : ℕ) (message : Carried) → Carries flag value message packet → MatchResult result (λ x. IsUnwrapped flag value (relay_of message) x.0 (seen_inner x.1)) (λ _. ⊥)
+SeesCarried packet result =
+    (flag : Bool) (value : ℕ) (message : Carried) → Carries flag value message packet
+    → MatchResult result
+    (λ x. IsUnwrapped flag value (relay_of message) x.0 (seen_inner x.1)) (λ _. ⊥)

@@ -1,6 +1,6 @@
 //! CP messages.
 
-ghost use Rattle.std.specs.Prelude.{◌≡◌, ◌++◌, OnOk};
+ghost use Rattle.std.specs.Prelude.{◌≡◌, ◌≤◌, ◌++◌, length, OnOk};
 ghost use Rattle.sms_relay.specs.CpValue.{IsCpBody};
 ghost use Rattle.sms_relay.specs.Cp.{kind_of, cp_body_octets};
 
@@ -57,6 +57,16 @@ fn kind_of_body(body: &CpBody) -> CpKind
     }
 }
 
+/// Room for a body.
+fn room_for_body(body: &CpBody) -> usize
+    ensures { length (cp_body_octets body.now) ≤ result }
+{
+    match body {
+        CpBody::Transfer(octets) => 1 + octets.as_slice().len(),
+        CpBody::Ack | CpBody::Fail(_) => 1,
+    }
+}
+
 /// Adds the octets of a body.
 fn put_body(out: &mut Vec<u8>, body: &CpBody) -> Result<(), AllocError>
     requires { IsCpBody body.now }
@@ -94,7 +104,8 @@ impl Unit for CpMessage {
             flag: self.flag,
             value: self.value,
         };
-        let mut out = Vec::new(alloc);
+        let room = room_for_body(&self.body).saturating_add(2);
+        let mut out = Vec::with_capacity(alloc, room)?;
         out.push(transaction.to_octet())?;
         out.push(kind_of_body(&self.body).to_octet())?;
         put_body(&mut out, &self.body)?;

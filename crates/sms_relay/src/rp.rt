@@ -1,6 +1,7 @@
 //! RP messages.
 
-ghost use Rattle.std.specs.Prelude.{◌≡◌, ◌++◌, OnOk};
+ghost use Rattle.std.specs.Prelude.{◌≡◌, ◌≤◌, ◌++◌, length, OnOk};
+ghost use Rattle.sms_relay.specs.declared.side.Side.{Side};
 ghost use Rattle.sms_relay.specs.RpValue.{IsRpBody};
 ghost use Rattle.sms_relay.specs.Rp.{kind_of, rp_body_octets};
 
@@ -12,7 +13,7 @@ use crate::fault::RelayFault;
 use crate::rp::view::RpView;
 use crate::rp_kind::{RpKind, RpType};
 use crate::side::Side;
-use crate::user::{put_optional_user_data, put_user_data};
+use crate::user::{put_optional_user_data, put_user_data, room_for_user_data};
 use sms_field::{Cursor, Refusal, RpAddress};
 use sms_tpdu::{Octets, Unit, View};
 use std::alloc::{AllocError, Global};
@@ -44,7 +45,7 @@ pub enum RpBody {
 #[derive(Drop)]
 pub struct RpMessage {
     pub side: Side,
-    /// RP-Message Reference: the number by which an answer names what it answers.
+    /// RP-Message Reference, which an answer repeats to tell what it answers.
     pub reference: u8,
     pub body: RpBody,
 }
@@ -67,6 +68,18 @@ fn kind_of_body(body: &RpBody) -> RpKind
         RpBody::Transfer { .. } => RpKind::Data,
         RpBody::Ack { .. } => RpKind::Ack,
         RpBody::Fail { .. } => RpKind::Error,
+    }
+}
+
+/// Room for a body.
+fn room_for_body(body: &RpBody) -> usize
+    requires { IsRpBody body.now }
+    ensures { (side : Side) → length (rp_body_octets side body.now) ≤ result }
+{
+    match body {
+        RpBody::Transfer { user, .. } => 14 + user.as_slice().len(),
+        RpBody::Ack { user } => room_for_user_data(user),
+        RpBody::Fail { user, .. } => 3 + room_for_user_data(user),
     }
 }
 
@@ -123,7 +136,8 @@ impl Unit for RpMessage {
             kind: kind_of_body(&self.body),
             side: self.side,
         };
-        let mut out = Vec::new(alloc);
+        let room = room_for_body(&self.body).saturating_add(2);
+        let mut out = Vec::with_capacity(alloc, room)?;
         out.push(named.to_octet())?;
         out.push(self.reference)?;
         put_body(&mut out, self.side, &self.body)?;

@@ -18,7 +18,7 @@ pub enum RpKind {
     Error,
 }
 
-/// The type of an RP message (3GPP TS 24.011, 8.2.2).
+/// The type of an RP message, RP-MTI (3GPP TS 24.011, 8.2.2).
 #[derive(Clone, Copy)]
 pub struct RpType {
     pub kind: RpKind,

@@ -285,15 +285,23 @@ fn comes_back<U: Unit>(rt: &HostRuntime, octets: &[u8]) -> Result<bool, Fail> {
 #[test]
 fn units_come_back(rt: HostRuntime) -> Result<(), Fail> {
     let units = [
-        comes_back::<Header>(&rt, HEADER)?,
-        comes_back::<Submit>(&rt, SUBMIT)?,
-        comes_back::<Deliver>(&rt, DELIVER)?,
-        comes_back::<SubmitAck>(&rt, SUBMIT_ACK)?,
-        comes_back::<SubmitError>(&rt, SUBMIT_ERROR)?,
-        comes_back::<DeliverAck>(&rt, DELIVER_ACK)?,
-        comes_back::<DeliverError>(&rt, DELIVER_ERROR)?,
+        ("header", comes_back::<Header>(&rt, HEADER)?),
+        ("submit", comes_back::<Submit>(&rt, SUBMIT)?),
+        ("deliver", comes_back::<Deliver>(&rt, DELIVER)?),
+        ("submit-ack", comes_back::<SubmitAck>(&rt, SUBMIT_ACK)?),
+        (
+            "submit-error",
+            comes_back::<SubmitError>(&rt, SUBMIT_ERROR)?,
+        ),
+        ("deliver-ack", comes_back::<DeliverAck>(&rt, DELIVER_ACK)?),
+        (
+            "deliver-error",
+            comes_back::<DeliverError>(&rt, DELIVER_ERROR)?,
+        ),
     ];
-    assert!(rt; units.iter().all(|unit| *unit));
+    for (unit, back) in units {
+        assert!(rt; back, "{unit}");
+    }
     Ok(())
 }
 

@@ -1,6 +1,6 @@
 //! Octets in a message, and user data of the relay.
 
-ghost use Rattle.std.specs.Prelude.{◌≡◌, ◌++◌, length, IfOk, OnOk};
+ghost use Rattle.std.specs.Prelude.{◌≡◌, ◌≤◌, ◌++◌, length, IfOk, OnOk};
 ghost use Rattle.sms_text.specs.Octets.{IsOctets};
 ghost use Rattle.sms_field.specs.Field.{octets_of};
 ghost use Rattle.sms_field.specs.Answer.{Sees};
@@ -53,6 +53,18 @@ pub fn optional_user_data_at<'a>(
             Ok(Some(user))
         }
         _ => Ok(None),
+    }
+}
+
+/// Room for user data after their tag.
+pub fn room_for_user_data(user: &Option<Octets>) -> usize
+    requires { IsOptionalUserData user.now }
+    ensures enough { length (optional_user_octets user.now) ≤ result }
+    ensures few { result ≤ 235 }
+{
+    match user {
+        Some(user) => 2 + user.as_slice().len(),
+        None => 0,
     }
 }
 

@@ -74,7 +74,8 @@ pub fn wrap_transfer<U: Unit>(
 ) -> Result<Vec<u8>, WrapFault>
     requires { value < 7 }
     ensures carried { IfOk result (λ packet. (octets : List ℕ) × U.spells unit.now octets ×
-        Carries flag value (transfer side reference (option_copied address.entry) octets) packet.items) }
+        Carries flag value (transfer side reference (option_copied address.entry) octets)
+        packet.items) }
     ensures too_long { result ≡ Err TooLong →
         (octets : List ℕ) × U.spells unit.now octets × (233 < length octets) }
 {

@@ -3,7 +3,8 @@ use Rattle.std.specs.Prelude.{ℕ, ◌≤◌, List, [], ◌∷◌, length, take,
 use Rattle.std.specs.Io.KnownBytes.{Appends, Consumes, Keeps, IsAtEnd}
 
 -- the next octet, or the end; nothing where the read failed
-abbrev pub GivesOctet : {E : Type 0} → Option (List ℕ) → Option (List ℕ) → Result (Option ℕ) E → Type 0
+abbrev pub GivesOctet : {E : Type 0} → Option (List ℕ) → Option (List ℕ) → Result (Option ℕ) E
+    → Type 0
 GivesOctet old new (Ok (Some octet)) = Consumes old new (octet ∷ [])
 GivesOctet old new (Ok None) = Consumes old new [] × IsAtEnd new
 GivesOctet old new (Err fault) = Keeps old new

@@ -6,12 +6,14 @@ use Rattle.sms_script.specs.declared.fault.MeaningFault.{MeaningFault}
 use Rattle.sms_script.specs.declared.fault.MeaningFault.TheVariants.{Memory, Script}
 
 infixl 10 ◌>>=◌
-abbrev pub ◌>>=◌ : {A B : Type 0} → Result A ScriptFault → (A → Result B ScriptFault) → Result B ScriptFault
+abbrev pub ◌>>=◌ : {A B : Type 0} → Result A ScriptFault → (A → Result B ScriptFault)
+    → Result B ScriptFault
 (Ok x) >>= next = next x
 (Err why) >>= next = Err why
 
 infixl 10 ◌>>◌
-abbrev pub ◌>>◌ : {B : Type 0} → Result (Unit {0}) ScriptFault → Result B ScriptFault → Result B ScriptFault
+abbrev pub ◌>>◌ : {B : Type 0} → Result (Unit {0}) ScriptFault → Result B ScriptFault
+    → Result B ScriptFault
 (Ok done) >> next = next
 (Err why) >> next = Err why
 

@@ -22,17 +22,22 @@ lines_limit = 100000
 
 -- before the first line
 abbrev pub before_all : SettingsValue
-before_all = record { known = no_phones; limits = default_limits; clock = None; is_brief = false; lines = 0 }
+before_all =
+    record { known = no_phones; limits = default_limits; clock = None; is_brief = false; lines = 0 }
 
 -- what a line sets; of a setting given twice the last counts
 unfoldable pub after : SettingsValue → Statement → SettingsValue
 after s statements.Nothing = record s { lines = s.lines + 1 }
-after s (statements.Limit which n) = record s { limits = with_limit s.limits which n; lines = s.lines + 1 }
+after s (statements.Limit which n) =
+    record s { limits = with_limit s.limits which n; lines = s.lines + 1 }
 after s (statements.Clock n) = record s { clock = Some n; lines = s.lines + 1 }
 after s statements.Brief = record s { is_brief = true; lines = s.lines + 1 }
-after s statements.Wide = record s { limits = record (s.limits) { wide = true }; lines = s.lines + 1 }
-after s statements.Reject = record s { limits = record (s.limits) { reject = true }; lines = s.lines + 1 }
-after s (statements.Phone phone) = record s { known = with_phone s.known phone; lines = s.lines + 1 }
+after s statements.Wide =
+    record s { limits = record (s.limits) { wide = true }; lines = s.lines + 1 }
+after s statements.Reject =
+    record s { limits = record (s.limits) { reject = true }; lines = s.lines + 1 }
+after s (statements.Phone phone) =
+    record s { known = with_phone s.known phone; lines = s.lines + 1 }
 after s (statements.Event event) = record s { known = running s.known; lines = s.lines + 1 }
 
 -- the event that a line is
@@ -62,8 +67,13 @@ with_event events (Some event) = events ++ event ∷ []
 
 abbrev pub with_meaning : ScriptValue → Result Statement ScriptFault → ScriptValue
 with_meaning s (Ok statement) =
-    record { settings = after s.settings statement; events = with_event s.events (event_of statement); fault = None }
-with_meaning s (Err why) = record { settings = s.settings; events = s.events; fault = Some (s.settings.lines + 1, why) }
+    record {
+      settings = after s.settings statement;
+      events = with_event s.events (event_of statement);
+      fault = None;
+    }
+with_meaning s (Err why) =
+    record { settings = s.settings; events = s.events; fault = Some (s.settings.lines + 1, why) }
 
 abbrev pub with_line_unless : ScriptValue → List ℕ → Option (ℕ × ScriptFault) → ScriptValue
 with_line_unless s line None = with_meaning s (line_meaning s.settings line)
@@ -82,9 +92,12 @@ abbrev pub script_of : List (List ℕ) → ScriptValue
 script_of lines = with_lines no_lines lines
 
 -- a line was taken: its event was answered, or the reason why it says nothing
-abbrev pub TakesLine : SettingsValue → SettingsValue → List ℕ → Result (Option Event) PlayFault → Type 0
+abbrev pub TakesLine : SettingsValue → SettingsValue → List ℕ → Result (Option Event) PlayFault
+    → Type 0
 TakesLine old new line (Ok event) =
-    (statement : Statement) × (meaning old.known line ≡ Ok statement) × (new ≡ after old statement) × (event ≡ event_of statement)
-TakesLine old new line (Err (faults.Script n why)) = (meaning old.known line ≡ Err why) × (n ≡ old.lines + 1)
+    (statement : Statement) × (meaning old.known line ≡ Ok statement) × (new ≡ after old statement)
+    × (event ≡ event_of statement)
+TakesLine old new line (Err (faults.Script n why)) =
+    (meaning old.known line ≡ Err why) × (n ≡ old.lines + 1)
 TakesLine old new line (Err faults.Memory) = Unit {0}
 TakesLine old new line (Err _) = ⊥

@@ -21,7 +21,8 @@ pub record Ended : Type 0 where
 abbrev pub packet_lines : Bool → List (List ℕ) → ℕ → List PacketValue → List ℕ
 packet_lines brief names number [] = []
 packet_lines brief names number (packet ∷ more) =
-    packet_line brief number (name_of names packet.phone) packet ++ packet_lines brief names (number + 1) more
+    packet_line brief number (name_of names packet.phone) packet
+    ++ packet_lines brief names (number + 1) more
 
 -- The lines of events: for each its own, then those of the packets that it put out. Events and packets are numbered from 1.
 unfoldable pub event_lines : Bool → List (List ℕ) → ℕ → ℕ → List Happened → List ℕ
@@ -34,11 +35,14 @@ event_lines brief names event packet (h ∷ more) =
 -- the lines of the texts of a phone, the first of which has this number
 abbrev pub sent_lines : List ℕ → ℕ → List (List ℕ) → List ℕ
 sent_lines name number [] = []
-sent_lines name number (word ∷ more) = sent_line name number word ++ sent_lines name (number + 1) more
+sent_lines name number (word ∷ more) =
+    sent_line name number word ++ sent_lines name (number + 1) more
 
 -- a phone in the end
 abbrev pub phone_lines : List ℕ → Ended → List ℕ
-phone_lines name ended = sent_lines name 1 ended.statuses ++ store_line name (length ended.store) ++ flat_map entry_line ended.store
+phone_lines name ended =
+    sent_lines name 1 ended.statuses ++ store_line name (length ended.store)
+    ++ flat_map entry_line ended.store
 
 -- each phone in the end, in their order
 unfoldable pub final_lines : List (List ℕ) → List Ended → List ℕ
@@ -48,4 +52,5 @@ final_lines (name ∷ names) (ended ∷ ends) = phone_lines name ended ++ final_
 
 -- the whole transcript
 abbrev pub transcript : Bool → List (List ℕ) → List Happened → List Ended → List ℕ
-transcript brief names happened ends = event_lines brief names 1 1 happened ++ final_lines names ends
+transcript brief names happened ends =
+    event_lines brief names 1 1 happened ++ final_lines names ends

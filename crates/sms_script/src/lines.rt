@@ -49,7 +49,8 @@ fn drop_carriage_return(line: &mut Vec<u8>)
 
 /// Whether a line is longer than a line may be, with an octet more.
 fn is_longer(line: &[u8], octet: u8) -> bool
-    ensures { result ≡ nat_lt line_limit (length (strip_carriage_return (line.now ++ octet ∷ []))) }
+    ensures { let longer = strip_carriage_return (line.now ++ octet ∷ []) in
+        result ≡ nat_lt line_limit (length longer) }
 {
     let length = if octet == b'\r' {
         line.len()

@@ -16,7 +16,7 @@ use crate::words::{
     address_of, can_be_phone, is_name, no_word, number_in, octets_of, one_word, two_words,
     two_words_and_text,
 };
-pub use event::{Event, Octets, Text};
+pub use event::{Event, Text};
 pub use known::{Known, PHONE_LIMIT};
 use sms_field::Address;
 pub use statement::{Limit, Phone, Statement};

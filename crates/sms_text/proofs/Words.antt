@@ -99,29 +99,6 @@ septets_first (s ∷ rest) back k j fits len =
     let others : drop 7 (septet_bits (s ∷ rest) ++ back) ≡ septet_bits rest ++ back = ap (drop 7) whole ∙ drop_at (bits 7 s) (septet_bits rest ++ back) 7 (length-bits 7 s) in
     ap (λ (n : ℕ). septets_of n (septet_bits (s ∷ rest) ++ back)) sum ∙ ap (λ (x : ℕ). x ∷ septets_of (length rest + j) (drop 7 (septet_bits (s ∷ rest) ++ back))) first ∙ ap (λ (l : List ℕ). s ∷ septets_of (length rest + j) l) others ∙ ap (λ (l : List ℕ). s ∷ l) (septets_first rest back (length rest) j fits.1 refl)
 
--- ---- a whole block written out
-
-pub eight : (w : ℕ) → w % 128 ∷ w / 128 % 128 ∷ w / 16384 % 128 ∷ w / 2097152 % 128 ∷ w / 268435456 % 128 ∷ w / 34359738368 % 128 ∷ w / 4398046511104 % 128 ∷ w / 562949953421312 % 128 ∷ [] ≡ low_septets 8 w
-unfolding low_septets
-eight w =
-    let e2 : w / 16384 ≡ w / 128 / 128 = sym (div-div-eq-div-mul w 128 128) in
-    let e3 : w / 2097152 ≡ w / 128 / 128 / 128 = sym (div-div-eq-div-mul w 16384 128) ∙ ap (λ (n : ℕ). n / 128) e2 in
-    let e4 : w / 268435456 ≡ w / 128 / 128 / 128 / 128 = sym (div-div-eq-div-mul w 2097152 128) ∙ ap (λ (n : ℕ). n / 128) e3 in
-    let e5 : w / 34359738368 ≡ w / 128 / 128 / 128 / 128 / 128 = sym (div-div-eq-div-mul w 268435456 128) ∙ ap (λ (n : ℕ). n / 128) e4 in
-    let e6 : w / 4398046511104 ≡ w / 128 / 128 / 128 / 128 / 128 / 128 = sym (div-div-eq-div-mul w 34359738368 128) ∙ ap (λ (n : ℕ). n / 128) e5 in
-    let e7 : w / 562949953421312 ≡ w / 128 / 128 / 128 / 128 / 128 / 128 / 128 = sym (div-div-eq-div-mul w 4398046511104 128) ∙ ap (λ (n : ℕ). n / 128) e6 in
-    rw (e2, e3, e4, e5, e6, e7) refl
-
-pub seven : (w : ℕ) → w % 256 ∷ w / 256 % 256 ∷ w / 65536 % 256 ∷ w / 16777216 % 256 ∷ w / 4294967296 % 256 ∷ w / 1099511627776 % 256 ∷ w / 281474976710656 % 256 ∷ [] ≡ low_octets 7 w
-unfolding low_octets
-seven w =
-    let e2 : w / 65536 ≡ w / 256 / 256 = sym (div-div-eq-div-mul w 256 256) in
-    let e3 : w / 16777216 ≡ w / 256 / 256 / 256 = sym (div-div-eq-div-mul w 65536 256) ∙ ap (λ (n : ℕ). n / 256) e2 in
-    let e4 : w / 4294967296 ≡ w / 256 / 256 / 256 / 256 = sym (div-div-eq-div-mul w 16777216 256) ∙ ap (λ (n : ℕ). n / 256) e3 in
-    let e5 : w / 1099511627776 ≡ w / 256 / 256 / 256 / 256 / 256 = sym (div-div-eq-div-mul w 4294967296 256) ∙ ap (λ (n : ℕ). n / 256) e4 in
-    let e6 : w / 281474976710656 ≡ w / 256 / 256 / 256 / 256 / 256 / 256 = sym (div-div-eq-div-mul w 1099511627776 256) ∙ ap (λ (n : ℕ). n / 256) e5 in
-    rw (e2, e3, e4, e5, e6) refl
-
 -- ---- one after another
 
 pub one_more_septets : (old new : List ℕ) (count i w s : ℕ) (total : List ℕ) → i < count → new ≡ old ++ s ∷ [] → s ≡ w % 128 → old ++ low_septets (count - i) w ≡ total → new ++ low_septets (count - (i + 1)) (w / 128) ≡ total
@@ -153,11 +130,6 @@ unfolding low_octets
 no_low_octets w = refl
 
 -- ---- a block is the number of its septets, or of its octets
-
-pub word_of_eight : (a b c d e f g h : ℕ) → AreSeptets (a ∷ b ∷ c ∷ d ∷ e ∷ f ∷ g ∷ h ∷ []) → low_septets 8 (a + 128 * b + 16384 * c + 2097152 * d + 268435456 * (e + 128 * f + 16384 * g + 2097152 * h)) ≡ a ∷ b ∷ c ∷ d ∷ e ∷ f ∷ g ∷ h ∷ []
-word_of_eight a b c d e f g h are =
-    let turned : a + 128 * b + 16384 * c + 2097152 * d + 268435456 * (e + 128 * f + 16384 * g + 2097152 * h) ≡ a + 128 * (b + 128 * (c + 128 * (d + 128 * (e + 128 * (f + 128 * (g + 128 * (h + 128 * 0))))))) = omega arith in
-    ap (low_septets 8) turned ∙ low_septets-cons 7 a _ are.0 ∙ ap (λ (l : List ℕ). a ∷ l) (low_septets-cons 6 b _ are.1.0 ∙ ap (λ (l : List ℕ). b ∷ l) (low_septets-cons 5 c _ are.1.1.0 ∙ ap (λ (l : List ℕ). c ∷ l) (low_septets-cons 4 d _ are.1.1.1.0 ∙ ap (λ (l : List ℕ). d ∷ l) (low_septets-cons 3 e _ are.1.1.1.1.0 ∙ ap (λ (l : List ℕ). e ∷ l) (low_septets-cons 2 f _ are.1.1.1.1.1.0 ∙ ap (λ (l : List ℕ). f ∷ l) (low_septets-cons 1 g _ are.1.1.1.1.1.1.0 ∙ ap (λ (l : List ℕ). g ∷ l) (low_septets-cons 0 h 0 are.1.1.1.1.1.1.1.0 ∙ ap (λ (l : List ℕ). h ∷ l) (no_low_septets 0))))))))
 
 pub word_of_eight_octets : (xs : List ℕ) (w v : ℕ) → ((k : ℕ) → get_or xs k 0 < 256) → w ≡ get_or xs 0 0 + 256 * get_or xs 1 0 + 65536 * get_or xs 2 0 + 16777216 * get_or xs 3 0 + 4294967296 * get_or xs 4 0 + 1099511627776 * get_or xs 5 0 + 281474976710656 * get_or xs 6 0 + 72057594037927936 * v → low_octets 7 w ≡ get_or xs 0 0 ∷ get_or xs 1 0 ∷ get_or xs 2 0 ∷ get_or xs 3 0 ∷ get_or xs 4 0 ∷ get_or xs 5 0 ∷ get_or xs 6 0 ∷ []
 word_of_eight_octets xs w v small is =
@@ -191,11 +163,6 @@ nothing_in_octets (x ∷ xs) w few = absurd (omega arith)
 pub first_fits : (xs : List ℕ) → 1 ≤ length xs → AreSeptets xs → get_or xs 0 0 < 128
 first_fits [] some are = absurd (omega arith)
 first_fits (x ∷ xs) some are = are.0
-
-pub second_fits : (xs : List ℕ) → 2 ≤ length xs → AreSeptets xs → get_or xs 1 0 < 128
-second_fits [] many are = absurd (omega arith)
-second_fits (x ∷ []) many are = absurd (omega arith)
-second_fits (x ∷ y ∷ xs) many are = are.1.0
 
 -- a number of few bits fits
 pub few_bits : (w k n : ℕ) → w < 2 ^ k → k ≤ n → w < 2 ^ n
@@ -321,6 +288,43 @@ last_packed fill w rest old new septets few is bound e so_far =
       parts = ap octet_bits e ∙ octet_bits-append old (low_octets r w) ∙ ap (λ (l : List ℕ). octet_bits old ++ l) end ∙ sym (append_assoc (octet_bits old) (septet_bits rest) (replicate r 0)) ∙ ap (λ (l : List ℕ). l ++ replicate r 0) so_far;
     }
 
+-- ---- packed octets that are added to others
+
+-- the octets added to `base` so far are those of the septets before the rest
+pub record PackedSoFar (fill : ℕ) (septets rest base items : List ℕ) : Type 0 where
+  pub part : List ℕ
+  pub added : items ≡ base ++ part
+  pub bits_are : octet_bits part ++ septet_bits rest ≡ replicate fill 0 ++ septet_bits septets
+  pub octets : IsOctets part
+
+-- octets that are added to `base` are those of the septets
+abbrev pub PackedBehind : ℕ → List ℕ → List ℕ → List ℕ → Type 0
+PackedBehind fill septets base items = (packed : List ℕ) × PackedPlain fill septets packed × IsOctets packed × (items ≡ base ++ packed)
+
+pub few_added : (fill w n : ℕ) (septets base items : List ℕ) → fill < 7 → n ≡ length septets → n < fill → low_septets n w ≡ septets → w < 2 ^ (7 * n) → items ≡ base ++ low_octets (n + 1) ((w * 2 ^ fill) % 2 ^ 64) → PackedBehind fill septets base items
+few_added fill w n septets base items small len few is bound e =
+    let part : List ℕ = low_octets (n + 1) ((w * 2 ^ fill) % 2 ^ 64) in
+    (part, few_packed fill w n septets [] part small len few is bound refl refl, octets_first [] part (n + 1) _ refl refl, e)
+
+pub head_added : (fill w : ℕ) (septets first rest base items : List ℕ) → fill < 7 → fill ≤ length septets → AreSeptets septets → first ≡ take fill septets → rest ≡ drop fill septets → low_septets (length first) w ≡ first → w < 2 ^ (7 * length first) → items ≡ base ++ low_octets fill ((w * 2 ^ fill) % 2 ^ 64) → PackedSoFar fill septets rest base items × AreSeptets rest
+head_added fill w septets first rest base items small enough are front back is bound e =
+    let part : List ℕ = low_octets fill ((w * 2 ^ fill) % 2 ^ 64) in
+    let head = head_packed fill w septets first rest [] part small enough are front back is bound refl refl in
+    (record { part = part; added = e; bits_are = head.0; octets = octets_first [] part fill _ refl refl }, head.1)
+
+pub more_added : (fill : ℕ) (septets rest last base old new packed : List ℕ) → IsOctets packed → new ≡ old ++ packed → octet_bits packed ++ septet_bits last ≡ septet_bits rest → PackedSoFar fill septets rest base old → PackedSoFar fill septets last base new
+more_added fill septets rest last base old new packed are e same so_far = record {
+  part = so_far.part ++ packed;
+  added = e ∙ ap (λ (l : List ℕ). l ++ packed) so_far.added ∙ append_assoc base so_far.part packed;
+  bits_are = ap (λ (l : List ℕ). l ++ septet_bits last) (octet_bits-append so_far.part packed) ∙ append_assoc (octet_bits so_far.part) (octet_bits packed) (septet_bits last) ∙ ap (λ (l : List ℕ). octet_bits so_far.part ++ l) same ∙ so_far.bits_are;
+  octets = octets-append so_far.part packed so_far.octets are;
+}
+
+pub last_added : (fill w : ℕ) (septets rest base old new : List ℕ) → length rest < 8 → low_septets (length rest) w ≡ rest → w < 2 ^ (7 * length rest) → new ≡ old ++ low_octets (length rest) w → PackedSoFar fill septets rest base old → PackedBehind fill septets base new
+last_added fill w septets rest base old new few is bound e so_far =
+    let part : List ℕ = so_far.part ++ low_octets (length rest) w in
+    (part, last_packed fill w rest so_far.part part septets few is bound refl so_far.bits_are, octets_more so_far.part part (length rest) w so_far.octets refl, e ∙ ap (λ (l : List ℕ). l ++ low_octets (length rest) w) so_far.added ∙ append_assoc base so_far.part (low_octets (length rest) w))
+
 -- ---- unpacking
 
 -- so many septets out of so many octets: the head, a block and the end
@@ -395,6 +399,9 @@ head_unpacked fill count w n begun octets first rest old items small enough cut_
 
 pub seven_taken : (xs : List ℕ) → 7 ≤ length xs → first_seven xs ≡ take 7 xs
 seven_taken xs many = sym (ap (take 7) (seven_then xs many) ∙ take_at (first_seven xs) (drop 7 xs) 7 refl)
+
+pub eight_taken : (xs : List ℕ) → 8 ≤ length xs → first_eight xs ≡ take 8 xs
+eight_taken xs many = sym (ap (take 8) (eight_then xs many) ∙ take_at (first_eight xs) (drop 8 xs) 8 refl)
 
 pub block_unpacked : (rest others old new : List ℕ) (w left : ℕ) (total : List ℕ) → 8 ≤ left → low_octets 7 w ≡ take 7 rest → others ≡ drop 7 rest → new ≡ old ++ low_septets 8 w → old ++ septets_of left (octet_bits rest) ≡ total → new ++ septets_of (left - 8) (octet_bits others) ≡ total
 block_unpacked rest others old new w left total big is after e so_far =

@@ -10,7 +10,7 @@ use crate::deliver::view::DeliverView;
 use crate::fault::UnitFault;
 use crate::unit::Unit;
 use crate::user_data::UserData;
-use crate::user_data::writing::put_user_data;
+use crate::user_data::writing::{put_user_data, room_for_user_data};
 use crate::view::View;
 use sms_field::{Address, Cursor, Refusal, Stamp};
 use std::alloc::{AllocError, Global};
@@ -49,6 +49,9 @@ impl Model for Deliver {
     ghost invariant = { λ d. IsDeliverable (record { more = d.more; looped = d.looped; report = d.report; reply = d.reply; origin = d.origin; pid = d.pid; dcs = d.dcs; stamp = d.stamp; user = d.user }) };
 }
 
+/// The most octets before the user data.
+const FRONT_MAX: usize = 22;
+
 impl Unit for Deliver {
     ghost use Rattle.std.specs.Prelude.{ℕ, List};
     ghost use Rattle.sms_tpdu.specs.Deliver.{deliver, SpellsDeliver};
@@ -74,13 +77,14 @@ impl Unit for Deliver {
             header: self.user.header.is_some(),
             reply: self.reply,
         };
-        let mut out = Vec::new(alloc);
+        let room = room_for_user_data(&self.user).saturating_add(FRONT_MAX);
+        let mut out = Vec::with_capacity(alloc, room)?;
         out.push(flags.to_octet())?;
         self.origin.write_to(&mut out)?;
         out.push(self.pid)?;
         out.push(self.dcs)?;
         out.extend_from_slice(&self.stamp.octets())?;
-        put_user_data(alloc, &mut out, &self.user)?;
+        put_user_data(&mut out, &self.user)?;
         Ok(out)
     }
 

@@ -1,6 +1,6 @@
 //! What reports share: their data, and how the parts that are there are written.
 
-ghost use Rattle.std.specs.Prelude.{◌≡◌, ◌++◌, OnOk};
+ghost use Rattle.std.specs.Prelude.{◌≡◌, ◌≤◌, ℕ, ◌++◌, length, Option, OnOk};
 ghost use Rattle.sms_tpdu.specs.Report as formats;
 ghost use Rattle.sms_tpdu.specs.Report.{octet_if_some, data_if_some, parts_octets};
 
@@ -13,7 +13,7 @@ pub mod submit_ack;
 pub mod submit_error;
 
 use crate::report::indicator::Indicator;
-use crate::user_data::body::Octets;
+use sms_field::Octets;
 use std::alloc::AllocError;
 
 /// The data of a report: their length as the data coding scheme counts it, and their octets.
@@ -33,6 +33,17 @@ pub fn indicator_of(pid: Option<u8>, dcs: Option<u8>, user: &Option<ReportData>)
         pid: pid.is_some(),
         dcs: dcs.is_some(),
         user: user.is_some(),
+    }
+}
+
+/// Room for the parts of a report.
+pub fn room_for_parts(user: &Option<ReportData>) -> usize
+    ensures { (pid dcs : Option ℕ) →
+        length (parts_octets (record { pid = pid; dcs = dcs; user = user.now })) ≤ result }
+{
+    match user {
+        Some(user) => 3 + user.octets.as_slice().len(),
+        None => 2,
     }
 }
 

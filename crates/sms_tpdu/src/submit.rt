@@ -12,7 +12,7 @@ use crate::submit::validity::{ValidityFormat, put_validity};
 use crate::submit::view::SubmitView;
 use crate::unit::Unit;
 use crate::user_data::UserData;
-use crate::user_data::writing::put_user_data;
+use crate::user_data::writing::{put_user_data, room_for_user_data};
 use crate::view::View;
 use sms_field::{Address, Cursor, Refusal, Validity};
 use std::alloc::{AllocError, Global};
@@ -29,7 +29,7 @@ pub struct Submit {
     pub report: bool,
     /// TP-RP: a reply goes by the same service centre.
     pub reply: bool,
-    /// TP-MR: the phone's number of the submission.
+    /// TP-MR: the reference by which the phone tells its submissions apart.
     pub reference: u8,
     /// TP-DA: the recipient.
     pub target: Address,
@@ -50,6 +50,9 @@ impl Model for Submit {
 
     ghost invariant = { λ s. IsSubmittable (record { reject = s.reject; validity = s.validity; report = s.report; reply = s.reply; reference = s.reference; target = s.target; pid = s.pid; dcs = s.dcs; user = s.user }) };
 }
+
+/// The most octets before the user data.
+const FRONT_MAX: usize = 23;
 
 impl Unit for Submit {
     ghost use Rattle.std.specs.Prelude.{ℕ, List};
@@ -76,14 +79,15 @@ impl Unit for Submit {
             header: self.user.header.is_some(),
             reply: self.reply,
         };
-        let mut out = Vec::new(alloc);
+        let room = room_for_user_data(&self.user).saturating_add(FRONT_MAX);
+        let mut out = Vec::with_capacity(alloc, room)?;
         out.push(flags.to_octet())?;
         out.push(self.reference)?;
         self.target.write_to(&mut out)?;
         out.push(self.pid)?;
         out.push(self.dcs)?;
         put_validity(&mut out, &self.validity)?;
-        put_user_data(alloc, &mut out, &self.user)?;
+        put_user_data(&mut out, &self.user)?;
         Ok(out)
     }
 

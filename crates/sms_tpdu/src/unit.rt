@@ -11,6 +11,7 @@ ghost use Rattle.sms_tpdu.specs.UnitLaws.{AreUnitLaws};
 use sms_field::{Cursor, Reason, Refusal};
 use std::alloc::{AllocError, Global};
 
+/// A unit that is read from octets and written as octets, and then read back.
 pub trait Unit: Sized + Drop {
     type Why: Reason;
 

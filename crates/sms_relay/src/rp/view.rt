@@ -50,7 +50,7 @@ pub enum RpBodyView<'a> {
 #[derive(Drop)]
 pub struct RpView<'a> {
     pub side: Side,
-    /// RP-Message Reference: the number by which an answer names what it answers.
+    /// RP-Message Reference, which an answer repeats to tell what it answers.
     pub reference: u8,
     pub body: RpBodyView<'a>,
 }

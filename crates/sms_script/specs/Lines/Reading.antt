@@ -9,17 +9,24 @@ use Rattle.sms_script.specs.declared.lines.LineFault.TheVariants.{Read, TooLong,
 
 -- whatever follows these octets, or nothing as the source is at its end, the line is longer than a line may be
 abbrev pub ShowsLonger : List ℕ → Option (List ℕ) → Type 0
-ShowsLonger raw new = (line_limit < length (strip_carriage_return raw)) ⊎ ((line_limit < length raw) × IsAtEnd new)
+ShowsLonger raw new =
+    (line_limit < length (strip_carriage_return raw)) ⊎ ((line_limit < length raw) × IsAtEnd new)
 
 -- what was taken, where raw is of one line, without its line feed
-abbrev pub TakesLine : Option (List ℕ) → Option (List ℕ) → List ℕ → List ℕ → Result LineEnd LineFault → Type 0
+abbrev pub TakesLine : Option (List ℕ) → Option (List ℕ) → List ℕ → List ℕ
+    → Result LineEnd LineFault → Type 0
 TakesLine old new raw line (Ok LineFeed) =
-    Consumes old new (raw ++ line_feed ∷ []) × (line ≡ strip_carriage_return raw) × (length line ≤ line_limit)
-TakesLine old new raw line (Ok EndOfSource) = Consumes old new raw × (line ≡ raw) × (length line ≤ line_limit) × IsAtEnd new
-TakesLine old new raw line (Err TooLong) = Consumes old new raw × ShowsLonger raw new × (length raw ≤ line_limit + 2)
+    Consumes old new (raw ++ line_feed ∷ []) × (line ≡ strip_carriage_return raw)
+    × (length line ≤ line_limit)
+TakesLine old new raw line (Ok EndOfSource) =
+    Consumes old new raw × (line ≡ raw) × (length line ≤ line_limit) × IsAtEnd new
+TakesLine old new raw line (Err TooLong) =
+    Consumes old new raw × ShowsLonger raw new × (length raw ≤ line_limit + 2)
 TakesLine old new raw line (Err Read) = Consumes old new raw × (length raw ≤ line_limit + 1)
 TakesLine old new raw line (Err Memory) = Consumes old new raw × (length raw ≤ line_limit + 1)
 
 -- a source with old left was read for a line, and has new left
-abbrev pub ReadsLine : Option (List ℕ) → Option (List ℕ) → List ℕ → Result LineEnd LineFault → Type 0
-ReadsLine old new line result = (raw : List ℕ) × HasNoLineFeed raw × TakesLine old new raw line result
+abbrev pub ReadsLine : Option (List ℕ) → Option (List ℕ) → List ℕ → Result LineEnd LineFault
+    → Type 0
+ReadsLine old new line result =
+    (raw : List ℕ) × HasNoLineFeed raw × TakesLine old new raw line result

@@ -31,7 +31,11 @@ running known = record { names = known.names; addresses = known.addresses; is_ru
 -- one phone more
 abbrev pub with_phone : KnownValue → Phone → KnownValue
 with_phone known phone =
-    record { names = known.names ++ phone.name ∷ []; addresses = known.addresses ++ phone.address ∷ []; is_running = known.is_running }
+    record {
+      names = known.names ++ phone.name ∷ [];
+      addresses = known.addresses ++ phone.address ∷ [];
+      is_running = known.is_running;
+    }
 
 -- no phone has the name or the address of this one, and there is a place for it
 abbrev pub IsNew : KnownValue → Phone → Type 0
@@ -43,7 +47,8 @@ IsNew known phone =
 -- no two of the addresses are the same
 abbrev pub AreDistinct : List AddressValue → Type 0
 AreDistinct [] = Unit {0}
-AreDistinct (address ∷ others) = (list_any (same_address address) others ≡ false) × AreDistinct others
+AreDistinct (address ∷ others) =
+    (list_any (same_address address) others ≡ false) × AreDistinct others
 
 -- the addresses of different phones, as many as there may be
 abbrev pub ArePhones : List AddressValue → Type 0

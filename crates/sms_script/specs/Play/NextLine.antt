@@ -14,18 +14,23 @@ use Rattle.sms_script.specs.declared.fault.ScriptFault.TheVariants as reasons
 
 -- a line too many is there with its first octet; a longer line is there with the octet that shows it
 abbrev pub TakesWrong : Option (List ℕ) → Option (List ℕ) → ℕ → ScriptFault → Type 0
-TakesWrong old new count reasons.TooManyLines = (count ≡ lines_limit) × (octet : ℕ) × Consumes old new (octet ∷ [])
+TakesWrong old new count reasons.TooManyLines =
+    (count ≡ lines_limit) × (octet : ℕ) × Consumes old new (octet ∷ [])
 TakesWrong old new count reasons.LineTooLong =
     (count < lines_limit) × (raw : List ℕ) × HasNoLineFeed raw × Consumes old new raw
     × ShowsLonger raw new × (length raw ≤ line_limit + 2)
 TakesWrong old new count _ = ⊥
 
 -- after as many lines, a source with old left was read for one more, and has new left; the last line has octets
-abbrev pub TakesNext : Option (List ℕ) → Option (List ℕ) → ℕ → List ℕ → Result Next PlayFault → Type 0
-TakesNext old new count line (Ok nexts.Line) = (count < lines_limit) × ReadsLine old new line (Ok line_ends.LineFeed)
-TakesNext old new count line (Ok nexts.Last) = (count < lines_limit) × (line ≢ []) × ReadsLine old new line (Ok line_ends.EndOfSource)
+abbrev pub TakesNext : Option (List ℕ) → Option (List ℕ) → ℕ → List ℕ → Result Next PlayFault
+    → Type 0
+TakesNext old new count line (Ok nexts.Line) =
+    (count < lines_limit) × ReadsLine old new line (Ok line_ends.LineFeed)
+TakesNext old new count line (Ok nexts.Last) =
+    (count < lines_limit) × (line ≢ []) × ReadsLine old new line (Ok line_ends.EndOfSource)
 TakesNext old new count line (Ok nexts.End) = Consumes old new [] × IsAtEnd new
-TakesNext old new count line (Err (faults.Script n why)) = (n ≡ count + 1) × TakesWrong old new count why
+TakesNext old new count line (Err (faults.Script n why)) =
+    (n ≡ count + 1) × TakesWrong old new count why
 TakesNext old new count line (Err faults.Read) =
     (raw : List ℕ) × HasNoLineFeed raw × Consumes old new raw × (length raw ≤ line_limit + 1)
 TakesNext old new count line (Err faults.Memory) = (raw : List ℕ) × Consumes old new raw

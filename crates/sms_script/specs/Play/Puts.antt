@@ -7,7 +7,8 @@ use Rattle.sms_script.specs.declared.fault.PlayFault.TheVariants as faults
 -- the whole text, or on a fault a front of it
 abbrev pub Puts : Option (List ℕ) → Option (List ℕ) → List ℕ → Result (Unit {0}) PlayFault → Type 0
 Puts old new text (Ok done) = Appends old new text
-Puts old new text (Err fault) = (front back : List ℕ) × (text ≡ front ++ back) × Appends old new front
+Puts old new text (Err fault) =
+    (front back : List ℕ) × (text ≡ front ++ back) × Appends old new front
 
 -- the sink has failed just where a write failed; the only other fault is want of memory
 abbrev pub HasFailed : Result (Unit {0}) PlayFault → Bool → Type 0

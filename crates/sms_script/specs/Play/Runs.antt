@@ -36,13 +36,15 @@ AreWords words (Err fault) = Unit {0}
 
 -- an event led from one network to another
 abbrev pub Answers : {N A E : Type 0} → Conduct N → N → Event → N → Result (String A) E → Type 0
-Answers c n event next answer = (words : List ℕ) × c.Steps n event words next × AreWords words answer
+Answers c n event next answer =
+    (words : List ℕ) × c.Steps n event words next × AreWords words answer
 
 -- from one network to another by these events, with what each answered and the packets that it put out
 abbrev pub Ran : {N : Type 0} → Conduct N → N → List Event → List Happened → N → Type 0
 Ran c n [] [] last = last ≡ n
 Ran {N} c n (event ∷ events) (h ∷ hs) last =
-    (next : N) × c.Steps n event h.words next × (c.put_out next ≡ c.put_out n ++ h.put) × Ran c next events hs last
+    (next : N) × c.Steps n event h.words next × (c.put_out next ≡ c.put_out n ++ h.put)
+    × Ran c next events hs last
 Ran c n _ _ last = ⊥
 
 -- where the clock starts is a tick, which is neither counted nor printed
@@ -52,4 +54,5 @@ Clocked c (Some seconds) first n = (words : List ℕ) × c.Steps first (Tick sec
 
 -- a network before the first event of a script
 abbrev pub Starts : {N : Type 0} → Conduct N → SettingsValue → N → Type 0
-Starts {N} c s n = (first : N) × c.Begins s.limits s.known.addresses first × Clocked c s.clock first n
+Starts {N} c s n =
+    (first : N) × c.Begins s.limits s.known.addresses first × Clocked c s.clock first n

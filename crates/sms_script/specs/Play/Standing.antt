@@ -20,7 +20,8 @@ put_count (h ∷ hs) = length h.put + put_count hs
 abbrev pub Follows : {N : Type 0} → Conduct N → SettingsValue → List Happened → Option N → Type 0
 Follows c s happened None = Unit {0}
 Follows c s happened (Some n) =
-    (s.known.is_running ≡ true) × (put_count happened ≡ length (c.put_out n)) × (length (c.ends n) ≡ length s.known.addresses)
+    (s.known.is_running ≡ true) × (put_count happened ≡ length (c.put_out n))
+    × (length (c.ends n) ≡ length s.known.addresses)
 
 -- the lines say s with no fault, their events happened and led to the network, and their lines were written
 abbrev pub Stands : {N : Type 0} → Conduct N
@@ -37,7 +38,8 @@ Stands c ls s n events before now =
 
 -- one line more was played
 abbrev pub GoesOn : {N : Type 0} → Conduct N
-    → List (List ℕ) → SettingsValue → Option N → ℕ → Option (List ℕ) → Option (List ℕ) → Result (Unit {0}) PlayFault → Type 0
+    → List (List ℕ) → SettingsValue → Option N → ℕ → Option (List ℕ) → Option (List ℕ)
+    → Result (Unit {0}) PlayFault → Type 0
 GoesOn c ls s n events before now (Ok done) = Stands c ls s n events before now
 GoesOn c ls s n events before now (Err (faults.Script line why)) =
     ((script_of ls).fault ≡ Some (line, why)) × Tells c (script_of ls) before now
@@ -46,9 +48,11 @@ GoesOn c ls s n events before now (Err fault) = TellsFront c ls before now
 
 -- all lines were played, to the end of the source
 abbrev pub PlaysLines : {N : Type 0} → Conduct N
-    → (old new : Option (List ℕ)) → SettingsValue → Option N → (before now : Option (List ℕ)) → Result (Unit {0}) PlayFault → Type 0
+    → (old new : Option (List ℕ)) → SettingsValue → Option N → (before now : Option (List ℕ))
+    → Result (Unit {0}) PlayFault → Type 0
 PlaysLines c old new s n before now (Ok done) =
-    (read : List ℕ) × (events : ℕ) × Consumes old new read × IsAtEnd new × Stands c (lines read) s n events before now
+    (read : List ℕ) × (events : ℕ) × Consumes old new read × IsAtEnd new
+    × Stands c (lines read) s n events before now
 PlaysLines c old new s n before now (Err fault) = Plays c old new before now (Err fault)
 
 -- what playing holds between two lines: what the lines have set, the network, how many events there were, and what the sink has taken
@@ -62,9 +66,11 @@ abbrev pub at : {N : Type 0} → SettingsValue → Option N → ℕ → Option (
 at s n events written = record { settings = s; network = n; events = events; written = written }
 
 -- One line more: wherever playing stands after some lines, it then stands after these and one more, or playing ends.
-abbrev pub Advances : {N : Type 0} → Conduct N → At N → List ℕ → At N → Result (Unit {0}) PlayFault → Type 0
+abbrev pub Advances : {N : Type 0} → Conduct N → At N → List ℕ → At N → Result (Unit {0}) PlayFault
+    → Type 0
 Advances c from line to result =
-    (ls : List (List ℕ)) (before : Option (List ℕ)) → Stands c ls from.settings from.network from.events before from.written
+    (ls : List (List ℕ)) (before : Option (List ℕ))
+    → Stands c ls from.settings from.network from.events before from.written
     → GoesOn c (ls ++ line ∷ []) to.settings to.network to.events before to.written result
 
 -- the network that an event is played on: the one that there is, or one that starts as the script has set

@@ -27,4 +27,5 @@ abbrev pub IsIn : Limit → ℕ → Type 0
 IsIn which n = (1 ≤ n) × (n ≤ greatest which)
 
 abbrev pub AreLimits : Limits → Type 0
-AreLimits l = IsIn Held l.held × IsIn Open l.open_max × IsIn Remembered l.remembered × IsIn Store l.store
+AreLimits l =
+    IsIn Held l.held × IsIn Open l.open_max × IsIn Remembered l.remembered × IsIn Store l.store

@@ -4,7 +4,9 @@ use Rattle.sms_script.specs.Transcript.Joined.{◌⊕◌}
 
 -- two digits, in lower case
 abbrev pub two_digits : ℕ → List ℕ
-two_digits octet = slice_index (codes "0123456789abcdef") (octet / 16) ∷ slice_index (codes "0123456789abcdef") (octet % 16) ∷ []
+two_digits octet =
+    slice_index (codes "0123456789abcdef") (octet / 16)
+    ∷ slice_index (codes "0123456789abcdef") (octet % 16) ∷ []
 
 -- `\` as `\\`, a line feed as `\n`, a carriage return as `\r`, a form feed as `\f`, another octet below 32 and 127 as `\x` and two digits
 abbrev pub escape : ℕ → List ℕ

@@ -36,16 +36,21 @@ octets_text brief octets =
 abbrev pub packet_line : Bool → ℕ → List ℕ → PacketValue → List ℕ
 packet_line brief number name packet =
     if packet.is_up
-    then codes "#" ⊕ decimal number ⊕ codes " " ⊕ name ⊕ codes ">centre " ⊕ octets_text brief packet.octets ⊕ line_end
-    else codes "#" ⊕ decimal number ⊕ codes " centre>" ⊕ name ⊕ codes " " ⊕ octets_text brief packet.octets ⊕ line_end
+    then codes "#" ⊕ decimal number ⊕ codes " " ⊕ name ⊕ codes ">centre "
+    ⊕ octets_text brief packet.octets ⊕ line_end
+    else codes "#" ⊕ decimal number ⊕ codes " centre>" ⊕ name ⊕ codes " "
+    ⊕ octets_text brief packet.octets ⊕ line_end
 
 -- what became of a text, in a word
 abbrev pub sent_line : List ℕ → ℕ → List ℕ → List ℕ
-sent_line name number word = codes "sent " ⊕ name ⊕ codes " " ⊕ decimal number ⊕ codes " " ⊕ word ⊕ line_end
+sent_line name number word =
+    codes "sent " ⊕ name ⊕ codes " " ⊕ decimal number ⊕ codes " " ⊕ word ⊕ line_end
 
 abbrev pub store_line : List ℕ → ℕ → List ℕ
 store_line name count = codes "store " ⊕ name ⊕ codes " " ⊕ decimal count ⊕ line_end
 
 -- the origin and the text, both escaped
 abbrev pub entry_line : EntryValue → List ℕ
-entry_line entry = escaped (encode_utf8_all (address_text entry.origin)) ⊕ codes " " ⊕ escaped entry.text ⊕ line_end
+entry_line entry =
+    escaped (encode_utf8_all (address_text entry.origin)) ⊕ codes " " ⊕ escaped entry.text
+    ⊕ line_end

@@ -15,5 +15,6 @@ begins_with_letter (c ∷ more) = is_letter c
 -- 1 to 16 of a to z and 0 to 9, a letter first, and not `centre`
 abbrev pub is_name : List ℕ → Bool
 is_name word =
-    nat_le (length word) 16 && begins_with_letter word && list_all (λ c. is_letter c || is_digit c) word
+    nat_le (length word) 16 && begins_with_letter word
+    && list_all (λ c. is_letter c || is_digit c) word
     && not (bytes_eq word (codes "centre"))

@@ -27,7 +27,8 @@ is_within low high n = nat_le low n && nat_le n high
 
 -- the number of a word, where it is from low to high
 abbrev pub number : ℕ → ℕ → List ℕ → Option ℕ
-number low high word = if is_number word && is_within low high (value word) then Some (value word) else None
+number low high word =
+    if is_number word && is_within low high (value word) then Some (value word) else None
 
 abbrev pub in_range : ℕ → ℕ → List ℕ → Result ℕ ScriptFault
 in_range low high word = some_or (number low high word) BadNumber

@@ -3,7 +3,7 @@
 ghost use Rattle.std.specs.Prelude.{◌≡◌, IfOk};
 ghost use Rattle.std.specs.String.{string_bytes};
 
-use sms_field::Address;
+use sms_field::{Address, Octets};
 use std::alloc::{AllocError, Global};
 use std::marker::Model;
 
@@ -22,7 +22,7 @@ pub enum Event {
     Timeout(usize),
     /// The centre is to hand a message to the phone.
     Push(usize),
-    /// So many seconds go by.
+    /// The clock goes on by these seconds.
     Tick(u64),
     /// Octets that nobody put out are brought up to the centre, as from the phone, or down to the
     /// phone.
@@ -31,36 +31,6 @@ pub enum Event {
         phone: usize,
         octets: Octets,
     },
-}
-
-/// Octets in their order.
-#[derive(Debug, Drop)]
-pub struct Octets {
-    values: Vec<u8>,
-}
-
-impl Model for Octets {
-    ghost use Rattle.std.specs.Prelude.{List, ℕ};
-
-    ghost Value = { List ℕ };
-
-    ghost view = { λ o. o.values.items };
-}
-
-impl Octets {
-    /// These octets.
-    pub fn new(values: Vec<u8>) -> Octets
-        ensures { result ≡ values.items }
-    {
-        Octets { values }
-    }
-
-    /// The octets.
-    pub fn as_slice(&self) -> &[u8]
-        ensures { result.now ≡ self.now }
-    {
-        self.values.as_slice()
-    }
 }
 
 /// A text, which contracts see as its octets in UTF-8.

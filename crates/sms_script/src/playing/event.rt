@@ -47,7 +47,8 @@ fn event_text<N: Network>(
 ) -> Result<Vec<u8>, AllocError>
     requires { first ≤ length (N.conduct.put_out network.now) }
     ensures { let new = drop first (N.conduct.put_out network.now) in
-        IfOk result (λ text. text.items ≡ event_text script.now number words.now (first + 1) new) }
+        let lines = event_text script.now number words.now (first + 1) new in
+        IfOk result (λ text. text.items ≡ lines) }
 {
     let line = event_line(alloc, number, words)?;
     let mut text = line.into_bytes();

@@ -5,8 +5,8 @@ ghost use Rattle.sms_script.specs.Reasons.{Gives};
 ghost use Rattle.sms_script.specs.Words.Hexadecimal.{hexadecimal};
 
 use crate::fault::{MeaningFault, ScriptFault};
-use crate::meaning::Octets;
 use hex::FromHexError;
+use sms_field::Octets;
 use std::alloc::Global;
 
 /// The octets that a word writes in hexadecimal, none as `-` or the empty word.

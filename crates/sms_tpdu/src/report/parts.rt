@@ -11,9 +11,8 @@ ghost use Rattle.sms_tpdu.specs.declared.fault.UnitFault.TheVariants.{Short};
 use crate::fault::UnitFault;
 use crate::report::ReportData;
 use crate::report::indicator::Indicator;
-use crate::user_data::body::Octets;
 use crate::user_data::lengths::octets_of_length;
-use sms_field::{Alphabet, Cursor, Fault, alphabet_of};
+use sms_field::{Alphabet, Cursor, Fault, Octets, alphabet_of};
 use std::alloc::{AllocError, Global};
 use std::marker::Model;
 

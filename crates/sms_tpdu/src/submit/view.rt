@@ -28,7 +28,7 @@ pub struct SubmitView<'a> {
     pub report: bool,
     /// TP-RP: a reply goes by the same service centre.
     pub reply: bool,
-    /// TP-MR: the phone's number of the submission.
+    /// TP-MR: the reference by which the phone tells its submissions apart.
     pub reference: u8,
     /// TP-DA: the recipient.
     pub target: AddressView<'a>,

@@ -165,7 +165,7 @@ impl Unit for Header {
 
     fn write(&self, alloc: Global) -> Result<Vec<u8>, AllocError> {
         let octets = &self.octets;
-        let mut out = Vec::new(alloc);
+        let mut out = Vec::with_capacity(alloc, octets.len() + 1)?;
         out.push(octets.len() as u8)?;
         out.extend_from_slice(octets)?;
         Ok(out)

@@ -15,7 +15,7 @@ pub fn greatest_length(alphabet: Alphabet) -> usize
     }
 }
 
-/// The number of octets that user data of a length take.
+/// How many octets user data of a length take.
 pub fn octets_of_length(alphabet: Alphabet, count: u8) -> usize
     ensures { result ≡ lengths.octets_of_length alphabet count }
 {

@@ -199,7 +199,7 @@ impl<'a> UserDataView<'a> {
         }
     }
 
-    /// TP-UDL: the septets under the 7-bit alphabet, else the octets, those of the header with them.
+    /// TP-UDL: how many septets there are under the 7-bit alphabet, else how many octets. A header counts too.
     pub fn length(&self) -> u8
         ensures { result ≡ length_in self.now }
     {

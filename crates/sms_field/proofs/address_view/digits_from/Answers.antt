@@ -4,7 +4,7 @@ use Rattle.sms_field.proofs.address_view.digits_from.Goals as goal
 use Rattle.sms_field.proofs.address_view.digits_from.Goals.{then-place-eq0, else-place-eq0}
 
 pub loop-place-init : goal.loop-place-init
-loop-place-init c = c.new-digits.ensures.items ∙ digits_none c.args.octets.now
+loop-place-init c = c.in_ok-digits.ensures.items ∙ digits_none c.args.octets.now
 
 pub loop-place-preserved : goal.loop-place-preserved
 loop-place-preserved c =

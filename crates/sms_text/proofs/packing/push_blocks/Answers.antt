@@ -1,20 +1,27 @@
-use Rattle.std.proofs.Common.{◌∙◌, ◌++◌, ◌≡◌, ◌-◌, ◌*◌, ◌+◌, ap, arith, List, ℕ}
-use Rattle.std.proofs.lemmas.List.{take_rest}
-use Rattle.sms_text.specs.Bits.{octet_bits}
-use Rattle.sms_text.specs.Words.{low_septets}
-use Rattle.sms_text.proofs.Words.{block_unpacked, no_block}
+use Rattle.std.proofs.Common.{◌≡◌, ◌∙◌, ◌+◌, ◌-◌, ◌*◌, ◌≤◌, ◌++◌, ℕ, List, length, take, replicate, refl, sym, ap, append_assoc, length-append, arith}
+use Rattle.std.proofs.lemmas.List.{take_at, take_all, take-append-le, length-take-le, length-replicate}
 use Rattle.sms_text.proofs.packing.push_blocks.Goals as goal
 
-pub loop-preserved : goal.loop-preserved
-loop-preserved c =
-    let w : ℕ = c.seven_word.result in
-    let old : List ℕ = c.loop.septets.items in
-    let new : c.extend_from_slice.new.self.items ≡ old ++ low_septets 8 w = c.in_ok-extend_from_slice.ensures.items ∙ ap (λ (l : List ℕ). old ++ l) c.eight_septets.ensures in
-    let fewer : 8 * (c.args.blocks - (c.loop.counter + 1)) ≡ 8 * (c.args.blocks - c.loop.counter) - 8 = omega arith in
-    record {
-      read = rw fewer (block_unpacked c.loop.rest.now _ old c.extend_from_slice.new.self.items w (8 * (c.args.blocks - c.loop.counter)) _ (omega arith) c.seven_word.ensures (take_rest c.loop.rest.now 7) new c.loop.invariant.read);
-      enough = omega arith;
-    }
+-- what is written behind the front, with nothing after it
+front_written : (front written after rest : List ℕ) (n : ℕ) → length (front ++ written) ≡ n → take n ((front ++ (written ++ after)) ++ rest) ≡ front ++ written
+front_written front written after rest n size =
+    let parts : (front ++ (written ++ after)) ++ rest ≡ (front ++ written) ++ (after ++ rest) = simp append_assoc in
+    ap (take n) parts ∙ take_at (front ++ written) (after ++ rest) n size
+
+-- the front of what was filled up
+front_kept : (old more items : List ℕ) (begun n : ℕ) → length old ≡ begun → begun ≤ n → items ≡ take n old ++ more → take begun items ≡ old
+front_kept old more items begun n size le is =
+    ap (take begun) (is ∙ ap (λ (l : List ℕ). l ++ more) (take_all n old (omega arith))) ∙ take_at old more begun size
 
 pub returns : goal.returns
-returns c = no_block c.loop.septets.items (octet_bits c.loop.rest.now) (8 * (c.args.blocks - c.loop.counter)) _ (omega arith) c.loop.invariant.read
+returns c =
+    let begun : ℕ = c.len-begun.result in
+    let old : List ℕ = c.args.septets.now.items in
+    let now : List ℕ = c.deref_mut.result.now in
+    let written : List ℕ = c.put_blocks.new.septets in
+    let size : length old ≡ begun = omega (arith, c.args.septets.now.ok) in
+    let filled = c.deref_mut.ensures.value ∙ c.in_ok-resize.ensures.items in
+    let front : take begun now ≡ old = front_kept old _ now begun (begun + 8 * c.args.blocks) size (omega arith) filled in
+    let many : length written ≡ 8 * c.args.blocks = omega (arith, c.put_blocks.auto.septets, c.deref_mut.ensures.len, c.in_ok-resize.ensures.len, c.resize.new.self.ok) in
+    let all = sym (take_all (8 * c.args.blocks) written (omega (arith, many))) ∙ c.put_blocks.ensures in
+    front_written (take begun now) written _ _ c.resize.new.self.len (length-append (take begun now) written ∙ omega (arith, many, ap length front, c.in_ok-resize.ensures.len)) ∙ ap (λ (l : List ℕ). l ++ written) front ∙ ap (λ (l : List ℕ). old ++ l) all

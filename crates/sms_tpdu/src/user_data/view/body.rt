@@ -1,13 +1,14 @@
 //! What user data carry, where it lies in a unit's octets: packed septets, or octets.
 
-ghost use Rattle.std.specs.Prelude.{◌≡◌, ◌-◌, ◌≤◌, ◌<◌, length, slice_index, IfOk, MatchOption};
+ghost use Rattle.std.specs.Prelude.{◌≡◌, ◌+◌, ◌-◌, ◌*◌, ◌≤◌, ◌<◌, length, slice_index, IfOk, MatchOption};
+ghost use Rattle.sms_text.specs.Bits.{unpacked};
 ghost use Rattle.sms_text.specs.Octets.{IsOctets};
 ghost use Rattle.sms_tpdu.specs.UserData.{BodyFits, body_of};
 ghost use Rattle.sms_tpdu.specs.UserData.Lengths as lengths;
 
-use crate::user_data::body::{Body, Octets, Septets};
+use crate::user_data::body::{Body, Septets};
 use crate::user_data::lengths::{fill_bits, length_of_header};
-use sms_field::Alphabet;
+use sms_field::{Alphabet, Octets};
 use sms_text::{septet_at, unpack};
 use std::alloc::{AllocError, Global};
 use std::marker::Model;
@@ -97,9 +98,20 @@ impl<'a> SeptetsView<'a> {
         self.octets
     }
 
-    /// The bits before the first septet.
-    pub fn fill(&self) -> u8 {
+    /// The bits before the first septet, 0 to 6.
+    pub fn fill(&self) -> u8
+        ensures { result < 7 }
+    {
         self.fill
+    }
+
+    /// The octets in which the septets lie, and the bits before the first septet, 0 to 6.
+    pub fn packed(&self) -> (&'a [u8], u8)
+        ensures few { result.1 < 7 }
+        ensures enough { result.1 + 7 * length self.now ≤ 8 * length result.0.now }
+        ensures are { unpacked result.1 (length self.now) result.0.now ≡ self.now }
+    {
+        (self.octets, self.fill)
     }
 
     /// How many septets there are.

@@ -18,15 +18,16 @@ septets_spelled header septets packed fill count fill_is count_is plain octets =
 appended : (old header packed : List ℕ) (count : ℕ) → ((old ++ (count ∷ [])) ++ header) ++ packed ≡ old ++ (count ∷ (header ++ packed))
 appended old header packed count = simp append_assoc
 
-pub returns-in_ok-extend_from_slice-in-Septets : goal.returns-in_ok-extend_from_slice-in-Septets
-returns-in_ok-extend_from_slice-in-Septets c =
+pub returns-in_ok-pack_into-in-Septets : goal.returns-in_ok-pack_into-in-Septets
+returns-in_ok-pack_into-in-Septets c =
     let header = header_octets c.args.user.now.header in
     let septets : List ℕ = c.as_slice-septets.result.now in
-    let packed : List ℕ = c.in_ok-packed-in-Septets.packed.items in
+    let added = c.in_ok-pack_into-in-Septets.ensures.ok in
+    let packed : List ℕ = added.0 in
     let count : ℕ = c.length_of_header.result + length septets in
     let fill_is : c.fill_bits.result ≡ fill_bits (length header) = rw (c.fill_bits.ensures.is, c.octets_taken-taken.ensures.is) refl in
     let count_is : count ≡ length_of_header Gsm7 (length header) + length c.in-Septets.septets = rw (c.length_of_header.ensures, c.octets_taken-taken.ensures.is, c.as_slice-septets.ensures.same) refl in
-    let plain = rw c.as_slice-septets.ensures.same at c.in_ok-packed-in-Septets.ensures.packed in
-    let user : SpellsUserData c.args.user.now (count ∷ (header ++ packed)) = rw c.in-Septets.is (septets_spelled c.args.user.now.header c.in-Septets.septets packed c.fill_bits.result count fill_is count_is plain c.in_ok-packed-in-Septets.ensures.octets) in
-    let e : c.extend_from_slice.new.self.items ≡ c.args.out.now.items ++ (count ∷ (header ++ packed)) = rw (c.in_ok-extend_from_slice-in-Septets.ensures.items, c.deref.ensures.value, c.in_ok-put_header-in-Septets.ensures, c.in_ok-push-in-Septets.ensures.items) (appended c.args.out.now.items header packed count) in
+    let plain = rw c.as_slice-septets.ensures.same at added.1 in
+    let user : SpellsUserData c.args.user.now (count ∷ (header ++ packed)) = rw c.in-Septets.is (septets_spelled c.args.user.now.header c.in-Septets.septets packed c.fill_bits.result count fill_is count_is plain added.2) in
+    let e : c.pack_into.new.octets.items ≡ c.args.out.now.items ++ (count ∷ (header ++ packed)) = rw (added.3, c.in_ok-put_header-in-Septets.ensures, c.in_ok-push-in-Septets.ensures.items) (appended c.args.out.now.items header packed count) in
     (count ∷ (header ++ packed), user, e)
