@@ -1,6 +1,6 @@
 -- Open sets of which the old ones are dropped.
-use Rattle.std.proofs.Common.{◌≡◌, ◌≢◌, ℕ, ◌+◌, ◌-◌, ◌≤◌, Bool, true, false, cond, not, ◌||◌, leb, List, [], ◌∷◌, ◌++◌, length, refl, sym, ap, ◌∙◌, subst, arith}
-use Rattle.std.proofs.lemmas.Bool.{or_parts, le-leb, leb-true, leb-false, lt-leb}
+use Rattle.std.proofs.Common.{◌≡◌, ℕ, ◌+◌, Bool, true, false, cond, not, leb, List, [], ◌∷◌, ◌++◌, refl, sym, ap, ◌∙◌, subst}
+use Rattle.std.proofs.lemmas.Bool.{or_parts}
 use Rattle.std.proofs.lemmas.List.{append_assoc}
 use Rattle.std.specs.List.{filter}
 use Rattle.sms_join.specs.declared.key.Key.{Key}
@@ -8,8 +8,8 @@ use Rattle.sms_join.specs.declared.units.Units.{Units}
 use Rattle.sms_join.specs.Key.{same_key, maximum_of}
 use Rattle.sms_join.specs.Piece.{Piece}
 use Rattle.sms_join.specs.Aging.{is_old, young}
-use Rattle.sms_join.specs.OpenSet.{SetValue, IsOpen, AreOpen, pieces_with, pieces_in, all_pieces, has_set}
-use Rattle.sms_join.proofs.Outcomes.{Between, between}
+use Rattle.sms_join.specs.OpenSet.{SetValue, AreOpen, pieces_with, pieces_in, all_pieces, has_set}
+use Rattle.sms_join.proofs.Outcomes.{between}
 use Rattle.sms_join.proofs.OneSet.{opened_of}
 
 -- the set may stay open

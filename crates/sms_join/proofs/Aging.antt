@@ -2,10 +2,8 @@
 use Rattle.std.proofs.Common.{◌≡◌, ℕ, zero, suc, Bool, true, false, cond, not, ◌&&◌, ◌||◌, eqb, List, [], ◌∷◌, map, take, refl, sym, ap, ◌∙◌, subst}
 use Rattle.std.proofs.lemmas.Bool.{eqb-true, and_parts, or_right, false_from_ne_true}
 use Rattle.sms_join.specs.declared.key.Key.{Key}
-use Rattle.sms_join.specs.Joiner.{Joiner}
 use Rattle.sms_join.specs.Arrivals.{Arrival, Texts, AllOf, has_text, has_piece, has_pieces, is_done, completed, open_pieces, remaining, OpenApart, IsOf}
-use Rattle.sms_join.specs.Joining.{HoldsOpen}
-use Rattle.sms_join.specs.OpenTexts.{StaysRight, AgesOne}
+use Rattle.sms_join.specs.OpenTexts.{AgesOne}
 use Rattle.sms_join.proofs.Arrived.{has_pieces-same, has_pieces-more}
 use Rattle.sms_join.specs.Aging.{young, aged, is_old}
 

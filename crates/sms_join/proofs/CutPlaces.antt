@@ -191,3 +191,29 @@ all_parted units room start pieces text is wide e whole p =
       in_alphabet = p.same ∙ ap (λ a. map (units_in a) p.lists) alphabet;
       cut = cut_of_steps own room p.lists text (short_groups (begins_pair (alphabet_of text)) own text groups) (steps_of_pieces (begins_pair (alphabet_of text)) own room p.lists text groups wide by_text);
     }
+
+-- so many pieces are those up to this place
+pub record CountedUpTo (units : Units) (room start count : ℕ) : Type 0 where
+  pub pieces : List Units
+  pub parted : PartedUpTo units room start pieces
+  pub many : count ≡ length pieces
+  pub few : count ≤ start
+
+pub nothing_counted : (units : Units) (room : ℕ) → CountedUpTo units room 0 0
+nothing_counted units room = record { pieces = []; parted = nothing_parted units room; many = refl; few = omega arith }
+
+pub one_counted_more : (units : Units) (room start end count : ℕ) → start < length (numbers units) → 2 ≤ room → IsEnd (begins_pair (alphabet_in units)) (numbers units) room start end
+    → CountedUpTo units room start count → CountedUpTo units room end (count + 1)
+one_counted_more units room start end count inside wide is c =
+    let part : Units = units_in (alphabet_in units) (slice_range (numbers units) start end) in
+    let behind = end_behind (begins_pair (alphabet_in units)) (numbers units) room start end inside wide is in
+    record {
+      pieces = c.pieces ++ part ∷ [];
+      parted = one_piece_more units room start end c.pieces part inside wide is refl c.parted;
+      many = omega (arith, c.many, length-append c.pieces (part ∷ []));
+      few = omega (arith, c.few, behind.0);
+    }
+
+pub all_counted : (units : Units) (room start count : ℕ) (text : List ℕ) → IsText text → 2 ≤ room → units ≡ units_of_text text → length (numbers units) ≤ start → CountedUpTo units room start count
+    → (pieces : List Units) × IsParted room text pieces × (count ≡ length pieces)
+all_counted units room start count text is wide e whole c = (c.pieces, all_parted units room start c.pieces text is wide e whole c.parted, c.many)

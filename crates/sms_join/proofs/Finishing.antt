@@ -8,9 +8,11 @@ use Rattle.sms_join.specs.Piece.{Piece}
 use Rattle.sms_join.specs.Joiner.{Joiner, Answer, Repeat, Kept, Finished, TooManyOpen, is_repeat, is_whole, decided, answer, is_among}
 use Rattle.sms_join.specs.Same.{IsSame}
 use Rattle.sms_join.specs.OpenSet.{SetValue, AreOpen, is_in, has_set, with_piece}
-use Rattle.sms_join.specs.Finishing.{would_finish, lacks_only, is_finished, AnswerFinishes, SameIsEquivalence}
+use Rattle.sms_join.specs.Finishing.{would_finish, is_finished, AnswerFinishes, SameIsEquivalence}
 use Rattle.sms_join.proofs.Outcomes.{joiner_of, InPlace, finishes_alone, too_many}
-use Rattle.sms_join.proofs.Offers.{same_refl, Found, set_repeats, set_keeps, set_finishes}
+use Rattle.sms_join.specs.LastKeys.{LastKeysValue}
+use Rattle.sms_join.specs.Slots.{At}
+use Rattle.sms_join.proofs.Offers.{same_refl, Found, Knows, come, last, set_repeats, set_keeps, set_finishes}
 
 told : (repeat whole room : Bool) (units : List Units) → is_finished (decided repeat whole room units) ≡ (not repeat && whole)
 unfolding decided
@@ -66,9 +68,16 @@ alone_finishes ss ks p i o fresh none n m false e =
 -- a set of the key is open
 module _ (ss : List SetValue) (ks : List Key) (i : ℕ) (s : SetValue) (p : Piece) (o : AreOpen ss) (f : Found ss p.key i s) (place : InPlace p) (fresh : is_among ks p.key ≡ false) where
   pub set_would_finish : (b c : Bool) → is_in p.sequence s.sequences ≡ b → eqb (suc (length s.sequences)) (maximum_of s.key) ≡ c → (not b && c) ≡ would_finish (joiner_of ss ks) p
-  set_would_finish true c e g = finishes_by (joiner_of ss ks) p Repeat (set_repeats 0 0 ss ks i s s p o f place fresh e refl).0
-  set_would_finish false true e g = finishes_by (joiner_of ss ks) p (Finished (with_piece s p.sequence p.units).units) (set_finishes 0 0 ss ks i s s p o f place fresh e g refl).0
-  set_would_finish false false e g = finishes_by (joiner_of ss ks) p Kept (set_keeps 0 0 ss ks i s (with_piece s p.sequence p.units) p o f place fresh e g refl).1
+  set_would_finish true c e g = finishes_by (joiner_of ss ks) p Repeat (set_repeats 0 0 ss ks i s p o f place fresh e).0
+  set_would_finish false true e g = finishes_by (joiner_of ss ks) p (Finished (with_piece s p.sequence p.units).units) (set_finishes 0 0 ss ks i s p o f place fresh e g).0
+  set_would_finish false false e g = finishes_by (joiner_of ss ks) p Kept (set_keeps 0 0 ss ks i s p o f place fresh e g).1
 
-  pub lacking : lacks_only s p.sequence ≡ would_finish (joiner_of ss ks) p
-  lacking = set_would_finish _ _ refl refl
+-- what is told of the set
+module _ (m : ℕ) (l : LastKeysValue) (ss : List SetValue) (p : Piece) (i n : ℕ) (h : Knows l ss p i n) (b : Bool) (has : At ss i (λ s. b ≡ is_in n s.sequences)) where
+  pub known_lack : (c : Bool) → At ss i (λ s. c ≡ eqb (suc (length s.sequences)) (maximum_of s.key)) → b ≡ false → c ≡ would_finish (joiner_of ss l.keys) p
+  known_lack c one e =
+      set_would_finish ss l.keys i h.own p h.are_open h.found h.place h.fresh false c (come m l ss p i n h b false has e) (last m l ss p i n h c c one refl)
+
+  pub known_come : b ≡ true → false ≡ would_finish (joiner_of ss l.keys) p
+  known_come e =
+      set_would_finish ss l.keys i h.own p h.are_open h.found h.place h.fresh true _ (come m l ss p i n h b true has e) refl

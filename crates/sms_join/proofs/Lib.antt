@@ -13,6 +13,7 @@ pub mod Rooms
 pub mod Turned
 pub mod Completion
 pub mod SetPieces
+pub mod Slots
 pub mod Rising
 pub mod Moving
 pub mod OneSet

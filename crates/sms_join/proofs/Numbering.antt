@@ -43,3 +43,7 @@ all_numbered maximum pieces n segments so_far whole max = record {
   sequences = so_far.sequences ∙ ap (range_with_len 1) whole;
   maximum = subst (λ m. AllByRecursion (λ (s : Segment). s.maximum ≡ m) segments) max so_far.maximum_of_all;
 }
+
+-- as many segments as pieces
+pub numbered_length : (pieces : List Units) (segments : List Segment) → AreNumbered pieces segments → length segments ≡ length pieces
+numbered_length pieces segments h = sym (length-map segments (λ (s : Segment). s.units)) ∙ ap (λ (l : List Units). length l) h.units

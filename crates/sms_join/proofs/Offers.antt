@@ -1,16 +1,16 @@
 -- What a call of a joiner comes to, by the sets and keys that it holds.
-use Rattle.std.proofs.Common.{◌≡◌, ℕ, suc, ◌<◌, ◌≤◌, Bool, true, false, eqb, List, [], ◌∷◌, ◌++◌, take, drop, length, get_or, Option, Some, None, Ok, Err, refl, sym, ap, ◌∙◌, subst, arith}
+use Rattle.std.proofs.Common.{◌≡◌, ℕ, zero, suc, ◌<◌, ◌≤◌, Bool, true, false, eqb, List, [], ◌∷◌, ◌++◌, take, drop, length, slice_get, Option, Some, None, Ok, Err, refl, sym, ap, ◌∙◌, subst, arith}
 use Rattle.std.proofs.Math.ListN.{set}
 use Rattle.std.proofs.lemmas.Bool.{eqb-false, ne_eqb}
 use Rattle.std.proofs.lemmas.List.Quantifiers.{position-Some}
-use Rattle.std.specs.List.{insert, remove, position}
+use Rattle.std.proofs.lemmas.Option.{get_or_from_slice_get}
+use Rattle.std.specs.List.{remove, position}
 use Rattle.std.specs.Str.{chars}
 use Rattle.std.specs.String.{string_bytes}
 use Rattle.sms_field.specs.AddressValue.{AddressValue}
 use Rattle.sms_tpdu.specs.declared.user_data.concat.Concat.{Concat}
 use Rattle.sms_join.specs.declared.key.Key.{Key}
 use Rattle.sms_join.specs.declared.units.Units.{Units}
-use Rattle.sms_join.specs.declared.offer.Offer.{Offer}
 use Rattle.sms_join.specs.declared.offer.Offer.TheVariants as offers
 use Rattle.sms_join.specs.declared.offer.OfferFault.TheVariants as faults
 use Rattle.sms_join.specs.Key.{same_key, maximum_of}
@@ -23,11 +23,12 @@ use Rattle.sms_join.specs.LastKeys.{LastKeysValue}
 use Rattle.sms_join.specs.JoinerValue.{JoinerValue}
 use Rattle.sms_join.specs.OpenSet.{SetValue, IsOpen, AreOpen, is_in, with_piece}
 use Rattle.sms_join.specs.Offering.{Says}
-use Rattle.sms_join.specs.SetOffering.{SetSays}
+use Rattle.sms_join.specs.Slots.{At, HasPlace}
+use Rattle.sms_join.specs.Finishing.{lacks_only}
 use Rattle.sms_join.specs.Reading.{text_of_segments}
 use Rattle.sms_join.proofs.SameKeys.{same_key_true}
 use Rattle.sms_join.proofs.OneSet.{with_piece_set, with_piece_length}
-use Rattle.sms_join.proofs.Places.{split_at, set_at, remove_set, remove_inserted, none_open}
+use Rattle.sms_join.proofs.Places.{split_at, set_at, none_open}
 use Rattle.sms_join.proofs.Outcomes.{joiner_of, Between, between, are_open_without, are_open_with, are_open_more, says_repeat, InPlace, there_repeats, keeps_more, finishes_set, finishes_alone, opens_set, too_many}
 
 pub same_refl : (j : Joiner) → IsSame j j
@@ -61,69 +62,82 @@ whole_memory a us e = subst (λ (b : Answer). Says b (Err faults.Memory)) (sym e
 -- the set of a key, found at a place
 pub record Found (ss : List SetValue) (k : Key) (i : ℕ) (s : SetValue) : Type 0 where
   pub within : i < length ss
-  pub is : s ≡ get_or ss i s
+  pub there : slice_get ss i ≡ Some s
   pub key : s.key ≡ k
 
-pub found : (ss : List SetValue) (k : Key) (i : ℕ) (s : SetValue) → position (λ (t : SetValue). same_key t.key k) ss ≡ Some i → s ≡ get_or ss i s → Found ss k i s
-found ss k i s e is =
-    let p = position-Some (λ (t : SetValue). same_key t.key k) ss i s e in
-    record { within = p.0; is = is; key = same_key_true s.key k (subst (λ (t : SetValue). same_key t.key k ≡ true) (sym is) p.1) }
+pub found : (ss : List SetValue) (k : Key) (i : ℕ) → position (λ (t : SetValue). same_key t.key k) ss ≡ Some i → (s : SetValue) × Found ss k i s
+found ss k i e =
+    let w = within ss i e in
+    let s = some_there ss i w in
+    (s.0, record { within = w; there = s.1; key = same_key_true s.0.key k (same s.0 s.1) })
+  where
+    none : SetValue
+    none = record { key = k; opened = 0; sequences = []; units = [] }
 
-module _ (open_max remembered : ℕ) (ss : List SetValue) (ks : List Key) (i : ℕ) (s t : SetValue) (p : Piece) (o : AreOpen ss) (f : Found ss p.key i s)
+    within : (ts : List SetValue) (j : ℕ) → position (λ (t : SetValue). same_key t.key k) ts ≡ Some j → j < length ts
+    within ts j e = (position-Some (λ (t : SetValue). same_key t.key k) ts j none e).0
+
+    some_there : (ts : List SetValue) (j : ℕ) → j < length ts → (s : SetValue) × (slice_get ts j ≡ Some s)
+    some_there [] j l = absurd (omega arith)
+    some_there (t ∷ ts) zero l = (t, refl)
+    some_there (t ∷ ts) (suc j) l = some_there ts j (omega arith)
+
+    same : (s : SetValue) → slice_get ss i ≡ Some s → same_key s.key k ≡ true
+    same s there =
+        subst (λ (t : SetValue). same_key t.key k ≡ true) (get_or_from_slice_get ss i s none there)
+        (position-Some (λ (t : SetValue). same_key t.key k) ss i none e).1
+
+pub has_place : (ss : List SetValue) (i : ℕ) (s : SetValue) (p : Piece) → Found ss p.key i s → InPlace p → HasPlace ss i p.sequence
+has_place ss i s p f place =
+    record { own = s; there = f.there; from_one = place.from_one; within = subst (λ (l : Key). p.sequence ≤ maximum_of l) (sym f.key) place.within }
+
+-- what is told of the set at a place
+pub told : (ss : List SetValue) (i : ℕ) (s : SetValue) (P : SetValue → Type 0) → slice_get ss i ≡ Some s → P s → At ss i P
+told ss i s P there h = λ t e. subst P (same s t (sym there ∙ e)) h
+  where
+    same : (x y : SetValue) → Some x ≡ Some y → x ≡ y
+    same x y e = cc
+
+module _ (open_max remembered : ℕ) (ss : List SetValue) (ks : List Key) (i : ℕ) (s : SetValue) (p : Piece) (o : AreOpen ss) (f : Found ss p.key i s)
     (place : InPlace p) (fresh : is_among ks p.key ≡ false) where
   split : ss ≡ take i ss ++ s ∷ drop (suc i) ss
-  split = split_at ss i s f.within ∙ ap (λ v. take i ss ++ v ∷ drop (suc i) ss) (sym f.is)
+  split =
+      split_at ss i s f.within
+      ∙ ap (λ v. take i ss ++ v ∷ drop (suc i) ss) (get_or_from_slice_get ss i s s f.there)
 
   b : Between (take i ss) s (drop (suc i) ss)
   b = between (take i ss) s (drop (suc i) ss) (subst AreOpen split o)
 
-  changed : set ss i t ≡ take i ss ++ t ∷ drop (suc i) ss
-  changed = set_at ss i t f.within
+  changed : set ss i (with_piece s p.sequence p.units) ≡ take i ss ++ with_piece s p.sequence p.units ∷ drop (suc i) ss
+  changed = set_at ss i (with_piece s p.sequence p.units) f.within
 
   from_split : (P : Joiner → Type 0) → P (joiner_of (take i ss ++ s ∷ drop (suc i) ss) ks) → P (joiner_of ss ks)
   from_split P h = subst (λ (l : List SetValue). P (joiner_of l ks)) (sym split) h
 
-  unchanged : t ≡ s → set ss i t ≡ ss
-  unchanged e = changed ∙ (ap (λ v. take i ss ++ v ∷ drop (suc i) ss) e ∙ sym split)
-
-  pub set_found_open : IsOpen s
-  set_found_open = b.open_set
-
-  pub set_is_same : t ≡ s → joiner_of (set ss i t) ks ≡ joiner_of ss ks
-  set_is_same e = ap (λ l. joiner_of l ks) (unchanged e)
-
-  pub stays_open : t ≡ s → AreOpen (set ss i t)
-  stays_open e = subst AreOpen (sym (unchanged e)) o
-
-  pub set_repeats : is_in p.sequence s.sequences ≡ true → t ≡ s
-      → (answer open_max (joiner_of ss ks) p ≡ Repeat) × IsSame (joiner_of (set ss i t) ks) (offered open_max remembered (joiner_of ss ks) p)
-  set_repeats h e =
+  pub set_repeats : is_in p.sequence s.sequences ≡ true
+      → (answer open_max (joiner_of ss ks) p ≡ Repeat) × IsSame (joiner_of ss ks) (offered open_max remembered (joiner_of ss ks) p)
+  set_repeats h =
       let r = says_repeat open_max remembered (joiner_of ss ks) p
-      (from_split (λ j. is_repeat j p ≡ true) (there_repeats (take i ss) s (drop (suc i) ss) ks b p (sym f.key) h)) in (
-        r.0,
-        subst (λ (j : Joiner). IsSame (joiner_of (set ss i t) ks) j) (sym r.1)
-            (subst (λ (j : Joiner). IsSame (joiner_of (set ss i t) ks) j) (set_is_same e) (same_refl (joiner_of (set ss i t) ks))),
-      )
+      (from_split (λ j. is_repeat j p ≡ true) (there_repeats (take i ss) s (drop (suc i) ss) ks b p (sym f.key) h)) in
+      (r.0, subst (λ (j : Joiner). IsSame (joiner_of ss ks) j) (sym r.1) (same_refl (joiner_of ss ks)))
 
-  pub set_keeps : is_in p.sequence s.sequences ≡ false → eqb (suc (length s.sequences)) (maximum_of s.key) ≡ false → t ≡ with_piece s p.sequence p.units
-      → AreOpen (set ss i t) × (answer open_max (joiner_of ss ks) p ≡ Kept)
-      × IsSame (joiner_of (set ss i t) ks) (offered open_max remembered (joiner_of ss ks) p)
-  set_keeps new part e = (
-    subst AreOpen (sym changed) (are_open_with (take i ss) s t (drop (suc i) ss) (ap (λ (v : SetValue). v.key) e) more (subst AreOpen split o)),
+  pub set_keeps : is_in p.sequence s.sequences ≡ false → eqb (suc (length s.sequences)) (maximum_of s.key) ≡ false
+      → AreOpen (set ss i (with_piece s p.sequence p.units)) × (answer open_max (joiner_of ss ks) p ≡ Kept)
+      × IsSame (joiner_of (set ss i (with_piece s p.sequence p.units)) ks) (offered open_max remembered (joiner_of ss ks) p)
+  set_keeps new part = (
+    subst AreOpen (sym changed) (are_open_with (take i ss) s (with_piece s p.sequence p.units) (drop (suc i) ss) refl more (subst AreOpen split o)),
     from_split (λ j. answer open_max j p ≡ Kept) k.0,
     subst (λ (l : List SetValue). IsSame (joiner_of l ks) (offered open_max remembered (joiner_of ss ks) p)) (sym changed)
-        (from_split (λ j. IsSame (joiner_of (take i ss ++ t ∷ drop (suc i) ss) ks) (offered open_max remembered j p))
-        (subst (λ (v : SetValue). IsSame (joiner_of (take i ss ++ v ∷ drop (suc i) ss) ks) (offered open_max remembered (joiner_of (take i ss ++ s ∷ drop (suc i) ss) ks) p)) (sym e) k.1)),
+        (from_split (λ j. IsSame (joiner_of (take i ss ++ with_piece s p.sequence p.units ∷ drop (suc i) ss) ks) (offered open_max remembered j p)) k.1),
   )
     where
       k : (answer open_max (joiner_of (take i ss ++ s ∷ drop (suc i) ss) ks) p ≡ Kept)
           × IsSame (joiner_of (take i ss ++ with_piece s p.sequence p.units ∷ drop (suc i) ss) ks) (offered open_max remembered (joiner_of (take i ss ++ s ∷ drop (suc i) ss) ks) p)
       k = keeps_more (take i ss) s (drop (suc i) ss) ks b p (sym f.key) open_max remembered place fresh new part
 
-      more : IsOpen t
+      more : IsOpen (with_piece s p.sequence p.units)
       more =
-          subst IsOpen (sym e)
-          (record {
+          record {
             is_set = with_piece_set s p.sequence p.units b.open_set.is_set place.from_one (subst (λ (l : Key). p.sequence ≤ maximum_of l) (sym f.key) place.within) new;
             some = let l = with_piece_length s p.sequence p.units in omega arith;
             part =
@@ -131,44 +145,26 @@ module _ (open_max remembered : ℕ) (ss : List SetValue) (ks : List Key) (i : �
                 let less = b.open_set.part in
                 let ne = eqb-false _ _ part in
                 below (length s.sequences) (maximum_of s.key) (length (with_piece s p.sequence p.units).sequences) l less ne;
-          })
+          }
         where
           below : (a m n : ℕ) → n ≡ suc a → a < m → (suc a ≡ m → ⊥) → n < m
           below a m n e l ne = omega arith
 
-  finished_so : is_in p.sequence s.sequences ≡ false → eqb (suc (length s.sequences)) (maximum_of s.key) ≡ true
+  pub set_goes : AreOpen (remove ss i)
+  set_goes = are_open_without (take i ss) s (drop (suc i) ss) (subst AreOpen split o)
+
+  pub set_finishes : is_in p.sequence s.sequences ≡ false → eqb (suc (length s.sequences)) (maximum_of s.key) ≡ true
       → (answer open_max (joiner_of ss ks) p ≡ Finished (with_piece s p.sequence p.units).units)
-      × (offered open_max remembered (joiner_of ss ks) p ≡ joiner_of (take i ss ++ drop (suc i) ss) (take remembered (s.key ∷ ks)))
-  finished_so new full =
-      from_split (λ j. (answer open_max j p ≡ Finished (with_piece s p.sequence p.units).units)
-      × (offered open_max remembered j p ≡ joiner_of (take i ss ++ drop (suc i) ss) (take remembered (s.key ∷ ks))))
-      (finishes_set (take i ss) s (drop (suc i) ss) ks b p (sym f.key) open_max remembered place fresh new full)
-
-  pub set_goes : AreOpen (remove (set ss i t) i)
-  set_goes = subst AreOpen (sym (remove_set ss i t)) (are_open_without (take i ss) s (drop (suc i) ss) (subst AreOpen split o))
-
-  pub set_finishes : is_in p.sequence s.sequences ≡ false → eqb (suc (length s.sequences)) (maximum_of s.key) ≡ true → t ≡ s
-      → (answer open_max (joiner_of ss ks) p ≡ Finished (with_piece s p.sequence p.units).units)
-      × IsSame (joiner_of (remove (set ss i t) i) (take remembered (t.key ∷ ks))) (offered open_max remembered (joiner_of ss ks) p)
-  set_finishes new full e =
-      let r = finished_so new full in (
-        r.0,
-        subst (λ (j : Joiner). IsSame (joiner_of (remove (set ss i t) i) (take remembered (t.key ∷ ks))) j) (sym r.1)
-            (subst (λ (j : Joiner). IsSame (joiner_of (remove (set ss i t) i) (take remembered (t.key ∷ ks))) j)
-            (ap (λ l. joiner_of l (take remembered (t.key ∷ ks))) (remove_set ss i t)
-            ∙ ap (λ (v : SetValue). joiner_of (take i ss ++ drop (suc i) ss) (take remembered (v.key ∷ ks))) e)
-            (same_refl (joiner_of (remove (set ss i t) i) (take remembered (t.key ∷ ks))))),
-      )
-
-  pub set_memory : is_in p.sequence s.sequences ≡ false → Says (answer open_max (joiner_of ss ks) p) (Err faults.Memory)
-  set_memory new = go (eqb (suc (length s.sequences)) (maximum_of s.key)) refl
+      × IsSame (joiner_of (remove ss i) (take remembered (s.key ∷ ks))) (offered open_max remembered (joiner_of ss ks) p)
+  set_finishes new full =
+      (r.0, subst (λ (j : Joiner). IsSame (joiner_of (remove ss i) (take remembered (s.key ∷ ks))) j) (sym r.1) (same_refl (joiner_of (remove ss i) (take remembered (s.key ∷ ks)))))
     where
-      go : (c : Bool) → eqb (suc (length s.sequences)) (maximum_of s.key) ≡ c → Says (answer open_max (joiner_of ss ks) p) (Err faults.Memory)
-      go true e = whole_memory (answer open_max (joiner_of ss ks) p) (with_piece s p.sequence p.units).units (finished_so new e).0
-      go false e =
-          kept_memory (answer open_max (joiner_of ss ks) p)
-          (from_split (λ j. answer open_max j p ≡ Kept)
-          (keeps_more (take i ss) s (drop (suc i) ss) ks b p (sym f.key) open_max remembered place fresh new e).0)
+      r : (answer open_max (joiner_of ss ks) p ≡ Finished (with_piece s p.sequence p.units).units)
+          × (offered open_max remembered (joiner_of ss ks) p ≡ joiner_of (remove ss i) (take remembered (s.key ∷ ks)))
+      r =
+          from_split (λ j. (answer open_max j p ≡ Finished (with_piece s p.sequence p.units).units)
+          × (offered open_max remembered j p ≡ joiner_of (remove ss i) (take remembered (s.key ∷ ks))))
+          (finishes_set (take i ss) s (drop (suc i) ss) ks b p (sym f.key) open_max remembered place fresh new full)
 
 -- a whole set that is read as its text
 pub says_text : (a : Answer) (us : List Units) (text : _) → a ≡ Finished us → chars (string_bytes text) ≡ text_of_segments us → Says a (Ok (offers.Finished text))
@@ -223,31 +219,79 @@ module _ (m : ℕ) (l : LastKeysValue) (ss : List SetValue) (o : AreOpen ss) (p 
       → answer v.open_max v.holds p ≡ TooManyOpen) view
       (λ fresh closed more full. too_many ss l.keys p place fresh (none_open ss p.key o closed) m o (ne_eqb _ _ more) full)
 
--- what a set says, by its answer
+-- what is known where a set of the key is open
+pub record Knows (l : LastKeysValue) (ss : List SetValue) (p : Piece) (i n : ℕ) : Type 0 where
+  pub are_open : AreOpen ss
+  pub place : InPlace p
+  pub own : SetValue
+  pub found : Found ss p.key i own
+  pub fresh : is_among l.keys p.key ≡ false
+  pub number : n ≡ p.sequence
 
-pub set_repeat : (s t : SetValue) (n m : ℕ) (u : Units) (o : Offer) → SetSays s n u t (Ok o) → o ≡ offers.Repeat → n ≡ m
-    → (is_in m s.sequences ≡ true) × (t ≡ s)
-set_repeat s t n m u o h e f =
-    subst (λ (i : ℕ). (is_in i s.sequences ≡ true) × (t ≡ s)) f (subst (λ (r : Offer). SetSays s n u t (Ok r)) e h)
+pub knows : (l : LastKeysValue) (ss : List SetValue) (p : Piece) (i n : ℕ) → AreOpen ss → InPlace p
+    → (r : Option ℕ) → r ≡ Some i → r ≡ position (λ (t : SetValue). same_key t.key p.key) ss
+    → (b : Bool) → b ≡ is_among l.keys p.key → b ≡ false → n ≡ p.sequence → Knows l ss p i n
+knows l ss p i n o place r some at _ is other number =
+    let f = found ss p.key i (sym at ∙ some) in
+    record { are_open = o; place = place; own = f.0; found = f.1; fresh = sym is ∙ other; number = number }
 
-pub set_kept : (s t : SetValue) (n m : ℕ) (u : Units) (o : Offer) → SetSays s n u t (Ok o) → o ≡ offers.Kept → n ≡ m
-    → (is_in m s.sequences ≡ false) × (eqb (suc (length s.sequences)) (maximum_of s.key) ≡ false) × (t ≡ with_piece s m u)
-set_kept s t n m u o h e f =
-    subst (λ (i : ℕ). (is_in i s.sequences ≡ false) × (eqb (suc (length s.sequences)) (maximum_of s.key) ≡ false) × (t ≡ with_piece s i u)) f
-    (subst (λ (r : Offer). SetSays s n u t (Ok r)) e h)
+module _ (m : ℕ) (l : LastKeysValue) (ss : List SetValue) (p : Piece) (i n : ℕ) (h : Knows l ss p i n) where
+  pub known_place : HasPlace ss i n
+  known_place = subst (λ k. HasPlace ss i k) (sym h.number) (has_place ss i h.own p h.found h.place)
 
-pub set_finished : (s t : SetValue) (n m : ℕ) (u : Units) (o : Offer) (text : _) → SetSays s n u t (Ok o) → o ≡ offers.Finished text → n ≡ m
-    → (is_in m s.sequences ≡ false) × (eqb (suc (length s.sequences)) (maximum_of s.key) ≡ true) × (t ≡ s)
-    × (chars (string_bytes text) ≡ text_of_segments (with_piece s m u).units)
-set_finished s t n m u o text h e f =
-    subst (λ (i : ℕ). (is_in i s.sequences ≡ false) × (eqb (suc (length s.sequences)) (maximum_of s.key) ≡ true) × (t ≡ s)
-    × (chars (string_bytes text) ≡ text_of_segments (with_piece s i u).units)) f
-    (subst (λ (r : Offer). SetSays s n u t (Ok r)) e h)
+  -- whether the piece has come
+  pub come : (b c : Bool) → At ss i (λ s. b ≡ is_in n s.sequences) → b ≡ c → is_in p.sequence h.own.sequences ≡ c
+  come b c told e = ap (λ k. is_in k h.own.sequences) (sym h.number) ∙ (sym (told h.own h.found.there) ∙ e)
 
-pub pushed_set : (xs ys zs : List SetValue) (s : SetValue) (k l : Key) (opened n m : ℕ) (u : Units) → zs ≡ ys ++ s ∷ [] → ys ≡ xs
-    → s ≡ record { key = k; opened = opened; sequences = n ∷ []; units = u ∷ [] } → k ≡ l → n ≡ m
-    → zs ≡ xs ++ record { key = l; opened = opened; sequences = m ∷ []; units = u ∷ [] } ∷ []
-pushed_set xs ys zs s k l opened n m u a b c d e =
-    a ∙ (ap (λ (v : List SetValue). v ++ s ∷ []) b ∙ ap (λ (v : SetValue). xs ++ v ∷ [])
-    (c ∙ (ap (λ (j : Key). record { key = j; opened = opened; sequences = n ∷ []; units = u ∷ [] }) d
-    ∙ ap (λ (i : ℕ). record { key = l; opened = opened; sequences = i ∷ []; units = u ∷ [] }) e)))
+  -- whether it is the last one
+  pub last : (b c : Bool) → At ss i (λ s. b ≡ eqb (suc (length s.sequences)) (maximum_of s.key)) → b ≡ c
+      → eqb (suc (length h.own.sequences)) (maximum_of h.own.key) ≡ c
+  last b c told e = sym (told h.own h.found.there) ∙ e
+
+  pub missing : (b : Bool) → At ss i (λ s. b ≡ is_in n s.sequences) → b ≡ false → At ss i (λ s. is_in n s.sequences ≡ false)
+  missing b told e = λ s there. sym (told s there) ∙ e
+
+  module _ (v : JoinerValue) (view : value_of m l ss ≡ v) (b : Bool) (has : At ss i (λ s. b ≡ is_in n s.sequences)) where
+    pub known_repeat : b ≡ true → (answer v.open_max v.holds p ≡ Repeat) × IsSame v.holds (offered v.open_max v.remembered v.holds p)
+    known_repeat e =
+        subst (λ (v : JoinerValue). (answer v.open_max v.holds p ≡ Repeat) × IsSame v.holds (offered v.open_max v.remembered v.holds p)) view
+        (set_repeats m l.limit ss l.keys i h.own p h.are_open h.found h.place h.fresh (come b true has e))
+
+    module _ (no : b ≡ false) (c : Bool) (one : At ss i (λ s. c ≡ eqb (suc (length s.sequences)) (maximum_of s.key))) where
+      pub known_kept : c ≡ false → (ts : List SetValue) → At ss i (λ s. ts ≡ set ss i (with_piece s n p.units))
+          → AreOpen ts × (answer v.open_max v.holds p ≡ Kept) × IsSame (joiner_of ts l.keys) (offered v.open_max v.remembered v.holds p)
+      known_kept e ts put =
+          subst (λ (v : JoinerValue). AreOpen ts × (answer v.open_max v.holds p ≡ Kept) × IsSame (joiner_of ts l.keys) (offered v.open_max v.remembered v.holds p)) view
+          (subst (λ (ts : List SetValue). AreOpen ts × (answer m (joiner_of ss l.keys) p ≡ Kept) × IsSame (joiner_of ts l.keys) (offered m l.limit (joiner_of ss l.keys) p))
+          (sym (put h.own h.found.there ∙ ap (λ k. set ss i (with_piece h.own k p.units)) h.number))
+          (set_keeps m l.limit ss l.keys i h.own p h.are_open h.found h.place h.fresh (come b false has no) (last c false one e)))
+
+      pub known_whole : c ≡ true → answer v.open_max v.holds p ≡ Finished (with_piece h.own p.sequence p.units).units
+      known_whole e =
+          subst (λ (v : JoinerValue). answer v.open_max v.holds p ≡ Finished (with_piece h.own p.sequence p.units).units) view
+          (set_finishes m l.limit ss l.keys i h.own p h.are_open h.found h.place h.fresh (come b false has no) (last c true one e)).0
+
+      pub known_finish : c ≡ true → (ts : List SetValue) → ts ≡ remove ss i → (k : Key) → At ss i (λ s. k ≡ s.key)
+          → AreOpen ts × IsSame (joiner_of ts (take l.limit (k ∷ l.keys))) (offered v.open_max v.remembered v.holds p)
+      known_finish e ts gone k key =
+          subst (λ (v : JoinerValue). AreOpen ts × IsSame (joiner_of ts (take l.limit (k ∷ l.keys))) (offered v.open_max v.remembered v.holds p)) view
+          (subst (λ (ts : List SetValue). AreOpen ts × IsSame (joiner_of ts (take l.limit (k ∷ l.keys))) (offered m l.limit (joiner_of ss l.keys) p)) (sym gone) (
+            set_goes m l.limit ss l.keys i h.own p h.are_open h.found h.place h.fresh,
+            subst (λ (j : Key). IsSame (joiner_of (remove ss i) (take l.limit (j ∷ l.keys))) (offered m l.limit (joiner_of ss l.keys) p)) (sym (key h.own h.found.there))
+                (set_finishes m l.limit ss l.keys i h.own p h.are_open h.found h.place h.fresh (come b false has no) (last c true one e)).1,
+          ))
+
+      pub known_text : c ≡ true → (text : List ℕ) → At ss i (λ s. (k : ℕ) → 0 < k → k ≤ maximum_of s.key → lacks_only s k ≡ true
+          → text ≡ text_of_segments (with_piece s k p.units).units)
+          → text ≡ text_of_segments (with_piece h.own p.sequence p.units).units
+      known_text e text read =
+          read h.own h.found.there p.sequence h.place.from_one (subst (λ (j : Key). p.sequence ≤ maximum_of j) (sym h.found.key) h.place.within)
+          (rw (come b false has no, last c true one e) refl)
+
+-- a set that was opened
+pub opened_set : (xs ys : List SetValue) (k l : Key) (opened n m : ℕ) (u : Units)
+    → ys ≡ xs ++ record { key = k; opened = opened; sequences = n ∷ []; units = u ∷ [] } ∷ [] → k ≡ l → n ≡ m
+    → ys ≡ xs ++ record { key = l; opened = opened; sequences = m ∷ []; units = u ∷ [] } ∷ []
+opened_set xs ys k l opened n m u a d e =
+    a ∙ (ap (λ (j : Key). xs ++ record { key = j; opened = opened; sequences = n ∷ []; units = u ∷ [] } ∷ []) d
+    ∙ ap (λ (i : ℕ). xs ++ record { key = l; opened = opened; sequences = i ∷ []; units = u ∷ [] } ∷ []) e)

@@ -48,3 +48,9 @@ cut_exists width text is = go (cases_lt (room_alone (alphabet_of text)) (length 
           },
         )
     go (inr fits) = (units_of_text text ∷ [], record { alone = λ _. refl; parted = λ more. absurd (omega (arith, more, fits)) })
+
+-- as many pieces as a cut has
+pub as_many_pieces : (width : Width) (text : List ℕ) (pieces : List Units) (n : ℕ) → IsText text → IsCut width text pieces
+    → (others : List Units) × IsCut width text others × (n ≡ length others) → length pieces ≡ n
+as_many_pieces width text pieces n is cut counted =
+    ap (λ (l : List Units). length l) (same_cut width text counted.0 pieces is counted.1 cut) ∙ sym counted.2

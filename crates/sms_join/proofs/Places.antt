@@ -3,7 +3,7 @@ use Rattle.std.proofs.Common.{◌≡◌, ℕ, zero, suc, ◌+◌, ◌-◌, ◌<�
 use Rattle.std.proofs.Math.ListN.{set}
 use Rattle.std.proofs.lemmas.Bool.{ltb-false, cases_lt}
 use Rattle.std.proofs.lemmas.List.{take_all, take_at, take-append-drop, length-reverse, reverse-append}
-use Rattle.std.specs.List.{insert, remove, position, position_or_len, prefix_len, list_any}
+use Rattle.std.specs.List.{position, position_or_len, prefix_len, list_any}
 use Rattle.circular_buffer.specs.Buffer.{Buffer, buffer, keep_last}
 use Rattle.sms_join.specs.declared.key.Key.{Key}
 use Rattle.sms_join.specs.Key.{same_key}
@@ -22,18 +22,6 @@ pub set_at : {X : Type 0} (xs : List X) (i : ℕ) (v : X) → i < length xs → 
 set_at [] i v h = absurd (omega arith)
 set_at (x ∷ xs) zero v h = refl
 set_at (x ∷ xs) (suc i) v h = ap (λ l. x ∷ l) (set_at xs i v (omega arith))
-
-pub remove_inserted : {X : Type 0} (xs : List X) (i : ℕ) (x : X) → i ≤ length xs → remove (insert xs i x) i ≡ xs
-remove_inserted [] zero x h = refl
-remove_inserted [] (suc i) x h = absurd (omega arith)
-remove_inserted (y ∷ ys) zero x h = refl
-remove_inserted (y ∷ ys) (suc i) x h = ap (λ l. y ∷ l) (remove_inserted ys i x (omega arith))
-
-pub remove_set : {X : Type 0} (xs : List X) (i : ℕ) (v : X) → remove (set xs i v) i ≡ remove xs i
-remove_set [] zero v = refl
-remove_set [] (suc i) v = refl
-remove_set (x ∷ xs) zero v = refl
-remove_set (x ∷ xs) (suc i) v = ap (λ l. x ∷ l) (remove_set xs i v)
 
 -- no set of the key is there
 pub none_found : (ss : List SetValue) (k : Key) → position (λ (s : SetValue). same_key s.key k) ss ≡ None → has_set ss k ≡ false

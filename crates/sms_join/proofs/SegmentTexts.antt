@@ -1,10 +1,10 @@
 -- Which of the three ways segments are read in.
-use Rattle.std.proofs.Common.{◌≡◌, ℕ, zero, suc, ◌+◌, ◌<◌, true, false, List, [], ◌∷◌, ◌++◌, length, drop, get_or, refl, sym, ap, ◌∙◌, append_assoc}
+use Rattle.std.proofs.Common.{◌≡◌, ℕ, ◌+◌, ◌<◌, true, false, List, ◌++◌, length, drop, get_or, refl, sym, ap, ◌∙◌, append_assoc}
 use Rattle.std.proofs.lemmas.List.{at_drop_more}
 use Rattle.std.proofs.lemmas.Str.{chars-append}
 use Rattle.std.specs.Borrow.{Bor}
 use Rattle.std.specs.Str.{IsUtf8, chars}
-use Rattle.std.specs.List.{flat_map, list_all, insert}
+use Rattle.std.specs.List.{flat_map, list_all}
 use Rattle.std.specs.Char.Utf16.{utf16_lossy_chars}
 use Rattle.sms_text.specs.TextOfSeptets.{text_of_septets}
 use Rattle.sms_join.specs.declared.units.Units.{Units}
@@ -30,9 +30,3 @@ one_text_more segments i u old new own lt is utf8 grown text so_far =
     let rest : List ℕ = flat_map text_of_units (lent (drop (i + 1) segments)) in
     let front : flat_map text_of_units (lent (drop i segments)) ≡ text_of_units u.now ++ rest = at_drop_more (λ l. flat_map text_of_units (lent l)) segments i u lt ∙ ap (λ (x : Bor Units). text_of_units x.now ++ rest) (sym is) in
     ap (λ l. l ++ rest) (ap chars grown ∙ chars-append old own utf8 ∙ ap (λ l. chars old ++ l) text) ∙ append_assoc (chars old) (text_of_units u.now) rest ∙ ap (λ l. chars old ++ l) (sym front) ∙ so_far
-
-pub lent_insert : (xs : List (Bor Units)) (i : ℕ) (u : Bor Units) → lent (insert xs i u) ≡ insert (lent xs) i u.now
-lent_insert [] zero u = refl
-lent_insert [] (suc i) u = refl
-lent_insert (x ∷ xs) zero u = refl
-lent_insert (x ∷ xs) (suc i) u = ap (λ (l : List Units). x.now ∷ l) (lent_insert xs i u)

@@ -1,10 +1,9 @@
 -- The segments of a text can be sent: there is room for the units of each, and their user data fit.
-use Rattle.std.proofs.Common.{◌≡◌, ℕ, zero, suc, ◌+◌, ◌*◌, ◌<◌, ◌≤◌, ◌≢◌, ◌⊎◌, inl, inr, Bool, true, false, cond, List, [], ◌∷◌, length, map, Some, None, Result, Ok, Err, sym, ap, subst, ◌∙◌, arith}
-use Rattle.std.specs.Prelude.{◌==◌, All, IfOk}
+use Rattle.std.proofs.Common.{◌≡◌, ℕ, zero, suc, ◌+◌, ◌*◌, ◌<◌, ◌≤◌, ◌≢◌, ◌⊎◌, inl, inr, Bool, true, false, cond, List, [], ◌∷◌, length, map, Some, None, sym, ap, subst, ◌∙◌, arith}
+use Rattle.std.specs.Prelude.{◌==◌, All}
 use Rattle.std.proofs.lemmas.Bool.{cases_lt}
 use Rattle.std.proofs.lemmas.Bool.Decides.{eqb_tells}
 use Rattle.std.proofs.lemmas.List.Elements.{All-from_recursion}
-use Rattle.std.specs.Global.{Vec}
 use Rattle.std.specs.List.{flat_map, AllByRecursion, range_with_len}
 use Rattle.sms_text.specs.Utf16.{octets_high_first}
 use Rattle.sms_tpdu.specs.declared.user_data.concat.Width.{Width}
@@ -77,9 +76,8 @@ numbered_sendable : (width : Width) (text : List ℕ) (pieces : List Units) (seg
 numbered_sendable width text pieces segments cut numbered =
     all_sendable width (length pieces) 1 (length pieces) segments (omega arith) (omega arith) (subst (λ l. AllByRecursion (Bounded width (length pieces)) l) (sym numbered.units) (pieces_bounded width text pieces cut)) numbered.sequences numbered.maximum
 
-pub segments_sendable : {E : Type 0} (width : Width) (text : List ℕ) (pieces : List Units) (r : Result (Vec Segment) E) → IsCut width text pieces → IfOk r (λ s. AreNumbered pieces s.items) → IfOk r (λ s. All (IsSendable width) s.items)
-segments_sendable width text pieces (Ok s) cut h = All-from_recursion (IsSendable width) s.items (numbered_sendable width text pieces s.items cut h)
-segments_sendable width text pieces (Err e) cut h = tt
+pub segments_sendable : (width : Width) (text : List ℕ) (pieces : List Units) (segments : List Segment) → IsCut width text pieces → AreNumbered pieces segments → All (IsSendable width) segments
+segments_sendable width text pieces segments cut h = All-from_recursion (IsSendable width) segments (numbered_sendable width text pieces segments cut h)
 
 -- ---- the user data
 

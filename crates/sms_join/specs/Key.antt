@@ -1,7 +1,6 @@
 -- When two pieces are of one set (3GPP TS 23.040, 9.2.3.24.1 and 9.2.3.24.8).
 use Rattle.std.specs.Prelude.{ℕ, Bool, true, false, ◌&&◌, ◌==◌}
 use Rattle.std.specs.Str.{bytes_eq}
-use Rattle.sms_field.specs.AddressValue.{AddressValue}
 use Rattle.sms_field.specs.SameAddress.{same_address}
 use Rattle.sms_tpdu.specs.declared.user_data.concat.Width.{Width}
 use Rattle.sms_tpdu.specs.declared.user_data.concat.Width.TheVariants.{Eight, Sixteen}

@@ -20,6 +20,6 @@ pub mod Segments
 pub mod SegmentUser
 pub mod LastKeys
 pub mod Offering
-pub mod SetOffering
+pub mod Slots
 pub mod JoinerValue
 pub mod Finishing

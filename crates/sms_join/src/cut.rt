@@ -10,17 +10,20 @@ ghost use Rattle.sms_join.specs.Segments.{AreNumbered, AreSegments};
 ghost use Rattle.sms_join.specs.SegmentUser.{IsSendable};
 
 use crate::segment::Segment;
-use crate::units::{Units, WideUnits};
+use crate::units::{Ucs2Units, Units};
 use sms_text::{gsm_of, ucs2_of};
 use sms_tpdu::{Septets, Width};
 use std::alloc::{AllocError, AllocFailed, Global};
+use thiserror::Error;
 
 /// Why a text is not cut.
-#[derive(Clone, Copy, Debug, PartialEq, Eq)]
+#[derive(Clone, Copy, Debug, PartialEq, Eq, Error)]
 pub enum SplitFault {
     /// It takes more than 255 segments.
+    #[error("too many segments")]
     TooManySegments,
     /// Memory ran out.
+    #[error("out of memory")]
     Memory,
 }
 
@@ -53,19 +56,46 @@ fn units_of(alloc: Global, text: &str) -> Result<Units, AllocError>
         Some(septets) => Ok(Units::Gsm(Septets::new(septets))),
         None => {
             let units = ucs2_of(alloc, text)?;
-            Ok(Units::Ucs2(WideUnits::new(units)))
+            Ok(Units::Ucs2(Ucs2Units::new(units)))
         }
     }
 }
 
-/// The pieces of a text's units by a room.
-fn parts(alloc: Global, units: &Units, room: usize) -> Result<Vec<Units>, AllocError>
+/// How many pieces a text's units have by a room.
+fn count_parts(units: &Units, room: usize) -> usize
+    requires { 2 ≤ room }
+    ensures { (text : List ℕ) → IsText text → units.now ≡ units_of_text text
+        → (pieces : List TheUnits) × IsParted room text pieces × (result ≡ length pieces) }
+{
+    let count = units.len();
+    let mut parts = 0;
+    let mut start = 0;
+    while start < count {
+        start = units.piece_end(start, room);
+        parts += 1;
+    }
+    parts
+}
+
+/// In how many pieces a text's units are sent.
+fn count_pieces(units: &Units, width: Width) -> usize
+    ensures { (text : List ℕ) → IsText text → units.now ≡ units_of_text text
+        → (pieces : List TheUnits) × IsCut width text pieces × (result ≡ length pieces) }
+{
+    if units.len() <= units.room_alone() {
+        return 1;
+    }
+    count_parts(units, units.room_beside(width))
+}
+
+/// The pieces of a text's units by a room. They are so many, for which room is made at once.
+fn parts(alloc: Global, units: &Units, room: usize, many: u8) -> Result<Vec<Units>, AllocError>
     requires { 2 ≤ room }
     ensures { (text : List ℕ) → IsText text → units.now ≡ units_of_text text
         → IfOk result (λ pieces. IsParted room text pieces.items) }
 {
     let count = units.len();
-    let mut pieces = Vec::with_capacity(alloc, (count / (room - 1)).saturating_add(1))?;
+    let mut pieces = Vec::with_capacity(alloc, usize::from(many))?;
     let mut start = 0;
     while start < count {
         let end = units.piece_end(start, room);
@@ -75,8 +105,8 @@ fn parts(alloc: Global, units: &Units, room: usize) -> Result<Vec<Units>, AllocE
     Ok(pieces)
 }
 
-/// The pieces in which a text's units are sent.
-fn pieces(alloc: Global, units: Units, width: Width) -> Result<Vec<Units>, AllocError>
+/// The pieces in which a text's units are sent. They are so many.
+fn pieces(alloc: Global, units: Units, width: Width, many: u8) -> Result<Vec<Units>, AllocError>
     ensures { (text : List ℕ) → IsText text → units ≡ units_of_text text
         → IfOk result (λ pieces. IsCut width text pieces.items) }
 {
@@ -84,17 +114,14 @@ fn pieces(alloc: Global, units: Units, width: Width) -> Result<Vec<Units>, Alloc
         return Ok(vec![in alloc; units]?);
     }
     let room = units.room_beside(width);
-    parts(alloc, &units, room)
+    parts(alloc, &units, room, many)
 }
 
-/// The segments of these pieces.
-fn numbered(alloc: Global, pieces: Vec<Units>) -> Result<Vec<Segment>, SplitFault>
-    ensures segments { IfOk result (λ segments. AreNumbered pieces.items segments.items) }
-    ensures too_many { (result ≡ Err TooManySegments) ↔ (255 < length pieces.items) }
+/// The segments of these pieces, which are so many.
+fn numbered(alloc: Global, pieces: Vec<Units>, maximum: u8) -> Result<Vec<Segment>, AllocError>
+    requires { length pieces.items ≡ maximum }
+    ensures { IfOk result (λ segments. AreNumbered pieces.items segments.items) }
 {
-    let Ok(maximum) = u8::try_from(pieces.len()) else {
-        return Err(SplitFault::TooManySegments);
-    };
     let mut segments = Vec::with_capacity(alloc, usize::from(maximum))?;
     for units in pieces {
         let sequence = segments.len() as u8 + 1;
@@ -118,9 +145,13 @@ pub fn split(alloc: Global, text: &str, width: Width) -> Result<Vec<Segment>, Sp
     ensures few { IfOk result (λ segments. length segments.items ≤ 255) }
     ensures sendable { IfOk result (λ segments. All (IsSendable width) segments.items) }
     ensures too_many { result ≡ Err TooManySegments
-        → (pieces : List TheUnits) × IsCut width (chars text.now) pieces × (255 < length pieces) }
+        → (pieces : List TheUnits) × IsCut width (chars text.now) pieces
+        × (255 < length pieces) }
 {
     let units = units_of(alloc, text)?;
-    let pieces = pieces(alloc, units, width)?;
-    numbered(alloc, pieces)
+    let Ok(maximum) = u8::try_from(count_pieces(&units, width)) else {
+        return Err(SplitFault::TooManySegments);
+    };
+    let pieces = pieces(alloc, units, width, maximum)?;
+    Ok(numbered(alloc, pieces, maximum)?)
 }

@@ -1,10 +1,9 @@
 //! A joiner of segments.
 
-ghost use Rattle.std.specs.Prelude.{◌≡◌, ℕ, ◌<◌, false, position, IfOk, OnOk, OnErr};
+ghost use Rattle.std.specs.Prelude.{◌≡◌, ℕ, ◌<◌, false, IfOk, OnOk, OnErr};
 ghost use Rattle.sms_join.specs.declared.units.Units.{Units as Pieces};
 ghost use Rattle.sms_join.specs.Aging.{aged};
 ghost use Rattle.sms_join.specs.Finishing.{would_finish};
-ghost use Rattle.sms_join.specs.Key.{same_key};
 ghost use Rattle.sms_join.specs.Piece.{piece_of, key_of, sequence_of, size_of};
 ghost use Rattle.sms_tpdu.specs.UserData.ConcatenationFound.{IsPlace};
 ghost use Rattle.sms_join.specs.Sets.{is_open};
@@ -16,8 +15,8 @@ ghost use Rattle.sms_join.specs.Offering.{Says};
 use crate::key::Key;
 use crate::last_keys::LastKeys;
 use crate::offer::{Offer, OfferFault};
+use crate::open_sets::OpenSets;
 use crate::reading::read_units;
-use crate::set::OpenSet;
 use crate::units::Units;
 use sms_field::{Address, Stamp};
 use sms_tpdu::Concat;
@@ -32,7 +31,7 @@ use std::marker::Model;
 pub struct Joiner {
     alloc: Global,
     open_max: usize,
-    sets: Vec<OpenSet>,
+    sets: OpenSets,
     finished: LastKeys,
 }
 
@@ -45,19 +44,10 @@ impl Model for Joiner {
     ghost view = { λ j. record {
       open_max = j.open_max;
       remembered = j.finished.limit;
-      holds = record { kept = all_pieces j.sets.items; finished = j.finished.keys };
+      holds = record { kept = all_pieces j.sets; finished = j.finished.keys };
     } };
 
-    ghost invariant = { λ j. AreOpen j.sets.items };
-}
-
-/// Which of the sets such a message or segment is of.
-fn find(sets: &[OpenSet], origin: &Address, stamp: Stamp, concat: Option<Concat>) -> Option<usize>
-    ensures { result
-        ≡ position (λ set. same_key set.key (key_of origin.now stamp concat)) sets.now }
-{
-    sets.iter()
-        .position(|set| set.key().is_of(origin, stamp, concat))
+    ghost invariant = { λ j. AreOpen j.sets };
 }
 
 /// The place of a piece in its set.
@@ -92,7 +82,7 @@ impl Joiner {
         Ok(Joiner {
             alloc,
             open_max,
-            sets: Vec::new(alloc),
+            sets: OpenSets::new(alloc),
             finished: LastKeys::new(alloc, remembered)?,
         })
     }
@@ -122,35 +112,37 @@ impl Joiner {
         if self.finished.contains(origin, stamp, concat) {
             return Ok(Offer::Repeat);
         }
-        let Some(index) = find(&self.sets, origin, stamp, concat) else {
+        let Some(index) = self.sets.find(origin, stamp, concat) else {
             return self.begin(now, origin, stamp, concat, units);
         };
-        let set = &mut self.sets[index];
-        match set.offer(self.alloc, sequence_of(concat), units)? {
-            Offer::Repeat => Ok(Offer::Repeat),
-            Offer::Kept => Ok(Offer::Kept),
-            Offer::Finished(text) => {
-                let set = self.sets.remove(index);
-                self.finished.push(set.into_key());
-                Ok(Offer::Finished(text))
-            }
+        let sequence = sequence_of(concat);
+        if self.sets.has(index, sequence) {
+            return Ok(Offer::Repeat);
         }
+        if !self.sets.lacks_one(index) {
+            self.sets.put(index, sequence, units);
+            return Ok(Offer::Kept);
+        }
+        let text = self.sets.text_with(self.alloc, index, &units)?;
+        let key = self.sets.remove(index);
+        self.finished.push(key);
+        Ok(Offer::Finished(text))
     }
 
     /// Whether such a message or segment would finish its set. It takes no memory.
     pub fn would_finish(&self, origin: &Address, stamp: Stamp, concat: Option<Concat>) -> bool
         requires { IsPlace concat }
         ensures { (now : ℕ) (units : Pieces)
-            → result ≡ would_finish self.now.holds (piece_of now origin.now stamp concat units) }
+            → result
+            ≡ would_finish self.now.holds (piece_of now origin.now stamp concat units) }
     {
         if self.finished.contains(origin, stamp, concat) {
             return false;
         }
-        let Some(index) = find(&self.sets, origin, stamp, concat) else {
+        let Some(index) = self.sets.find(origin, stamp, concat) else {
             return size_of(concat) == 1;
         };
-        let set = &self.sets[index];
-        set.lacks_only(sequence_of(concat))
+        !self.sets.has(index, sequence_of(concat)) && self.sets.lacks_one(index)
     }
 
     /// Drops the sets whose first piece came 604,800 seconds before, or earlier. It takes no memory.
@@ -158,7 +150,7 @@ impl Joiner {
         ensures holds { IsSame self.new.holds (aged now self.old.holds) }
         ensures limits { SameLimits self.new self.old }
     {
-        self.sets.retain(|set| !set.is_old(now));
+        self.sets.age(now);
     }
 
     /// Takes the first piece of a set.
@@ -171,7 +163,8 @@ impl Joiner {
         units: Units,
     ) -> Result<Offer, OfferFault>
         requires place { IsPlace concat }
-        requires fresh { is_among self.old.holds.finished (key_of origin.now stamp concat) ≡ false }
+        requires fresh { is_among self.old.holds.finished (key_of origin.now stamp concat)
+            ≡ false }
         requires closed { is_open self.old.holds.kept (key_of origin.now stamp concat) ≡ false }
         ensures says { let piece = piece_of now origin.now stamp concat units in
             Says (answer self.old.open_max self.old.holds piece) result }
@@ -187,13 +180,12 @@ impl Joiner {
             self.finished.push(key);
             return Ok(Offer::Finished(text));
         }
-        if self.sets.len() >= self.open_max {
+        if self.sets.count() >= self.open_max {
             return Err(OfferFault::TooManyOpen);
         }
-        self.sets.reserve(1)?;
         let key = Key::of(self.alloc, origin, stamp, concat)?;
-        let set = OpenSet::new(self.alloc, key, now, sequence_of(concat), units)?;
-        self.sets.push_reserved(set);
+        self.sets
+            .open(self.alloc, key, now, sequence_of(concat), units)?;
         Ok(Offer::Kept)
     }
 }

@@ -10,7 +10,7 @@ use sms_tpdu::{Concat, Width};
 use std::alloc::{AllocError, Global};
 
 /// What a set of segments is known by.
-#[derive(Drop)]
+#[derive(Debug, PartialEq, Eq, Hash, Drop)]
 pub enum Key {
     /// A message in one piece: whom it is from, and its time stamp.
     Single {

@@ -7,9 +7,10 @@ mod key;
 mod last_keys;
 pub mod laws;
 mod offer;
+mod open_sets;
 mod reading;
 mod segment;
-mod set;
+mod slot;
 mod units;
 
 pub use cut::{SplitFault, split, texts_have_one_cut};
@@ -18,7 +19,7 @@ pub use key::Key;
 pub use offer::{Offer, OfferFault};
 pub use reading::{cut_is_read_as_text, read_units};
 pub use segment::{Segment, segment_user};
-pub use units::{Units, WideUnits};
+pub use units::{Ucs2Units, Units};
 
 #[cfg(test)]
 mod tests;

@@ -4,6 +4,7 @@ ghost use Rattle.std.specs.Prelude.{◌≡◌};
 ghost use Rattle.sms_join.specs.declared.offer.OfferFault.TheVariants.{Memory};
 
 use std::alloc::AllocError;
+use thiserror::Error;
 
 /// The answer to a piece.
 #[derive(Drop)]
@@ -17,11 +18,13 @@ pub enum Offer {
 }
 
 /// Why a piece is not taken. The joiner is then as it was.
-#[derive(Clone, Copy, Debug, PartialEq, Eq)]
+#[derive(Clone, Copy, Debug, PartialEq, Eq, Error)]
 pub enum OfferFault {
     /// The piece is of a new set, and as many sets are open as may be.
+    #[error("too many open")]
     TooManyOpen,
     /// Memory ran out.
+    #[error("out of memory")]
     Memory,
 }
 

@@ -6,6 +6,7 @@ ghost use Rattle.std.specs.Str.{chars};
 ghost use Rattle.std.specs.String.{string_bytes};
 ghost use Rattle.sms_text.specs.Bits.{AreSeptets};
 ghost use Rattle.sms_join.specs.UnitsOfText.{numbers};
+ghost use Rattle.sms_join.specs.Slots.{filled_with};
 ghost use Rattle.sms_join.specs.Reading.{CutIsReadAsText, is_gsm, is_ucs2, lent, text_of_units, text_of_segments};
 
 use crate::units::Units;
@@ -17,6 +18,9 @@ const SEPTETS: usize = 160;
 
 /// As many 16-bit units as a message has room for.
 const WIDE_UNITS: usize = 70;
+
+/// As many bytes as the text of a message takes at most: two for each septet, or three for each 16-bit unit.
+const BYTES: usize = 320;
 
 /// The pieces of a text, of either width and in order, are read as the text.
 pub fn cut_is_read_as_text()
@@ -44,7 +48,8 @@ fn joined_septets(alloc: Global, segments: &[&Units]) -> Result<Option<Vec<u8>>,
 fn joined_wide_units(alloc: Global, segments: &[&Units]) -> Result<Option<Vec<u16>>, AllocError>
     ensures { IfOk result (λ found. MatchOption found
         (list_all is_ucs2 (lent segments.now) ≡ false)
-        (λ units. (list_all is_ucs2 (lent segments.now) ≡ true) × (units.items ≡ flat_map numbers (lent segments.now)))) }
+        (λ units. (list_all is_ucs2 (lent segments.now) ≡ true)
+        × (units.items ≡ flat_map numbers (lent segments.now)))) }
 {
     let mut joined = Vec::with_capacity(alloc, segments.len().saturating_mul(WIDE_UNITS))?;
     for units in segments {
@@ -71,7 +76,7 @@ fn joined_texts(alloc: Global, segments: &[&Units]) -> Result<String, AllocError
     ensures { IfOk result (λ text.
         chars (string_bytes text) ≡ flat_map text_of_units (lent segments.now)) }
 {
-    let mut joined = String::new(alloc);
+    let mut joined = String::with_capacity(alloc, segments.len().saturating_mul(BYTES))?;
     for units in segments {
         let text = text_of(alloc, *units)?;
         joined.push_str(&text)?;
@@ -79,13 +84,28 @@ fn joined_texts(alloc: Global, segments: &[&Units]) -> Result<String, AllocError
     Ok(joined)
 }
 
-/// The segments, lent, with room for one more.
-pub(crate) fn lend(alloc: Global, segments: &[Units]) -> Result<Vec<&Units>, AllocError>
+/// The segments, lent.
+fn lend(alloc: Global, segments: &[Units]) -> Result<Vec<&Units>, AllocError>
     ensures { IfOk result (λ pieces. lent pieces.items ≡ segments.now) }
 {
-    let mut pieces = Vec::with_capacity(alloc, segments.len() + 1)?;
+    let mut pieces = Vec::with_capacity(alloc, segments.len())?;
     for units in segments {
         pieces.push(units)?;
+    }
+    Ok(pieces)
+}
+
+/// The units at each place, lent, and these at a place that is empty.
+pub(crate) fn lend_with<'a>(
+    alloc: Global,
+    places: &'a [Option<Units>],
+    units: &'a Units,
+) -> Result<Vec<&'a Units>, AllocError>
+    ensures { IfOk result (λ pieces. lent pieces.items ≡ filled_with units.now places.now) }
+{
+    let mut pieces = Vec::with_capacity(alloc, places.len())?;
+    for place in places {
+        pieces.push(place.as_ref().unwrap_or(units))?;
     }
     Ok(pieces)
 }

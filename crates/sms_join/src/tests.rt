@@ -1,6 +1,6 @@
 //! Texts on both sides of each cut, and what their segments are sent and read as.
 
-use crate::{SplitFault, Units, WideUnits, read_units, segment_user, split};
+use crate::{SplitFault, Ucs2Units, Units, read_units, segment_user, split};
 use sms_tpdu::{Body, Septets, Width};
 use std::alloc::{AllocError, Global};
 use std::test::Fail;
@@ -196,8 +196,8 @@ fn reads_segments(rt: HostRuntime) -> Result<(), Fail> {
     let letter = Units::Gsm(Septets::new(vec![in alloc; 97]?));
     let escape = Units::Gsm(Septets::new(vec![in alloc; 27]?));
     let behind = Units::Gsm(Septets::new(vec![in alloc; 101]?));
-    let high = Units::Ucs2(WideUnits::new(vec![in alloc; 0xD83D]?));
-    let low = Units::Ucs2(WideUnits::new(vec![in alloc; 0xDE00]?));
+    let high = Units::Ucs2(Ucs2Units::new(vec![in alloc; 0xD83D]?));
+    let low = Units::Ucs2(Ucs2Units::new(vec![in alloc; 0xDE00]?));
     let mut segments = vec![in alloc; letter, escape, behind]?;
     assert_eq!(rt; read_units(alloc, &segments)?.as_str(), "a€");
     segments.push(high)?;

@@ -13,11 +13,11 @@ const ESCAPE: u8 = 27;
 
 /// 16-bit units of UCS-2 (3GPP TS 23.038, 6.2.3).
 #[derive(Drop)]
-pub struct WideUnits {
+pub struct Ucs2Units {
     values: Vec<u16>,
 }
 
-impl Model for WideUnits {
+impl Model for Ucs2Units {
     ghost use Rattle.std.specs.Prelude.{ℕ, List};
 
     ghost Value = { List ℕ };
@@ -25,12 +25,12 @@ impl Model for WideUnits {
     ghost view = { λ u. u.values.items };
 }
 
-impl WideUnits {
+impl Ucs2Units {
     /// Those units.
-    pub fn new(values: Vec<u16>) -> WideUnits
+    pub fn new(values: Vec<u16>) -> Ucs2Units
         ensures { result ≡ values.items }
     {
-        WideUnits { values }
+        Ucs2Units { values }
     }
 
     /// The units.
@@ -45,7 +45,7 @@ impl WideUnits {
 #[derive(Drop)]
 pub enum Units {
     Gsm(Septets),
-    Ucs2(WideUnits),
+    Ucs2(Ucs2Units),
 }
 
 impl Units {
@@ -139,7 +139,7 @@ impl Units {
             }
             Units::Ucs2(units) => {
                 let part = Vec::from_slice(alloc, &units.as_slice()[start..end])?;
-                Ok(Units::Ucs2(WideUnits::new(part)))
+                Ok(Units::Ucs2(Ucs2Units::new(part)))
             }
         }
     }

@@ -1,5 +1,5 @@
 -- What the centre holds after an acceptance.
-use Rattle.std.proofs.Common.{◌≡◌, ◌≢◌, ℕ, zero, suc, ◌+◌, ◌<◌, max, Bool, true, false, cond, nat_lt, List, [], ◌∷◌, ◌++◌, Some, refl, sym, ap, ◌∙◌, subst, arith}
+use Rattle.std.proofs.Common.{◌≡◌, ◌≢◌, ℕ, suc, ◌+◌, ◌<◌, max, Bool, true, false, cond, nat_lt, List, [], ◌∷◌, ◌++◌, Some, refl, sym, ap, ◌∙◌, subst, arith}
 use Rattle.std.specs.Prelude.{◌==◌, ◌&&◌, ◌||◌}
 use Rattle.std.specs.List.{slice_get}
 use Rattle.std.proofs.Math.ListN.{set}
@@ -10,11 +10,10 @@ use Rattle.sms_party.specs.Centre.State.{Acceptance, CentreState}
 use Rattle.sms_party.specs.Centre.Held.{unended, next_stamp}
 use Rattle.sms_party.specs.Centre.Submissions.{after_acceptance, accept}
 use Rattle.sms_party.specs.Centre.Value.{CentreValue, LineValue, WaitingValue, addresses, HeldValue}
-use Rattle.sms_party.specs.Centre.Lines.{accepting_line}
+use Rattle.sms_party.specs.Centre.Lines.{accepting_line, ChangesLine}
 use Rattle.sms_party.specs.Centre.Kept.{free_at, key_of, is_kept, HoldsAlso}
-use Rattle.sms_party.specs.Centre.Standing.{ends_in, HeldStands, waiting_of, waiting_in, LineStands, StandsFor}
-use Rattle.sms_party.proofs.Lines.{set_stands, addresses_set, waiting_end}
-use Rattle.sms_party.proofs.Taking.{free_is}
+use Rattle.sms_party.specs.Centre.Standing.{HeldStands, waiting_of, waiting_in, LineStands, StandsFor}
+use Rattle.sms_party.proofs.Lines.{set_stands, addresses_set, waiting_end, free_is}
 use Rattle.sms_party.proofs.Keys.{key_parts}
 
 unended_step : (x : Acceptance) (queue : List Acceptance) (a : Acceptance) (now : ℕ) (b : Bool) → unended (queue ++ a ∷ []) now ≡ unended queue now ++ a ∷ []
@@ -25,12 +24,6 @@ unended_step x queue a now false ih = ih
 unended_more : (queue : List Acceptance) (a : Acceptance) (now : ℕ) → nat_lt now a.ends ≡ true → unended (queue ++ a ∷ []) now ≡ unended queue now ++ a ∷ []
 unended_more [] a now e = rw e refl
 unended_more (x ∷ queue) a now e = unended_step x queue a now (nat_lt now x.ends) (unended_more queue a now e)
-
--- the address of a phone is that of its line
-pub address_there : (lines : List LineValue) (phone : ℕ) (line : LineValue) → slice_get lines phone ≡ Some line → line.address ≡ address_of (addresses lines) phone
-address_there [] phone line e = absurd cc
-address_there (x ∷ lines) zero line e = let q : line ≡ x = cc in ap (λ (l : LineValue). l.address) q
-address_there (x ∷ lines) (suc phone) line e = address_there lines phone line e
 
 greater : (stamp free now later : ℕ) → stamp ≡ max free now → max (suc stamp) (max free later) ≡ max (stamp + 1) later
 greater stamp free now later e = omega arith
@@ -64,17 +57,17 @@ also_stands now accepted old new a e s h = record {
 }
 
 module _ (limit : ℕ) (phones : List AddressValue) (now : ℕ) (v : CentreValue) (c : CentreState) (s : StandsFor limit phones now v c) (a : Acceptance) where
-  pub accepted_stands : (held : HeldValue) (sender line new : LineValue) (w : WaitingValue)
-      → slice_get v.lines a.phone ≡ Some sender → slice_get v.lines a.recipient ≡ Some line
+  pub accepted_stands : (held : HeldValue) (line new : LineValue) (w : WaitingValue)
+      → slice_get v.lines a.recipient ≡ Some line
       → a.stamp ≡ max (free_at v.lines a.recipient) now → now < a.ends
       → HoldsAlso v.held (key_of a.phone a.submission.reference a.recipient) a.ends held
-      → new ≡ accepting_line line w → w ≡ record { origin = sender.address; submission = a.submission; stamp = a.stamp; ends = a.ends }
+      → new ≡ accepting_line line w → w ≡ record { origin = address_of (addresses v.lines) a.phone; submission = a.submission; stamp = a.stamp; ends = a.ends }
       → StandsFor limit phones now (record { limit = v.limit; held = held; lines = set v.lines a.recipient new }) (accept c a)
-  accepted_stands held sender line new w from there stamp lives holds is waits =
+  accepted_stands held line new w there stamp lives holds is waits =
       let e : nat_lt now a.ends ≡ true = grind (arith, nat_tests) in
       let ls = s.lines_stand a.recipient line there in
       let free : a.stamp ≡ max line.free now = stamp ∙ ap (λ n. max n now) (free_is v.lines a.recipient line there) in
-      let whom : w ≡ waiting_of phones a = waits ∙ ap (λ (x : AddressValue). waiting_from x a) (address_there v.lines a.phone sender from ∙ ap (λ (ps : List AddressValue). address_of ps a.phone) s.phones_are) in
+      let whom : w ≡ waiting_of phones a = waits ∙ ap (λ (ps : List AddressValue). waiting_from (address_of ps a.phone) a) s.phones_are in
       record {
         limit_is = s.limit_is;
         phones_are = addresses_set v.lines a.recipient line new there (ap (λ (l : LineValue). l.address) is) ∙ s.phones_are;
@@ -91,9 +84,13 @@ module _ (limit : ℕ) (phones : List AddressValue) (now : ℕ) (v : CentreValue
               queue = ap (λ (q : List WaitingValue). q ++ w ∷ []) ls.queue
                   ∙ (ap (λ (x : WaitingValue). waiting_in phones (unended (c.line a.recipient).queue now) ++ x ∷ []) whom
                   ∙ sym (ap (waiting_in phones) (unended_more (c.line a.recipient).queue a now e) ∙ waiting_end phones (unended (c.line a.recipient).queue now) a));
-              free = λ later. next_stamps a c.accepted later ∙ (ap (λ n. max (suc a.stamp) n) (ls.free later) ∙ (greater a.stamp line.free now later free ∙ ap (λ n. max n later) (stamp_free w a sender.address waits)));
+              free = λ later. next_stamps a c.accepted later ∙ (ap (λ n. max (suc a.stamp) n) (ls.free later) ∙ (greater a.stamp line.free now later free ∙ ap (λ n. max n later) (stamp_free w a (address_of (addresses v.lines) a.phone) waits)));
               value = ls.value;
               reference = ls.reference;
               latest = ls.latest;
             }));
       }
+
+-- the lines keep their addresses
+pub accepted_phones : (recipient : ℕ) (old new : List LineValue) (w : WaitingValue) → ChangesLine recipient old new (λ line new. new ≡ accepting_line line w) → addresses new ≡ addresses old
+accepted_phones recipient old new w h = ap addresses h.others_stay ∙ addresses_set old recipient h.before h.after h.is_there (ap (λ (l : LineValue). l.address) h.how)

@@ -1,5 +1,5 @@
 -- A packet that carries a message is read as it.
-use Rattle.std.proofs.Common.{ℕ, List, [], ◌++◌, length, Option, Some, None, refl, sym, subst}
+use Rattle.std.proofs.Common.{ℕ, List, [], length, Option, Some, None, refl, sym, subst}
 use Rattle.std.proofs.lemmas.List.{append-nil}
 use Rattle.sms_field.specs.Field.{Field}
 use Rattle.sms_field.specs.Reading.{Reads}

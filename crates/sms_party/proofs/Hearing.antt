@@ -7,8 +7,8 @@ use Rattle.sms_party.specs.declared.message.Tag.{Tag}
 use Rattle.sms_party.specs.Centre.State.{Acceptance, Pushing, CentreState}
 use Rattle.sms_party.specs.Centre.Held.{unended}
 use Rattle.sms_party.specs.Centre.Verdicts.{unqueued, stays, left_in, after_answer, settled, centre_hears}
-use Rattle.sms_party.specs.Centre.Value.{CentreValue, LineValue, WaitingValue}
-use Rattle.sms_party.specs.Centre.Lines.{left_waiting, HearsFor, LineHears}
+use Rattle.sms_party.specs.Centre.Value.{CentreValue, LineValue, WaitingValue, addresses}
+use Rattle.sms_party.specs.Centre.Lines.{left_waiting, HearsFor, LineHears, ChangesLine}
 use Rattle.sms_party.specs.Centre.Standing.{waiting_in, push_of, LineStands, StandsFor}
 use Rattle.sms_party.specs.Centre.Calls.{CentreAnswers}
 use Rattle.sms_party.specs.declared.centre.waiting.Push.{Push}
@@ -94,3 +94,6 @@ address_for now tag cause line new None (Err TooManySegments) h = absurd h
 -- an answer keeps the address of its line
 pub heard_address : (now : ℕ) (tag : Tag) (cause : Option ℕ) (line new : LineValue) (r : Result Step Dropped) → LineHears now tag cause line r new → new.address ≡ line.address
 heard_address now tag cause line new r h = address_for now tag cause line new line.latest r h
+
+pub heard_phones : (now : ℕ) (tag : Tag) (cause : Option ℕ) (phone : ℕ) (old new : List LineValue) (r : Result Step Dropped) → ChangesLine phone old new (λ line new. LineHears now tag cause line r new) → addresses new ≡ addresses old
+heard_phones now tag cause phone old new r h = ap addresses h.others_stay ∙ addresses_set old phone h.before h.after h.is_there (heard_address now tag cause h.before h.after r h.how)

@@ -7,14 +7,13 @@ use Rattle.std.proofs.lemmas.List.{append-nil, take_all, drop_all}
 use Rattle.std.specs.List.{IsDistinct}
 use Rattle.std.specs.Map.{keys_of, lookup}
 use Rattle.std.proofs.lemmas.Map.Entries.{option_filter, lookup-filter-values}
-use Rattle.std.proofs.lemmas.Map.Made.{IsDistinct-keys_filter}
 use Rattle.sms_field.specs.AddressValue.{AddressValue}
 use Rattle.sms_party.specs.Centre.State.{Acceptance, Line, CentreState}
 use Rattle.sms_party.specs.Centre.Held.{unended}
 use Rattle.sms_party.specs.declared.centre.held.HeldKey.{HeldKey}
-use Rattle.sms_party.specs.Centre.Kept.{key_of, ends_after, is_kept}
+use Rattle.sms_party.specs.Centre.Kept.{key_of, ends_after, is_kept, IsHeldLater}
 use Rattle.sms_party.proofs.Keys.{key_laws}
-use Rattle.sms_party.specs.Centre.Value.{LineValue, CentreValue, held_at, waiting_at, line_at, centre_at, addresses, HeldValue, key_eq}
+use Rattle.sms_party.specs.Centre.Value.{LineValue, CentreValue, waiting_at, line_at, addresses, HeldValue, key_eq}
 use Rattle.sms_party.specs.Centre.Standing.{waiting_in, LineStands, StandsFor, ends_in, HeldStands}
 
 -- what has not ended at a moment had not ended before
@@ -46,11 +45,11 @@ pub kept_later : (last : List (HeldKey × ℕ)) (key : HeldKey) (now at : ℕ) �
 kept_later last key now at apart le =
     ap (ends_after at) (lookup-filter-values key_laws (nat_lt now) key last apart) ∙ still now at (lookup (key_eq key) last) le
 
-held_later : (clock now : ℕ) (accepted : List Acceptance) (v : HeldValue) → clock ≤ now → HeldStands clock accepted v → HeldStands now accepted (held_at now v)
-held_later clock now accepted v le s = record {
-  ends = ap (filter (nat_lt now)) s.ends ∙ ends_later accepted clock now le;
-  kept = λ phone reference recipient at h. kept_later v.last (key_of phone reference recipient) now at s.apart h ∙ s.kept phone reference recipient at (omega (arith, le, h));
-  apart = IsDistinct-keys_filter key_eq (λ e. nat_lt now e.1) v.last s.apart;
+pub held_later : (clock now : ℕ) (accepted : List Acceptance) (v w : HeldValue) → clock ≤ now → IsHeldLater now v w → HeldStands clock accepted v → HeldStands now accepted w
+held_later clock now accepted v w le h s = record {
+  ends = h.ends ∙ (ap (filter (nat_lt now)) s.ends ∙ ends_later accepted clock now le);
+  kept = λ phone reference recipient at later. h.kept (key_of phone reference recipient) at later ∙ s.kept phone reference recipient at (omega (arith, le, later));
+  apart = h.apart;
 }
 
 waiting_one : (phones : List AddressValue) (a : Acceptance) (queue : List Acceptance) (clock now : ℕ) (b d : Bool) → nat_lt clock a.ends ≡ b → nat_lt now a.ends ≡ d → clock ≤ now
@@ -89,11 +88,12 @@ left_of now [] r line e = absurd cc
 left_of now (v ∷ lines) zero line e = record { before = v; is_there = refl; left = cc }
 left_of now (v ∷ lines) (suc r) line e = let h = left_of now lines r line e in record { before = h.before; is_there = h.is_there; left = h.left }
 
-pub stands_later : (limit : ℕ) (phones : List AddressValue) (clock now : ℕ) (v : CentreValue) (c : CentreState) → clock ≤ now → StandsFor limit phones clock v c → StandsFor limit phones now (centre_at now v) c
-stands_later limit phones clock now v c le s = record {
+pub stands_later : (limit : ℕ) (phones : List AddressValue) (clock now : ℕ) (v : CentreValue) (held : HeldValue) (c : CentreState) → clock ≤ now → IsHeldLater now v.held held → StandsFor limit phones clock v c
+    → StandsFor limit phones now (record { limit = v.limit; held = held; lines = map (line_at now) v.lines }) c
+stands_later limit phones clock now v held c le h s = record {
   limit_is = s.limit_is;
   phones_are = addresses_later v.lines now ∙ s.phones_are;
-  held_stand = held_later clock now c.accepted v.held le s.held_stand;
+  held_stand = held_later clock now c.accepted v.held held le h s.held_stand;
   lines_stand = λ r line e.
       let h = left_of now v.lines r line e in
       subst (λ (x : LineValue). LineStands phones now c.accepted r x (c.line r)) (sym h.left)
@@ -103,6 +103,3 @@ stands_later limit phones clock now v c le s = record {
 -- the lines after all of them were reached
 pub all_mapped : (now : ℕ) (before lines : List LineValue) (i : ℕ) → length before ≤ i → lines ≡ map (line_at now) (take i before) ++ drop i before → lines ≡ map (line_at now) before
 all_mapped now before lines i le e = e ∙ rw (take_all, drop_all) (append-nil (map (line_at now) before))
-
-pub centre_same : (limit : ℕ) (h k : HeldValue) (l m : List LineValue) → h ≡ k → l ≡ m → ◌≡◌ {A = CentreValue} (record { limit = limit; held = h; lines = l }) (record { limit = limit; held = k; lines = m })
-centre_same limit h k l m p q = cc

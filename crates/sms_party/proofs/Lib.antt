@@ -24,3 +24,9 @@ pub mod OtherPhones
 pub mod SenderParts
 pub mod SenderStatus
 pub mod SenderSteps
+pub mod Few
+pub mod Drops
+pub mod Earliest
+pub mod SameAddresses
+pub mod DeliveryKeys
+pub mod Ended

@@ -1,14 +1,15 @@
 -- A line in place of another.
-use Rattle.std.proofs.lemmas.List.{length-map}
 use Rattle.std.proofs.lemmas.Option.{slice_get_read}
 use Rattle.std.proofs.Common.{length, get_or, ◌≡◌, ◌≢◌, ℕ, zero, suc, ◌<◌, ◌==◌, Bool, true, false, cond, nat_lt, List, [], ◌∷◌, ◌++◌, Some, refl, sym, ap, ◌∙◌, subst, arith}
 use Rattle.std.specs.List.{slice_get}
 use Rattle.std.proofs.Math.ListN.{set}
 use Rattle.std.proofs.lemmas.Bool.Decides.{nat_tests}
 use Rattle.sms_field.specs.AddressValue.{AddressValue}
+use Rattle.sms_party.specs.Address.{address_of}
+use Rattle.sms_party.specs.Centre.Kept.{free_at}
 use Rattle.sms_party.specs.Centre.State.{Acceptance, Line, changed}
 use Rattle.sms_party.specs.Centre.Held.{unended}
-use Rattle.sms_party.specs.Centre.Value.{CentreValue, LineValue, WaitingValue, line_at, centre_at, addresses}
+use Rattle.sms_party.specs.Centre.Value.{CentreValue, LineValue, WaitingValue, addresses}
 use Rattle.sms_party.specs.Centre.Standing.{waiting_of, waiting_in, LineStands}
 
 pub set_there : {X : Type 0} (xs : List X) (i : ℕ) (y z : X) → slice_get (set xs i y) i ≡ Some z → z ≡ y
@@ -75,11 +76,17 @@ pub waiting_end : (phones : List AddressValue) (queue : List Acceptance) (a : Ac
 waiting_end phones [] a = refl
 waiting_end phones (x ∷ queue) a = ap (λ (r : List WaitingValue). waiting_of phones x ∷ r) (waiting_end phones queue a)
 
--- the line at a place, after the moment has moved on
-pub line_there : (now phone : ℕ) (old new : CentreValue) (line : LineValue) → new ≡ centre_at now old → phone < length old.lines → line ≡ get_or new.lines phone line → slice_get new.lines phone ≡ Some line
-line_there now phone old new line is within at =
-    let size : length new.lines ≡ length old.lines = ap (λ (v : CentreValue). length v.lines) is ∙ length-map old.lines (line_at now) in
-    slice_get_read new.lines (length old.lines) phone line (sym size) within at
-
+-- the line at a place
 pub line_here : (phone : ℕ) (v : CentreValue) (line : LineValue) → phone < length v.lines → line ≡ get_or v.lines phone line → slice_get v.lines phone ≡ Some line
 line_here phone v line within at = slice_get_read v.lines (length v.lines) phone line refl within at
+
+pub free_is : (lines : List LineValue) (r : ℕ) (line : LineValue) → slice_get lines r ≡ Some line → free_at lines r ≡ line.free
+free_is [] r line e = absurd cc
+free_is (x ∷ lines) zero line e = let q : line ≡ x = cc in ap (λ (l : LineValue). l.free) (sym q)
+free_is (x ∷ lines) (suc r) line e = free_is lines r line e
+
+-- the address of a phone is that of its line
+pub address_there : (lines : List LineValue) (phone : ℕ) (line : LineValue) → slice_get lines phone ≡ Some line → line.address ≡ address_of (addresses lines) phone
+address_there [] phone line e = absurd cc
+address_there (x ∷ lines) zero line e = let q : line ≡ x = cc in ap (λ (l : LineValue). l.address) q
+address_there (x ∷ lines) (suc phone) line e = address_there lines phone line e

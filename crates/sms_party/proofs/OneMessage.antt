@@ -7,10 +7,8 @@ use Rattle.sms_field.specs.ReasonLaws.{starts_apart}
 use Rattle.sms_tpdu.specs.RefusalLaws.{submit_tells, deliver_tells}
 use Rattle.sms_field.specs.RelayAddressValue.{RelayAddressValue}
 use Rattle.sms_tpdu.specs.Submit.{submit}
-use Rattle.sms_tpdu.specs.Submit.Flags.{submit_flags}
 use Rattle.sms_tpdu.specs.Submit.Laws.{submit_lawful}
 use Rattle.sms_tpdu.specs.Deliver.{deliver}
-use Rattle.sms_tpdu.specs.Deliver.Flags.{deliver_flags}
 use Rattle.sms_tpdu.specs.Deliver.Laws.{deliver_lawful}
 use Rattle.sms_tpdu.specs.Report.SubmitAck.{submit_ack}
 use Rattle.sms_tpdu.specs.Report.SubmitAckLaws.{submit_ack_lawful}

@@ -1,5 +1,5 @@
 -- What one phone does leaves the sender of another as it is.
-use Rattle.std.proofs.Common.{◌≡◌, ◌≢◌, ℕ, suc, ◌+◌, ◌-◌, ◌%◌, ◌<◌, ◌==◌, Bool, true, false, cond, nat_lt, List, [], ◌∷◌, length, Option, Some, None, refl, sym, ap, ◌∙◌, subst, arith, unwrap_or}
+use Rattle.std.proofs.Common.{◌≡◌, ◌≢◌, ℕ, ◌-◌, ◌<◌, ◌==◌, Bool, true, false, cond, nat_lt, List, [], ◌∷◌, length, Option, refl, sym, subst, arith}
 use Rattle.std.specs.Prelude.{nat_le}
 use Rattle.std.proofs.lemmas.Bool.Decides.{nat_tests}
 use Rattle.sms_field.specs.AddressValue.{AddressValue}
@@ -15,11 +15,11 @@ use Rattle.sms_party.specs.declared.outcome.Outcome.{Outcome}
 use Rattle.sms_party.specs.declared.outcome.Dropped.{Dropped}
 use Rattle.sms_party.specs.Message.{tag_of, same_tag}
 use Rattle.sms_party.specs.Centre.State.{changed}
-use Rattle.sms_party.specs.Sent.{nth, Sent, Sends}
-use Rattle.sms_party.specs.Sender.Texts.{Text, Sender, SenderState, texts_of_phone, segments_of, sets_of, new_text, size_of}
-use Rattle.sms_party.specs.Sender.Putting.{Puts, puts, with_sender, sender_drops, does}
-use Rattle.sms_party.specs.Sender.Calls.{appended, typed, composes, repeats, times_out}
-use Rattle.sms_party.specs.Sender.Answers.{accepts, hears, matches, sender_receives, sender_takes}
+use Rattle.sms_party.specs.Sent.{Sent, Sends}
+use Rattle.sms_party.specs.Sender.Texts.{Text, Sender, SenderState, new_text, size_of}
+use Rattle.sms_party.specs.Sender.Putting.{Puts, with_sender, sender_drops, does}
+use Rattle.sms_party.specs.Sender.Calls.{typed, composes, repeats, times_out}
+use Rattle.sms_party.specs.Sender.Answers.{hears, matches, sender_receives, sender_takes}
 use Rattle.sms_party.specs.Sender.Value.{TextValue, SenderValue}
 use Rattle.sms_party.specs.Sender.Stands.{ArePending, IsUnaccepted, Keeps, HasTries, SenderStands}
 use Rattle.sms_party.specs.Sender.Others.{OthersLeaveSender}

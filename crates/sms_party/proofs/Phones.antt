@@ -1,5 +1,5 @@
 -- What comes to a phone is taken by its receiver, where it is no answer.
-use Rattle.std.proofs.Common.{◌≡◌, ℕ, Bool, true, false, List, Result, Ok, Err, refl, sym, ap, subst}
+use Rattle.std.proofs.Common.{◌≡◌, ℕ, Bool, false, List, Result, Ok, Err, refl, sym, ap, subst}
 use Rattle.std.specs.Result.{OnErr}
 use Rattle.sms_party.specs.declared.message.Message.{Message}
 use Rattle.sms_party.specs.declared.outcome.Step.{Step}

@@ -1,5 +1,6 @@
 -- A push at one line is a push of the machine.
-use Rattle.std.proofs.Common.{◌≡◌, ℕ, zero, suc, ◌+◌, ◌%◌, Bool, false, List, [], ◌∷◌, Some, Result, Ok, Err, refl, sym, ap, ◌∙◌, subst, arith}
+use Rattle.std.proofs.Common.{◌≡◌, ℕ, zero, suc, ◌+◌, ◌%◌, Bool, false, List, [], ◌∷◌, Some, Result, Ok, Err, refl, sym, ap, ◌∙◌, subst, arith, ◌<◌, get_or, length, drop, take, ◌++◌, nat_lt}
+use Rattle.std.proofs.lemmas.Bool.Decides.{nat_tests}
 use Rattle.std.specs.List.{slice_get}
 use Rattle.std.proofs.Math.ListN.{set}
 use Rattle.sms_field.specs.AddressValue.{AddressValue}
@@ -12,12 +13,13 @@ use Rattle.sms_party.specs.declared.message.Tag.{Tag}
 use Rattle.sms_party.specs.Centre.State.{Acceptance, CentreState}
 use Rattle.sms_party.specs.Centre.Pushes.{is_more, delivery, after_push, pushes_first, centre_pushes}
 use Rattle.sms_party.specs.Centre.Held.{unended}
-use Rattle.sms_party.specs.Centre.Value.{CentreValue, LineValue, WaitingValue}
+use Rattle.sms_party.specs.Centre.Value.{CentreValue, LineValue, WaitingValue, addresses}
 use Rattle.sms_party.specs.Does.{packets_of, CarriesEach}
-use Rattle.sms_party.specs.Centre.Lines.{tag_in, pushed_line, PushesFrom, LinePushes}
+use Rattle.sms_party.specs.Centre.Lines.{tag_in, delivery_of, pushed_line, PushesFrom, LinePushes, ChangesLine}
 use Rattle.sms_party.specs.Centre.Standing.{waiting_of, waiting_in, LineStands, StandsFor}
 use Rattle.sms_party.specs.Centre.Calls.{CentreAnswers}
 use Rattle.sms_party.specs.declared.outcome.Step.{Step}
+use Rattle.sms_party.specs.declared.outcome.Outcome.TheVariants.{Pushed}
 use Rattle.sms_party.specs.declared.outcome.Dropped.{Dropped}
 use Rattle.sms_party.specs.declared.outcome.Dropped.TheVariants.{NotCp, Unmatched, Busy, Memory, TooManySegments}
 use Rattle.sms_party.proofs.Lines.{set_stands, addresses_set, AreUnended, unended_are, unended_end, waiting_end}
@@ -105,3 +107,34 @@ address_from line new (m ∷ others) (Ok step) h = ap (λ (l : LineValue). l.add
 -- a push keeps the address of its line
 pub pushed_address : (line new : LineValue) (r : Result Step Dropped) → LinePushes line r new → new.address ≡ line.address
 pushed_address line new r h = address_from line new line.queue r h
+
+-- ---- the code's push, which moves the first of the queue to its end
+
+more_are : (others : List WaitingValue) → nat_lt 1 (suc (length others)) ≡ is_more others
+more_are [] = refl
+more_are (m ∷ others) = grind (arith, nat_tests)
+
+-- the line when the first of its queue, which is this message, was moved to its end
+abbrev pub rotated_line : LineValue → List WaitingValue → WaitingValue → LineValue
+rotated_line line queue m =
+    record line {
+      queue = drop 1 queue ++ take 1 queue;
+      value = (line.value + 1) % 7;
+      reference = (line.reference + 1) % 256;
+      latest = Some (record { value = line.value; reference = line.reference; stamp = m.stamp; ends = m.ends });
+    }
+
+pub pushed_from : (line new : LineValue) (queue : List WaitingValue) (m : WaitingValue) (more : Bool) (step : Step) → 0 < length queue → m ≡ get_or queue 0 m → more ≡ nat_lt 1 (length queue) → step.outcome ≡ Pushed
+    → CarriesEach (packets_of step) (Data false (tag_in line) (Transfer ToPhone (Deliver (delivery_of m more))) ∷ [])
+    → new ≡ rotated_line line queue m → PushesFrom line queue (Ok step) new
+pushed_from line new [] m more step some at is pushed carries after = absurd (omega (arith, some))
+pushed_from line new (x ∷ others) m more step some at is pushed carries after = (
+  pushed,
+  subst (λ (y : WaitingValue). CarriesEach (packets_of step) (Data false (tag_in line) (Transfer ToPhone (Deliver (delivery_of y (is_more others)))) ∷ [])) at
+      (subst (λ (b : Bool). CarriesEach (packets_of step) (Data false (tag_in line) (Transfer ToPhone (Deliver (delivery_of m b))) ∷ [])) (is ∙ more_are others) carries),
+  subst (λ (y : WaitingValue). new ≡ pushed_line line y others) at (after ∙ ap (λ (y : WaitingValue). rotated_line line (y ∷ others) m) (sym at)),
+)
+
+-- the lines keep their addresses
+pub pushed_phones : (phone : ℕ) (old new : List LineValue) (r : Result Step Dropped) → ChangesLine phone old new (λ line new. LinePushes line r new) → addresses new ≡ addresses old
+pushed_phones phone old new r h = ap addresses h.others_stay ∙ addresses_set old phone h.before h.after h.is_there (pushed_address h.before h.after r h.how)

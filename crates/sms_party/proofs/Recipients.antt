@@ -1,6 +1,6 @@
 -- Recipients have the addresses of their messages.
-use Rattle.std.proofs.Common.{◌≡◌, ℕ, suc, ◌<◌, ◌≤◌, max, Bool, true, false, cond, ◌&&◌, eqb, nat_lt, List, [], ◌∷◌, refl, sym, subst, arith, Some, None, Option, Result, Ok, Err}
-use Rattle.std.proofs.lemmas.Bool.{eqb-false, cond_both}
+use Rattle.std.proofs.Common.{◌≡◌, ℕ, Bool, true, false, cond, ◌&&◌, nat_lt, List, [], ◌∷◌, refl, Some, None, Option, Result, Ok, Err}
+use Rattle.std.proofs.lemmas.Bool.{cond_both}
 use Rattle.sms_field.specs.AddressValue.{AddressValue}
 use Rattle.sms_tpdu.specs.Submit.{Submission}
 use Rattle.sms_relay.specs.declared.side.Side.TheVariants.{FromPhone, ToPhone}

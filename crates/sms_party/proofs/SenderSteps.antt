@@ -1,5 +1,5 @@
 -- What the code of a sender does is what a sender does.
-use Rattle.std.proofs.Common.{◌≡◌, ◌≢◌, ℕ, zero, suc, ◌+◌, ◌-◌, ◌<◌, ◌≤◌, ◌==◌, ◌&&◌, Bool, true, false, cond, nat_lt, List, [], ◌∷◌, ◌++◌, length, map, drop, get_or, Option, Some, None, unwrap_or, Result, Ok, Err, refl, sym, ap, ◌∙◌, subst, arith}
+use Rattle.std.proofs.Common.{◌≡◌, ◌≢◌, ℕ, suc, ◌+◌, ◌-◌, ◌<◌, ◌≤◌, ◌==◌, Bool, true, false, nat_lt, List, [], ◌∷◌, ◌++◌, length, map, drop, get_or, Option, unwrap_or, Result, Ok, Err, refl, sym, ap, ◌∙◌, subst, arith}
 use Rattle.std.specs.Prelude.{nat_le}
 use Rattle.std.specs.Result.{IsErrAnd}
 use Rattle.std.specs.List.{slice_get}
@@ -34,7 +34,7 @@ use Rattle.sms_party.specs.Sender.Texts.{Text, Sender, SenderState, new_sender, 
 use Rattle.sms_party.specs.Sender.Putting.{Puts, puts, with_sender, sender_drops, does}
 use Rattle.sms_party.specs.Sender.Calls.{appended, typed, composes, ends, repeats, times_out}
 use Rattle.sms_party.specs.Sender.Answers.{failure_of, accepts, advanced, noted, hears, matches}
-use Rattle.sms_party.specs.Sender.Value.{TextValue, SenderValue, Did, text_put, counted, puts_out, text_in, entered, number_in, first_put, enters, ended_with, repeated, waits_no_more, stepped, settles, hears_at}
+use Rattle.sms_party.specs.Sender.Value.{TextValue, SenderValue, Did, text_put, counted, puts_out, text_in, entered, number_in, enters, ended_with, repeated, waits_no_more, stepped, settles, hears_at}
 use Rattle.sms_party.specs.Sender.Stands.{TextIs, ArePending, status_if, Keeps, HasTries, SenderStands, in_messages, Steps, Types}
 use Rattle.sms_party.proofs.Waiting.{pending_count, IsPut, AreReady, put_stands, ready_anew, both_pending, ended_keeps, stepped_keeps, entered_keeps, as_many}
 

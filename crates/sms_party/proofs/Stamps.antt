@@ -46,13 +46,13 @@ unfolding checked
 checked_rises c now phone tag s origin (Refuse cause failure) g h = h
 checked_rises c now phone tag s origin (Accept recipient ends stamp) g h = (subst (AreBelow c.accepted recipient) (sym g.0) (next_above c.accepted recipient now), h)
 
-hears_same : (c : CentreState) (now phone : ℕ) (tag : Tag) (cause : Option ℕ) (latest : Option Pushing) → (centre_hears c now phone tag cause latest).after.accepted ≡ c.accepted
+pub hears_same : (c : CentreState) (now phone : ℕ) (tag : Tag) (cause : Option ℕ) (latest : Option Pushing) → (centre_hears c now phone tag cause latest).after.accepted ≡ c.accepted
 unfolding centre_hears settled
 hears_same c now phone tag cause None = refl
 hears_same c now phone tag cause (Some p) =
     cond_both (same_tag tag p.tag && nat_lt now p.message.ends) _ _ (λ (d : Does CentreState). d.after.accepted ≡ c.accepted) (λ _. refl) (λ _. refl)
 
-pushes_same : (phones : List AddressValue) (c : CentreState) (phone : ℕ) (queue : List Acceptance) → (pushes_first phones c phone queue).after.accepted ≡ c.accepted
+pub pushes_same : (phones : List AddressValue) (c : CentreState) (phone : ℕ) (queue : List Acceptance) → (pushes_first phones c phone queue).after.accepted ≡ c.accepted
 unfolding pushes_first
 pushes_same phones c phone [] = refl
 pushes_same phones c phone (a ∷ others) = refl

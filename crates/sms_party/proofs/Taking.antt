@@ -1,6 +1,6 @@
 -- What comes to the centre from a phone, without what is accepted.
 use Rattle.std.proofs.Common.{◌≡◌, ℕ, zero, suc, ◌+◌, ◌<◌, ◌≤◌, max, Bool, true, false, not, cond, ◌&&◌, nat_lt, List, [], ◌∷◌, ◌++◌, length, Option, Some, None, Result, Ok, Err, refl, sym, ap, ◌∙◌, subst, arith}
-use Rattle.std.specs.Prelude.{nat_le, position, ◌==◌, ◌||◌}
+use Rattle.std.specs.Prelude.{nat_le, position}
 use Rattle.std.specs.List.{prefix_len}
 use Rattle.std.proofs.lemmas.List.Quantifiers.{position-Some}
 use Rattle.std.specs.List.{slice_get}
@@ -23,6 +23,7 @@ use Rattle.sms_party.specs.Centre.Value.{CentreValue, LineValue, addresses}
 use Rattle.sms_party.specs.Centre.Standing.{ends_in, StandsFor}
 use Rattle.sms_party.specs.Centre.Kept.{key_of, is_kept, free_at, books_in}
 use Rattle.sms_party.specs.Centre.Calls.{IsCheckIn, CentreAnswers}
+use Rattle.sms_party.proofs.Lines.{free_is}
 use Rattle.sms_party.specs.declared.message.Message.{Message}
 use Rattle.sms_party.specs.declared.centre.check.Check.{Check}
 use Rattle.sms_party.specs.declared.centre.check.Check.TheVariants.{Refuse, Accept}
@@ -52,11 +53,6 @@ count_step a past now false ih = ih
 kept_count : (accepted : List Acceptance) (now : ℕ) → length (ends_in accepted now) ≡ length (unended accepted now)
 kept_count [] now = refl
 kept_count (a ∷ past) now = count_step a past now (nat_lt now a.ends) (kept_count past now)
-
-pub free_is : (lines : List LineValue) (r : ℕ) (line : LineValue) → slice_get lines r ≡ Some line → free_at lines r ≡ line.free
-free_is [] r line e = absurd cc
-free_is (x ∷ lines) zero line e = let q : line ≡ x = cc in ap (λ (l : LineValue). l.free) (sym q)
-free_is (x ∷ lines) (suc r) line e = free_is lines r line e
 
 prefix_same : (target : AddressValue) (lines : List LineValue) → prefix_len (λ a. not (same_address a target)) (addresses lines) ≡ prefix_len (λ line. not (same_address line.address target)) lines
 prefix_same target [] = refl

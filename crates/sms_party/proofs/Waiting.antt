@@ -1,12 +1,10 @@
 -- What a sender keeps of its texts, from one state to the next.
-use Rattle.std.proofs.Common.{◌≡◌, ◌≢◌, ℕ, zero, suc, ◌+◌, ◌-◌, ◌%◌, ◌<◌, ◌≤◌, ◌==◌, ◌&&◌, Bool, true, false, cond, nat_lt, List, [], ◌∷◌, ◌++◌, length, map, get_or, Option, Some, None, Result, Ok, Err, refl, sym, ap, ◌∙◌, subst, arith}
+use Rattle.std.proofs.Common.{◌≡◌, ℕ, zero, suc, ◌+◌, ◌-◌, ◌%◌, ◌<◌, ◌==◌, Bool, true, false, cond, nat_lt, List, [], ◌∷◌, ◌++◌, length, map, get_or, Option, Some, refl, sym, ap, ◌∙◌, subst, arith}
 use Rattle.std.specs.List.{slice_get, AllByRecursion, range_with_len}
 use Rattle.std.proofs.lemmas.Bool.Decides.{nat_tests}
 use Rattle.std.proofs.lemmas.List.{length-append}
 use Rattle.sms_field.specs.AddressValue.{AddressValue}
 use Rattle.sms_tpdu.specs.Submit.{Submission}
-use Rattle.sms_tpdu.specs.declared.user_data.concat.Width.{Width}
-use Rattle.sms_tpdu.specs.declared.user_data.concat.Width.TheVariants.{Eight, Sixteen}
 use Rattle.sms_relay.specs.declared.side.Side.TheVariants.{FromPhone}
 use Rattle.sms_join.specs.declared.segment.Segment.{Segment}
 use Rattle.sms_join.specs.declared.units.Units.{Units}
@@ -20,7 +18,7 @@ use Rattle.sms_party.specs.declared.message.Tag.{Tag}
 use Rattle.sms_party.specs.declared.sender.Status.{Status}
 use Rattle.sms_party.specs.Message.{tag_of}
 use Rattle.sms_party.specs.Sent.{nth, messages_of}
-use Rattle.sms_party.specs.Sender.Texts.{Text, Sender, texts_of_phone, segments_of, sets_of, width_of, new_text, size_of}
+use Rattle.sms_party.specs.Sender.Texts.{Text, Sender, sets_of, width_of, new_text, size_of}
 use Rattle.sms_party.specs.Sender.Segments.{submission_of}
 use Rattle.sms_party.specs.Sender.Putting.{Puts, puts_text, puts_first, puts}
 use Rattle.sms_party.specs.Sender.Calls.{appended, ends}

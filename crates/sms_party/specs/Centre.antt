@@ -7,6 +7,7 @@ pub mod Pushes
 pub mod Verdicts
 pub mod Stamps
 pub mod Recipients
+pub mod Keys
 pub mod Value
 pub mod Kept
 pub mod Lines

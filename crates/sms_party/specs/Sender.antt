@@ -8,3 +8,4 @@ pub mod Splitting
 pub mod Value
 pub mod Stands
 pub mod Others
+pub mod Ended

@@ -1,29 +1,27 @@
 //! The service centre.
 
-ghost use Rattle.std.specs.Prelude.{◌≡◌, ◌<◌, ◌≤◌, IsTrue, length, position, map, ◌&&◌, IfSome, IfOk, IfErr, OnOk, OnErr};
-ghost use Rattle.sms_field.specs.SameAddress.{same_address};
+ghost use Rattle.std.specs.Prelude.{◌≡◌, ◌<◌, ◌≤◌, IsTrue, length, ◌&&◌, IfSome, IfOk};
 ghost use Rattle.sms_party.specs.Address.{are_distinct, phone_at};
 ghost use Rattle.sms_party.specs.Message.Reading.{HasTag};
 ghost use Rattle.sms_party.specs.Centre.State.{new_centre};
 ghost use Rattle.sms_party.specs.Centre.Checks.{check_space, checked_by};
 ghost use Rattle.sms_party.specs.Centre.Submissions.{centre_takes};
 ghost use Rattle.sms_party.specs.Centre.{centre_opened, centre_answered, centre_receives};
-ghost use Rattle.sms_party.specs.Centre.Value.{centre_at, phones_of};
-ghost use Rattle.sms_party.specs.Centre.Lines.{new_line, accepting_line};
-ghost use Rattle.sms_party.specs.Centre.Kept.{books_in, is_kept, key_of, HoldsAlso, IsLawfulCheck};
+ghost use Rattle.sms_party.specs.Centre.Value.{phones_of};
+ghost use Rattle.sms_party.specs.Centre.Kept.{books_in, is_kept, key_of, IsLawfulCheck};
 ghost use Rattle.sms_party.specs.Centre.Calls.{StandsLater, StandsAlways, PushSteps, SettlesAs, Steps, ReceivesAs};
-ghost use Rattle.sms_party.specs.declared.outcome.Dropped.TheVariants.{Memory};
 
 mod answering;
 mod check;
 mod held;
 mod line;
+mod lines;
 mod waiting;
 
 use crate::centre::answering::{approval, refusal};
 use crate::centre::check::Check;
 use crate::centre::held::{HeldKey, HeldMessages};
-use crate::centre::line::Line;
+use crate::centre::lines::Lines;
 use crate::centre::waiting::WaitingMessage;
 use crate::message::packets::relay_refusal;
 use crate::message::reading::read_message;
@@ -39,10 +37,10 @@ use std::marker::Model;
 /// The service centre.
 #[derive(Drop)]
 pub struct Centre {
+    alloc: Global,
     limit: usize,
     held: HeldMessages,
-    /// One for each phone.
-    lines: Vec<Line>,
+    lines: Lines,
 }
 
 impl Model for Centre {
@@ -50,64 +48,7 @@ impl Model for Centre {
 
     ghost Value = { CentreValue };
 
-    ghost view = { λ c. record { limit = c.limit; held = c.held; lines = c.lines.items } };
-}
-
-/// Whether two addresses are the same.
-#[tactic(auto, unfolding(sms_field::specs::SameAddress::same_address))]
-fn is_same_address(a: &Address, b: &Address) -> bool
-    ensures { result ≡ same_address a.now b.now }
-{
-    a == b
-}
-
-/// The line with this address.
-fn find(lines: &[Line], target: &Address) -> Option<usize>
-    ensures { result ≡ position (λ line. same_address line.address target.now) lines.now }
-{
-    lines
-        .iter()
-        .position(|line| is_same_address(&line.address, target))
-}
-
-/// A line for each address.
-fn new_lines(alloc: Global, phones: &[Address]) -> Result<Vec<Line>, AllocError>
-    ensures { IfOk result (λ lines. lines.items ≡ map new_line phones.now) }
-{
-    let mut lines = Vec::new(alloc);
-    for phone in phones {
-        let address = phone.copy(alloc)?;
-        lines.push(Line {
-            address,
-            queue: Vec::new(alloc),
-            free: 0,
-            value: 0,
-            reference: 0,
-            latest: None,
-        })?;
-    }
-    Ok(lines)
-}
-
-/// Holds a message, and puts it into the queue of its recipient. All growths come before the first change; if memory runs
-/// out, nothing has changed.
-fn hold(
-    held: &mut HeldMessages,
-    line: &mut Line,
-    key: HeldKey,
-    message: WaitingMessage,
-) -> Result<(), Dropped>
-    ensures held { OnOk result (HoldsAlso held.old key message.ends held.new) }
-    ensures line { OnOk result (line.new ≡ accepting_line line.old message) }
-    ensures err_held { OnErr result (held.new ≡ held.old) }
-    ensures err_line { OnErr result (line.new ≡ line.old) }
-    ensures memory { IfErr result (λ e. e ≡ Memory) }
-{
-    line.queue.reserve(1)?;
-    held.hold(key, message.ends)?;
-    line.free = message.stamp + 1;
-    line.queue.push_reserved(message);
-    Ok(())
+    ghost view = { λ c. record { limit = c.limit; held = c.held; lines = c.lines } };
 }
 
 impl Centre {
@@ -122,9 +63,10 @@ impl Centre {
         ensures phones { IfOk result (λ centre. phones_of centre ≡ phones.now) }
     {
         Ok(Centre {
+            alloc,
             limit: held,
             held: HeldMessages::new(alloc),
-            lines: new_lines(alloc, phones)?,
+            lines: Lines::new(alloc, phones)?,
         })
     }
 
@@ -138,53 +80,37 @@ impl Centre {
 
     /// Forgets the messages whose validity has ended.
     fn forget(&mut self, now: u64)
-        ensures value { self.new ≡ centre_at now self.old }
         ensures stands { StandsLater now self.old self.new }
         ensures phones { phones_of self.new ≡ phones_of self.old }
     {
         self.held.forget(now);
-        for line in self.lines.iter_mut() {
-            line.advance(now);
-        }
+        self.lines.advance(now);
     }
 
     /// Puts out the message to this phone whose latest acceptance or push is the earliest.
-    pub fn push(&mut self, alloc: Global, now: u64, phone: usize) -> Result<Step, Dropped>
+    pub fn push(&mut self, now: u64, phone: usize) -> Result<Step, Dropped>
         requires { phone < length (phones_of self.old) }
         ensures steps { PushSteps now phone self.old result self.new }
         ensures phones { phones_of self.new ≡ phones_of self.old }
     {
         self.forget(now);
-        let line = &mut self.lines[phone];
-        line.push(alloc)
+        self.lines.push(self.alloc, phone)
     }
 
     /// Takes what comes from this phone: a submission, or the answer to a push.
-    pub fn receive(
-        &mut self,
-        alloc: Global,
-        now: u64,
-        phone: usize,
-        octets: &[u8],
-    ) -> Result<Step, Dropped>
+    pub fn receive(&mut self, now: u64, phone: usize, octets: &[u8]) -> Result<Step, Dropped>
         requires phone { phone < length (phones_of self.old) }
         requires moment { now < 3155760000 }
         ensures receives { ReceivesAs now phone octets.now self.old result self.new }
         ensures phones { phones_of self.new ≡ phones_of self.old }
     {
         self.forget(now);
-        let message = read_message(alloc, octets)?;
-        self.take(alloc, now, phone, message)
+        let message = read_message(self.alloc, octets)?;
+        self.take(now, phone, message)
     }
 
     /// Takes a message from this phone.
-    fn take(
-        &mut self,
-        alloc: Global,
-        now: u64,
-        phone: usize,
-        message: Message,
-    ) -> Result<Step, Dropped>
+    fn take(&mut self, now: u64, phone: usize, message: Message) -> Result<Step, Dropped>
         requires phone { phone < length (phones_of self.old) }
         requires moment { now < 3155760000 }
         requires tag { HasTag message }
@@ -197,14 +123,14 @@ impl Centre {
             Message::NotCp => Err(Dropped::NotCp),
             Message::Note { .. } => Ok(Step {
                 outcome: Outcome::Noted,
-                packets: Vec::new(alloc),
+                packets: Vec::new(self.alloc),
             }),
             Message::Tiny { .. } => Err(Dropped::Unmatched),
             Message::Data { flag, tag, relay } => {
                 if flag {
-                    self.take_answer(alloc, now, phone, tag, relay)
+                    self.take_answer(now, phone, tag, relay)
                 } else {
-                    self.take_request(alloc, now, phone, tag, relay)
+                    self.take_request(now, phone, tag, relay)
                 }
             }
         }
@@ -213,7 +139,6 @@ impl Centre {
     /// Takes a message of a transaction that the phone has opened.
     fn take_request(
         &mut self,
-        alloc: Global,
         now: u64,
         phone: usize,
         tag: Tag,
@@ -229,19 +154,18 @@ impl Centre {
     {
         match relay {
             Relay::Transfer { side, unit } => match side {
-                Side::FromPhone => self.take_unit(alloc, now, phone, tag, unit),
+                Side::FromPhone => self.take_unit(now, phone, tag, unit),
                 Side::ToPhone => Err(Dropped::Unmatched),
             },
             Relay::Answer { .. } => Err(Dropped::Unmatched),
-            Relay::UnknownType => relay_refusal(alloc, Side::ToPhone, tag, 97),
-            Relay::Unreadable => relay_refusal(alloc, Side::ToPhone, tag, 96),
+            Relay::UnknownType => relay_refusal(self.alloc, Side::ToPhone, tag, 97),
+            Relay::Unreadable => relay_refusal(self.alloc, Side::ToPhone, tag, 96),
         }
     }
 
     /// Takes a message of a transaction that the centre has opened.
     fn take_answer(
         &mut self,
-        alloc: Global,
         now: u64,
         phone: usize,
         tag: Tag,
@@ -256,10 +180,7 @@ impl Centre {
     {
         match relay {
             Relay::Answer { side, cause, .. } => match side {
-                Side::FromPhone => {
-                    let line = &mut self.lines[phone];
-                    line.hear(alloc, now, tag, cause)
-                }
+                Side::FromPhone => self.lines.hear(self.alloc, now, phone, tag, cause),
                 Side::ToPhone => Err(Dropped::Unmatched),
             },
             Relay::Transfer { .. } => Err(Dropped::Unmatched),
@@ -271,7 +192,6 @@ impl Centre {
     /// Takes the unit of a transfer.
     fn take_unit(
         &mut self,
-        alloc: Global,
         now: u64,
         phone: usize,
         tag: Tag,
@@ -288,18 +208,17 @@ impl Centre {
         match unit {
             TransferUnit::Submit(submission) => {
                 let check = self.check(now, phone, &submission);
-                self.settle(alloc, now, phone, tag, submission, check)
+                self.settle(now, phone, tag, submission, check)
             }
-            TransferUnit::Deliver(_) => refusal(alloc, now, tag, 21, 0xB0),
-            TransferUnit::OtherUnit => refusal(alloc, now, tag, 21, 0xB0),
-            TransferUnit::BadUnit => refusal(alloc, now, tag, 21, 0xFF),
+            TransferUnit::Deliver(_) => refusal(self.alloc, now, tag, 21, 0xB0),
+            TransferUnit::OtherUnit => refusal(self.alloc, now, tag, 21, 0xB0),
+            TransferUnit::BadUnit => refusal(self.alloc, now, tag, 21, 0xFF),
         }
     }
 
     /// Answers a submission as it was checked.
     fn settle(
         &mut self,
-        alloc: Global,
         now: u64,
         phone: usize,
         tag: Tag,
@@ -314,14 +233,14 @@ impl Centre {
         ensures phones { phones_of self.new ≡ phones_of self.old }
     {
         match check {
-            Check::Refuse { cause, failure } => refusal(alloc, now, tag, cause, failure),
+            Check::Refuse { cause, failure } => refusal(self.alloc, now, tag, cause, failure),
             Check::Accept {
                 recipient,
                 ends,
                 stamp,
             } => {
-                let step = approval(alloc, tag, stamp)?;
-                let origin = self.lines[phone].address.copy(alloc)?;
+                let step = approval(self.alloc, tag, stamp)?;
+                let origin = self.lines.address(phone).copy(self.alloc)?;
                 let key = HeldKey {
                     phone,
                     reference: submission.reference,
@@ -333,8 +252,7 @@ impl Centre {
                     stamp,
                     ends,
                 };
-                let line = &mut self.lines[recipient];
-                hold(&mut self.held, line, key, message)?;
+                self.lines.hold(&mut self.held, recipient, key, message)?;
                 Ok(step)
             }
         }
@@ -380,7 +298,7 @@ impl Centre {
         ensures is { result ≡ phone_at (phones_of self.now) target.now }
         ensures within { IfSome result (λ r. r < length (phones_of self.now)) }
     {
-        find(&self.lines, target)
+        self.lines.find(target)
     }
 
     /// Whether repeats are to be rejected, and a held message is the same.
@@ -422,8 +340,7 @@ impl Centre {
                 failure: 0xC0,
             };
         }
-        let line = &self.lines[recipient];
-        let stamp = line.free.max(now);
+        let stamp = self.lines.free(recipient).max(now);
         if stamp >= LAST_MOMENT {
             return Check::Refuse {
                 cause: 38,

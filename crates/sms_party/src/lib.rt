@@ -11,8 +11,9 @@ mod sender;
 
 pub use centre::Centre;
 pub use laws::{
-    carried_messages_are_read, octets_are_read_as_a_message, octets_are_read_as_one_message,
-    others_leave_sender, recipients_are_addressed, stamps_rise,
+    carried_messages_are_read, deliveries_have_own_keys, drops_put_nothing_out,
+    ended_texts_are_told, few_are_put_out, octets_are_read_as_a_message,
+    octets_are_read_as_one_message, others_leave_sender, recipients_are_addressed, stamps_rise,
 };
 pub use message::{Message, Relay, Report, Tag, TransferUnit};
 pub use outcome::{Dropped, Outcome, Step};

@@ -1,8 +1,9 @@
 //! A phone, which sends and receives.
 
-ghost use Rattle.std.specs.Prelude.{◌≡◌, ◌<◌, IfOk, OnErr};
+ghost use Rattle.std.specs.Prelude.{◌≡◌, ◌<◌, ◌≤◌, IfOk, OnErr, length};
 ghost use Rattle.std.specs.Str.{chars};
 ghost use Rattle.sms_party.specs.Sender.Calls.{times_out};
+ghost use Rattle.sms_party.specs.Sender.Value.{status_among, statuses_in};
 ghost use Rattle.sms_party.specs.Sender.Stands.{Steps, Types, TellsStatus, IsNewSender};
 ghost use Rattle.sms_party.specs.Receiver.State.{limits_of};
 ghost use Rattle.sms_party.specs.Receiver.Standing.{IsNew, AgesTo};
@@ -21,6 +22,7 @@ use std::marker::Model;
 /// A phone, which sends texts and receives them.
 #[derive(Drop)]
 pub struct Phone {
+    alloc: Global,
     sender: Sender,
     receiver: Receiver,
 }
@@ -63,51 +65,55 @@ impl Phone {
             IsNew (limits_of open_max remembered store) phone.receiver) }
     {
         Ok(Phone {
+            alloc,
             sender: Sender::new(alloc, width, reject),
             receiver: Receiver::new(alloc, open_max, remembered, store)?,
         })
     }
 
     /// Types a text to an address. If it answers an error, the phone is as it was.
-    pub fn type_text(
-        &mut self,
-        alloc: Global,
-        target: &Address,
-        text: &str,
-    ) -> Result<Step, Dropped>
+    pub fn type_text(&mut self, target: &Address, text: &str) -> Result<Step, Dropped>
         ensures types { Types target.now (chars text.now) self.old.sender result self.new.sender }
         ensures receiver { self.new.receiver ≡ self.old.receiver }
         ensures refused { OnErr result (self.new ≡ self.old) }
     {
-        self.sender.type_text(alloc, target, text)
+        self.sender.type_text(target, text)
     }
 
     /// No answer has come in time. If it answers an error, the phone is as it was.
-    pub fn timeout(&mut self, alloc: Global) -> Result<Step, Dropped>
+    pub fn timeout(&mut self) -> Result<Step, Dropped>
         ensures steps { Steps times_out self.old.sender result self.new.sender }
         ensures receiver { self.new.receiver ≡ self.old.receiver }
         ensures refused { OnErr result (self.new ≡ self.old) }
     {
-        self.sender.timeout(alloc)
+        self.sender.timeout()
+    }
+
+    /// How many texts were typed, those that have ended and those that wait.
+    pub fn typed(&self) -> usize
+        ensures { result ≡ length (statuses_in self.now.sender) }
+    {
+        self.sender.typed()
     }
 
     /// How the text of this number stands; the first typed text has number 1.
     pub fn status(&self, number: usize) -> Option<Status>
-        ensures { TellsStatus self.now.sender number result }
+        ensures tells { TellsStatus self.now.sender number result }
+        ensures value { result ≡ status_among (statuses_in self.now.sender) number }
     {
         self.sender.status(number)
     }
 
     /// Takes what comes to the phone. If it answers an error, the phone is as it was.
-    pub fn receive(&mut self, alloc: Global, now: u64, octets: &[u8]) -> Result<Step, Dropped>
+    pub fn receive(&mut self, now: u64, octets: &[u8]) -> Result<Step, Dropped>
         ensures receives { PhoneReceives now octets.now self.old result self.new }
         ensures refused { OnErr result (self.new ≡ self.old) }
     {
-        let message = read_message(alloc, octets)?;
+        let message = read_message(self.alloc, octets)?;
         if is_answer(&message) {
-            self.sender.take(alloc, message)
+            self.sender.take(message)
         } else {
-            self.receiver.take(alloc, now, message)
+            self.receiver.take(now, message)
         }
     }
 
@@ -119,9 +125,10 @@ impl Phone {
         self.receiver.age(now);
     }
 
-    /// The texts that came, in order of completion.
+    /// The texts that came, in order of completion: at most as many as the store has room for.
     pub fn store(&self) -> &[Entry]
-        ensures { result.now ≡ self.now.receiver.store }
+        ensures store { result.now ≡ self.now.receiver.store }
+        ensures few { length result.now ≤ self.now.receiver.limit }
     {
         self.receiver.store()
     }

@@ -1,6 +1,6 @@
 //! The receiving phone.
 
-ghost use Rattle.std.specs.Prelude.{◌≡◌, ◌<◌, nat_le, length, ◌&&◌, ℕ, IfOk, IfErr, OnErr};
+ghost use Rattle.std.specs.Prelude.{◌≡◌, ◌<◌, ◌≤◌, nat_le, length, ◌&&◌, ℕ, IfOk, IfErr, OnErr};
 ghost use Rattle.sms_field.specs.Coding.{alphabet_at};
 ghost use Rattle.sms_join.specs.declared.units.Units.{Units as Pieces};
 ghost use Rattle.sms_join.specs.Piece.{piece_of};
@@ -23,7 +23,7 @@ use crate::outcome::{Dropped, Outcome, Step};
 use crate::receiver::replying::{approval, refusal};
 use sms_field::{Address, Alphabet, Stamp, alphabet_of};
 use sms_join::laws::{agings_keep_same, answer_finishes, answers_alike, same_is_equivalence};
-use sms_join::{Joiner, Offer, OfferFault, Units, WideUnits};
+use sms_join::{Joiner, Offer, OfferFault, Ucs2Units, Units};
 use sms_relay::Side;
 use sms_text::units_of_octets;
 use sms_tpdu::{Body, Concat, Deliver, Header};
@@ -50,18 +50,22 @@ impl Model for Entry {
 /// A receiving phone.
 #[derive(Drop)]
 pub struct Receiver {
+    alloc: Global,
     limit: usize,
     joiner: Joiner,
-    /// In order of completion.
+    /// In order of completion; never more than the limit.
     store: Vec<Entry>,
 }
 
 impl Model for Receiver {
+    ghost use Rattle.std.specs.Prelude.{◌≤◌, length};
     ghost use Rattle.sms_party.specs.Receiver.Standing.{ReceiverValue};
 
     ghost Value = { ReceiverValue };
 
     ghost view = { λ r. record { limit = r.limit; joiner = r.joiner; store = r.store.items } };
+
+    ghost invariant = { λ r. length r.store.items ≤ r.limit };
 }
 
 /// The place of a segment that the header tells, if there is one and it tells one.
@@ -83,7 +87,7 @@ fn units_of(alloc: Global, alphabet: Alphabet, body: Body) -> Result<Option<Unit
         (Alphabet::Gsm7, Body::Septets(septets)) => Ok(Some(Units::Gsm(septets))),
         (Alphabet::Ucs2, Body::Octets(octets)) => {
             let units = units_of_octets(alloc, octets.as_slice())?;
-            Ok(Some(Units::Ucs2(WideUnits::new(units))))
+            Ok(Some(Units::Ucs2(Ucs2Units::new(units))))
         }
         _ => Ok(None),
     }
@@ -104,15 +108,17 @@ impl Receiver {
     {
         same_is_equivalence();
         Ok(Receiver {
+            alloc,
             limit: store,
             joiner: Joiner::new(alloc, open_max, remembered)?,
             store: Vec::new(alloc),
         })
     }
 
-    /// The texts that came, in order of completion.
+    /// The texts that came, in order of completion: at most as many as the store has room for.
     pub fn store(&self) -> &[Entry]
-        ensures { result.now ≡ self.now.store }
+        ensures store { result.now ≡ self.now.store }
+        ensures few { length result.now ≤ self.now.limit }
     {
         self.store.as_slice()
     }
@@ -128,21 +134,16 @@ impl Receiver {
 
     /// Takes what comes to the phone in a transaction that the centre has opened. If it answers an error, the phone is
     /// as it was.
-    pub fn receive(&mut self, alloc: Global, now: u64, octets: &[u8]) -> Result<Step, Dropped>
+    pub fn receive(&mut self, now: u64, octets: &[u8]) -> Result<Step, Dropped>
         ensures receives { ReceivesAs now octets.now self.old result self.new }
         ensures refused { OnErr result (self.new ≡ self.old) }
     {
-        let message = read_message(alloc, octets)?;
-        self.take(alloc, now, message)
+        let message = read_message(self.alloc, octets)?;
+        self.take(now, message)
     }
 
     /// Takes a message.
-    pub(crate) fn take(
-        &mut self,
-        alloc: Global,
-        now: u64,
-        message: Message,
-    ) -> Result<Step, Dropped>
+    pub(crate) fn take(&mut self, now: u64, message: Message) -> Result<Step, Dropped>
         requires tag { HasTag message }
         ensures steps { Steps (λ limits s origin. receiver_receives limits s now message origin)
             self.old result self.new }
@@ -152,27 +153,21 @@ impl Receiver {
             Message::NotCp => Err(Dropped::NotCp),
             Message::Note { .. } => Ok(Step {
                 outcome: Outcome::Noted,
-                packets: Vec::new(alloc),
+                packets: Vec::new(self.alloc),
             }),
             Message::Tiny { .. } => Err(Dropped::Unmatched),
             Message::Data { flag, tag, relay } => {
                 if flag {
                     Err(Dropped::Unmatched)
                 } else {
-                    self.take_request(alloc, now, tag, relay)
+                    self.take_request(now, tag, relay)
                 }
             }
         }
     }
 
     /// Takes a message of a transaction that the centre has opened.
-    fn take_request(
-        &mut self,
-        alloc: Global,
-        now: u64,
-        tag: Tag,
-        relay: Relay,
-    ) -> Result<Step, Dropped>
+    fn take_request(&mut self, now: u64, tag: Tag, relay: Relay) -> Result<Step, Dropped>
         requires tag { tag.value < 7 }
         ensures steps { Steps (λ limits s origin. receiver_opened limits s now tag relay origin)
             self.old result self.new }
@@ -181,43 +176,31 @@ impl Receiver {
         match relay {
             Relay::Transfer { side, unit } => match side {
                 Side::FromPhone => Err(Dropped::Unmatched),
-                Side::ToPhone => self.take_unit(alloc, now, tag, unit),
+                Side::ToPhone => self.take_unit(now, tag, unit),
             },
             Relay::Answer { .. } => Err(Dropped::Unmatched),
-            Relay::UnknownType => relay_refusal(alloc, Side::FromPhone, tag, 97),
-            Relay::Unreadable => relay_refusal(alloc, Side::FromPhone, tag, 96),
+            Relay::UnknownType => relay_refusal(self.alloc, Side::FromPhone, tag, 97),
+            Relay::Unreadable => relay_refusal(self.alloc, Side::FromPhone, tag, 96),
         }
     }
 
     /// Takes the unit of a transfer.
-    fn take_unit(
-        &mut self,
-        alloc: Global,
-        now: u64,
-        tag: Tag,
-        unit: TransferUnit,
-    ) -> Result<Step, Dropped>
+    fn take_unit(&mut self, now: u64, tag: Tag, unit: TransferUnit) -> Result<Step, Dropped>
         requires tag { tag.value < 7 }
         ensures steps { Steps (λ limits s origin. receiver_takes limits s now tag unit origin)
             self.old result self.new }
         ensures refused { OnErr result (self.new ≡ self.old) }
     {
         match unit {
-            TransferUnit::Deliver(delivery) => self.take_delivery(alloc, now, tag, delivery),
-            TransferUnit::Submit(_) => refusal(alloc, tag, 111, 0xB0),
-            TransferUnit::OtherUnit => refusal(alloc, tag, 111, 0xB0),
-            TransferUnit::BadUnit => refusal(alloc, tag, 111, 0xFF),
+            TransferUnit::Deliver(delivery) => self.take_delivery(now, tag, delivery),
+            TransferUnit::Submit(_) => refusal(self.alloc, tag, 111, 0xB0),
+            TransferUnit::OtherUnit => refusal(self.alloc, tag, 111, 0xB0),
+            TransferUnit::BadUnit => refusal(self.alloc, tag, 111, 0xFF),
         }
     }
 
     /// Takes a delivery.
-    fn take_delivery(
-        &mut self,
-        alloc: Global,
-        now: u64,
-        tag: Tag,
-        delivery: Deliver,
-    ) -> Result<Step, Dropped>
+    fn take_delivery(&mut self, now: u64, tag: Tag, delivery: Deliver) -> Result<Step, Dropped>
         requires tag { tag.value < 7 }
         ensures steps { Steps (λ limits s origin. offers_units limits s now tag delivery origin
             (units_in (alphabet_at delivery.dcs) delivery.user.body))
@@ -229,9 +212,9 @@ impl Receiver {
         let origin = delivery.origin;
         let user = delivery.user;
         let concat = concat_of(&user.header);
-        match units_of(alloc, alphabet, user.body)? {
-            None => refusal(alloc, tag, 111, 0x90),
-            Some(units) => self.take_piece(alloc, now, tag, origin, stamp, concat, units),
+        match units_of(self.alloc, alphabet, user.body)? {
+            None => refusal(self.alloc, tag, 111, 0x90),
+            Some(units) => self.take_piece(now, tag, origin, stamp, concat, units),
         }
     }
 
@@ -248,7 +231,6 @@ impl Receiver {
     /// Takes a message or a segment. All growths come before the joiner's, which is the last call that can fail.
     fn take_piece(
         &mut self,
-        alloc: Global,
         now: u64,
         tag: Tag,
         origin: Address,
@@ -267,10 +249,10 @@ impl Receiver {
         answer_finishes();
         same_is_equivalence();
         if self.is_full_for(&origin, stamp, concat) {
-            return refusal(alloc, tag, 22, 0xD3);
+            return refusal(self.alloc, tag, 22, 0xD3);
         }
         self.store.reserve(1)?;
-        let packets = approval(alloc, tag)?;
+        let packets = approval(self.alloc, tag)?;
         match self.joiner.offer(now, &origin, stamp, concat, units) {
             Ok(Offer::Repeat) => Ok(Step {
                 outcome: Outcome::Repeat,
@@ -287,7 +269,7 @@ impl Receiver {
                     packets,
                 })
             }
-            Err(OfferFault::TooManyOpen) => refusal(alloc, tag, 22, 0xD3),
+            Err(OfferFault::TooManyOpen) => refusal(self.alloc, tag, 22, 0xD3),
             Err(OfferFault::Memory) => Err(Dropped::Memory),
         }
     }

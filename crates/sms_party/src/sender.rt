@@ -7,7 +7,7 @@ ghost use Rattle.sms_party.specs.Message.Reading.{HasTag};
 ghost use Rattle.sms_party.specs.Centre.Pushes.{is_more};
 ghost use Rattle.sms_party.specs.Sender.Calls.{times_out};
 ghost use Rattle.sms_party.specs.Sender.Answers.{failure_of, accepts, sender_receives, sender_takes};
-ghost use Rattle.sms_party.specs.Sender.Value.{text_in, enters, first_put, waits_no_more, hears_at, text_put, following, next_set, counted, puts_again, puts_next, ends_first, CarriesOptional, Did};
+ghost use Rattle.sms_party.specs.Sender.Value.{text_in, enters, first_put, waits_no_more, hears_at, text_put, following, next_set, counted, puts_again, puts_next, ends_first, CarriesOptional, Did, status_among, statuses_in};
 ghost use Rattle.sms_party.specs.Sender.Stands.{Steps, Receives, Types, TellsStatus, IsNewSender};
 ghost use Rattle.sms_party.specs.declared.outcome.Dropped.TheVariants.{Memory};
 ghost use Rattle.sms_party.specs.declared.message.Message.{Message as MessageValue};
@@ -50,6 +50,7 @@ pub enum Status {
 /// A sending phone.
 #[derive(Drop)]
 pub struct Sender {
+    alloc: Global,
     width: Width,
     reject: bool,
     /// The texts that have not ended, the first typed first.
@@ -163,6 +164,7 @@ impl Sender {
             reference: 0,
         };
         Sender {
+            alloc,
             width,
             reject,
             pending: VecDeque::new(alloc),
@@ -176,9 +178,17 @@ impl Sender {
         }
     }
 
+    /// How many texts were typed, those that have ended and those that wait.
+    pub fn typed(&self) -> usize
+        ensures { result ≡ length (statuses_in self.now) }
+    {
+        self.ended.len() + self.pending.len()
+    }
+
     /// How the text of this number stands; the first typed text has number 1.
     pub fn status(&self, number: usize) -> Option<Status>
-        ensures { TellsStatus self.now number result }
+        ensures tells { TellsStatus self.now number result }
+        ensures value { result ≡ status_among (statuses_in self.now) number }
     {
         if number == 0 {
             return None;
@@ -193,36 +203,26 @@ impl Sender {
     }
 
     /// Types a text to an address. If it answers an error, the phone is as it was.
-    pub fn type_text(
-        &mut self,
-        alloc: Global,
-        target: &Address,
-        text: &str,
-    ) -> Result<Step, Dropped>
+    pub fn type_text(&mut self, target: &Address, text: &str) -> Result<Step, Dropped>
         ensures types { Types target.now (chars text.now) self.old result self.new }
         ensures refused { OnErr result (self.new ≡ self.old) }
     {
         if self.pending.len() >= PENDING_MAX {
             return Err(Dropped::Busy);
         }
-        let segments = split(alloc, text, self.width)?;
-        let text = self.text_of(alloc, target, segments)?;
-        self.enter(alloc, text)
+        let segments = split(self.alloc, text, self.width)?;
+        let text = self.text_of(target, segments)?;
+        self.enter(text)
     }
 
     /// The text of these segments, with the next references.
-    fn text_of(
-        &self,
-        alloc: Global,
-        target: &Address,
-        segments: Vec<Segment>,
-    ) -> Result<TypedText, AllocError>
+    fn text_of(&self, target: &Address, segments: Vec<Segment>) -> Result<TypedText, AllocError>
         requires few { length segments.items ≤ 255 }
         requires sendable { All (IsSendable self.now.width) segments.items }
         ensures { IfOk result (λ text. text ≡ text_in self.now target.now segments.items) }
     {
         Ok(TypedText {
-            target: target.copy(alloc)?,
+            target: target.copy(self.alloc)?,
             segments,
             reference: self.message_reference,
             width: self.width,
@@ -231,16 +231,16 @@ impl Sender {
     }
 
     /// Takes a text, and puts its first segment out where no other text waits.
-    fn enter(&mut self, alloc: Global, text: TypedText) -> Result<Step, Dropped>
+    fn enter(&mut self, text: TypedText) -> Result<Step, Dropped>
         requires { length text.segments ≤ 255 }
         ensures did { Did (enters self.old text) self.old result self.new }
         ensures refused { OnErr result (self.new ≡ self.old) }
     {
         let number = self.ended.len() + self.pending.len() + 1;
         let size = text.segments.len();
-        let submission = self.first_submission(alloc, &text)?;
+        let submission = self.first_submission(&text)?;
         let is_out = submission.is_some();
-        let packets = packets_of(alloc, None, submission)?;
+        let packets = packets_of(self.alloc, None, submission)?;
         self.pending.reserve(1)?;
         self.message_reference = self.message_reference.wrapping_add(size as u8);
         self.set_reference = next_set(self.width, size, self.set_reference);
@@ -251,48 +251,48 @@ impl Sender {
     }
 
     /// The packet of a text's first segment, where no other text waits.
-    fn first_submission(&self, alloc: Global, text: &TypedText) -> Result<Option<Vec<u8>>, Dropped>
+    fn first_submission(&self, text: &TypedText) -> Result<Option<Vec<u8>>, Dropped>
         ensures carries { IfOk result (λ packet.
             CarriesOptional packet (first_put self.now text.now)) }
         ensures err { IfErr result (λ e. e ≡ Memory) }
     {
         if self.pending.is_empty() {
-            text.packet(alloc, self.next, self.accepted, self.reject)
+            text.packet(self.alloc, self.next, self.accepted, self.reject)
         } else {
             Ok(None)
         }
     }
 
     /// Puts the waiting segment out once more; after three repeats its text has failed, and the next one's turn comes.
-    pub fn timeout(&mut self, alloc: Global) -> Result<Step, Dropped>
+    pub fn timeout(&mut self) -> Result<Step, Dropped>
         ensures steps { Steps times_out self.old result self.new }
         ensures refused { OnErr result (self.new ≡ self.old) }
     {
         if self.pending.is_empty() {
             return Ok(Step {
                 outcome: Outcome::Idle,
-                packets: Vec::new(alloc),
+                packets: Vec::new(self.alloc),
             });
         }
         let text = self.ended.len() + 1;
         if self.repeats < REPEATS_MAX {
-            self.repeat(alloc)
+            self.repeat()
         } else {
-            self.end(alloc, None, Outcome::GaveUp { text }, Status::Failed)
+            self.end(None, Outcome::GaveUp { text }, Status::Failed)
         }
     }
 
     /// Takes what comes to the phone in a transaction that it has opened. If it answers an error, the phone is as it was.
-    pub fn receive(&mut self, alloc: Global, octets: &[u8]) -> Result<Step, Dropped>
+    pub fn receive(&mut self, octets: &[u8]) -> Result<Step, Dropped>
         ensures receives { Receives octets.now self.old result self.new }
         ensures refused { OnErr result (self.new ≡ self.old) }
     {
-        let message = read_message(alloc, octets)?;
-        self.take(alloc, message)
+        let message = read_message(self.alloc, octets)?;
+        self.take(message)
     }
 
     /// Takes a message.
-    pub(crate) fn take(&mut self, alloc: Global, message: Message) -> Result<Step, Dropped>
+    pub(crate) fn take(&mut self, message: Message) -> Result<Step, Dropped>
         requires tag { HasTag message }
         ensures steps { Steps (λ x phone. sender_takes x phone message) self.old result self.new }
         ensures refused { OnErr result (self.new ≡ self.old) }
@@ -301,12 +301,12 @@ impl Sender {
             Message::NotCp => Err(Dropped::NotCp),
             Message::Note { .. } => Ok(Step {
                 outcome: Outcome::Noted,
-                packets: Vec::new(alloc),
+                packets: Vec::new(self.alloc),
             }),
             Message::Tiny { .. } => Err(Dropped::Unmatched),
             Message::Data { flag, tag, relay } => {
                 if flag {
-                    self.take_answer(alloc, tag, relay)
+                    self.take_answer(tag, relay)
                 } else {
                     Err(Dropped::Unmatched)
                 }
@@ -315,7 +315,7 @@ impl Sender {
     }
 
     /// Takes a message of a transaction that the phone has opened.
-    fn take_answer(&mut self, alloc: Global, tag: Tag, relay: Relay) -> Result<Step, Dropped>
+    fn take_answer(&mut self, tag: Tag, relay: Relay) -> Result<Step, Dropped>
         requires tag { tag.value < 7 }
         ensures steps { Steps (λ x phone. sender_receives x phone tag relay)
             self.old result self.new }
@@ -328,7 +328,7 @@ impl Sender {
                 report,
             } => match side {
                 Side::FromPhone => Err(Dropped::Unmatched),
-                Side::ToPhone => self.hear(alloc, tag, cause, &report),
+                Side::ToPhone => self.hear(tag, cause, &report),
             },
             Relay::Transfer { .. } => Err(Dropped::Unmatched),
             Relay::UnknownType => Err(Dropped::Unmatched),
@@ -339,7 +339,6 @@ impl Sender {
     /// Takes the answer to a putting out: an acknowledgement, or a refusal with a cause.
     fn hear(
         &mut self,
-        alloc: Global,
         tag: Tag,
         cause: Option<u8>,
         report: &Option<Report>,
@@ -356,7 +355,7 @@ impl Sender {
             return Err(Dropped::Unmatched);
         }
         let more = usize::from(self.accepted) + 1 < first.segments.len();
-        let note = acknowledgement(alloc, false, tag.value)?;
+        let note = acknowledgement(self.alloc, false, tag.value)?;
         let text = self.ended.len() + 1;
         if !accepts(cause, report) {
             let cause = cause.unwrap_or(0);
@@ -366,34 +365,23 @@ impl Sender {
                 cause,
                 failure,
             };
-            return self.end(alloc, Some(note), outcome, Status::Failed);
+            return self.end(Some(note), outcome, Status::Failed);
         }
         if more {
-            self.go_on(alloc, note)
+            self.go_on(note)
         } else {
-            self.end(
-                alloc,
-                Some(note),
-                Outcome::Accepted { text },
-                Status::Accepted,
-            )
+            self.end(Some(note), Outcome::Accepted { text }, Status::Accepted)
         }
     }
 
     /// The packet of a segment of a waiting text, if there are such a text and such a segment; both are counted from 0.
-    fn submission(
-        &self,
-        alloc: Global,
-        turn: usize,
-        place: u8,
-        reject: bool,
-    ) -> Result<Option<Vec<u8>>, Dropped>
+    fn submission(&self, turn: usize, place: u8, reject: bool) -> Result<Option<Vec<u8>>, Dropped>
         ensures carries { IfOk result (λ packet. CarriesOptional packet
             (text_put self.now.next reject place (slice_get self.now.pending turn))) }
         ensures err { IfErr result (λ e. e ≡ Memory) }
     {
         match self.pending.get(turn) {
-            Some(text) => text.packet(alloc, self.next, place, reject),
+            Some(text) => text.packet(self.alloc, self.next, place, reject),
             None => Ok(None),
         }
     }
@@ -410,15 +398,15 @@ impl Sender {
     }
 
     /// Puts the waiting segment out again.
-    fn repeat(&mut self, alloc: Global) -> Result<Step, Dropped>
+    fn repeat(&mut self) -> Result<Step, Dropped>
         requires { self.old.repeats < 3 }
         ensures did { Did (puts_again self.old) self.old result self.new }
         ensures refused { OnErr result (self.new ≡ self.old) }
     {
         let text = self.ended.len() + 1;
-        let submission = self.submission(alloc, 0, self.accepted, true)?;
+        let submission = self.submission(0, self.accepted, true)?;
         let is_out = submission.is_some();
-        let packets = packets_of(alloc, None, submission)?;
+        let packets = packets_of(self.alloc, None, submission)?;
         self.repeats += 1;
         self.count(is_out);
         let outcome = Outcome::Repeated { text };
@@ -426,7 +414,7 @@ impl Sender {
     }
 
     /// Puts the next segment of the first text out.
-    fn go_on(&mut self, alloc: Global, note: Vec<u8>) -> Result<Step, Dropped>
+    fn go_on(&mut self, note: Vec<u8>) -> Result<Step, Dropped>
         requires { self.old.accepted < 255 }
         ensures did { (messages : List MessageValue) → CarriesOptional (Some note) messages
             → Did (puts_next self.old messages) self.old result self.new }
@@ -434,9 +422,9 @@ impl Sender {
     {
         let text = self.ended.len() + 1;
         let segment = self.accepted + 1;
-        let submission = self.submission(alloc, 0, segment, self.reject)?;
+        let submission = self.submission(0, segment, self.reject)?;
         let is_out = submission.is_some();
-        let packets = packets_of(alloc, Some(note), submission)?;
+        let packets = packets_of(self.alloc, Some(note), submission)?;
         self.accepted = segment;
         self.repeats = 0;
         self.count(is_out);
@@ -450,7 +438,6 @@ impl Sender {
     /// Ends the first text, and puts the first segment of the next one out.
     fn end(
         &mut self,
-        alloc: Global,
         note: Option<Vec<u8>>,
         outcome: Outcome,
         status: Status,
@@ -459,9 +446,9 @@ impl Sender {
             → Did (ends_first self.old outcome status messages) self.old result self.new }
         ensures refused { OnErr result (self.new ≡ self.old) }
     {
-        let submission = self.submission(alloc, 1, 0, self.reject)?;
+        let submission = self.submission(1, 0, self.reject)?;
         let is_out = submission.is_some();
-        let packets = packets_of(alloc, note, submission)?;
+        let packets = packets_of(self.alloc, note, submission)?;
         self.ended.reserve(1)?;
         let _ended = self.pending.pop_front();
         self.ended.push_reserved(status);

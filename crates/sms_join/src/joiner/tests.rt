@@ -5,7 +5,7 @@ ghost use Rattle.sms_tpdu.specs.UserData.ConcatenationFound.{IsPlace};
 use super::*;
 use crate::cut::split;
 use crate::segment::Segment;
-use crate::units::WideUnits;
+use crate::units::Ucs2Units;
 use sms_text::gsm_of;
 use sms_tpdu::{Septets, Width};
 use std::process::Abort;
@@ -82,7 +82,7 @@ fn units_of(alloc: Global, piece: Piece) -> Result<Units, AllocError> {
             Some(septets) => Ok(Units::Gsm(Septets::new(septets))),
             None => Ok(Units::Gsm(Septets::new(Vec::new(alloc)))),
         },
-        Piece::Ucs2(unit) => Ok(Units::Ucs2(WideUnits::new(vec![in alloc; unit]?))),
+        Piece::Ucs2(unit) => Ok(Units::Ucs2(Ucs2Units::new(vec![in alloc; unit]?))),
     }
 }
 
@@ -95,7 +95,7 @@ fn copied(alloc: Global, units: &Units) -> Result<Units, AllocError> {
         }
         Units::Ucs2(units) => {
             let units = Vec::from_slice(alloc, units.as_slice())?;
-            Ok(Units::Ucs2(WideUnits::new(units)))
+            Ok(Units::Ucs2(Ucs2Units::new(units)))
         }
     }
 }
@@ -152,15 +152,13 @@ impl Row {
     }
 }
 
-/// The answer is what is wanted.
-fn expect(rt: &impl Abort, answer: Result<Offer, OfferFault>, want: Want, shows: &str) {
+/// Whether the answer is what is wanted.
+fn is_wanted(answer: &Result<Offer, OfferFault>, want: Want) -> bool {
     match (answer, want) {
-        (Ok(Offer::Repeat), Want::Repeat) | (Ok(Offer::Kept), Want::Kept) => {}
-        (Err(OfferFault::TooManyOpen), Want::TooManyOpen) => {}
-        (Ok(Offer::Finished(text)), Want::Finished(wanted)) => {
-            assert_eq!(rt; text.as_str(), wanted, "{shows}");
-        }
-        _ => assert!(rt; false, "{shows}"),
+        (Ok(Offer::Repeat), Want::Repeat) | (Ok(Offer::Kept), Want::Kept) => true,
+        (Err(OfferFault::TooManyOpen), Want::TooManyOpen) => true,
+        (Ok(Offer::Finished(text)), Want::Finished(wanted)) => text.as_str() == wanted,
+        _ => false,
     }
 }
 
@@ -180,8 +178,37 @@ fn offers(
     assert_eq!(rt; finishes, wanted, "{}", row.shows);
     let units = units_of(alloc, row.piece)?;
     let answer = joiner.offer(now, &origin, stamp, place, units);
-    expect(rt, answer, row.want, row.shows);
+    assert!(rt; is_wanted(&answer, row.want), "{}", row.shows);
     Ok(())
+}
+
+/// Whether an offer is answered as wanted, and where it wants memory, one more. The joiner says of the piece before and
+/// between what it said.
+fn is_answered(alloc: Global, joiner: &mut Joiner, row: &Row) -> Result<bool, AllocError> {
+    let origin = Address::from_text(alloc, row.from).map_err(|_| AllocError)?;
+    let stamp = Stamp::new([0; 7]);
+    let place = checked(row.place);
+    let units = units_of(alloc, row.piece)?;
+    let again = units_of(alloc, row.piece)?;
+    let finishes = joiner.would_finish(&origin, stamp, place);
+    let answer = joiner.offer(0, &origin, stamp, place, units);
+    if !matches!(&answer, Err(OfferFault::Memory)) {
+        return Ok(is_wanted(&answer, row.want));
+    }
+    let same = joiner.would_finish(&origin, stamp, place) == finishes;
+    let answer = joiner.offer(0, &origin, stamp, place, again);
+    Ok(same && is_wanted(&answer, row.want))
+}
+
+/// Whether a new joiner, with two open sets at most, answers all rows as wanted.
+fn are_answered(alloc: Global, rows: &[Row]) -> Result<bool, AllocError> {
+    let mut joiner = Joiner::new(alloc, 2, 2)?;
+    for row in rows {
+        if !is_answered(alloc, &mut joiner, row)? {
+            return Ok(false);
+        }
+    }
+    Ok(true)
 }
 
 /// One set may be open, and one key is remembered.
@@ -314,5 +341,39 @@ fn joins_in_any_order(rt: HostRuntime) -> Result<(), Fail> {
     let backwards = finishes_once(alloc, &longest, &reverse)?;
     let mixed = finishes_once(alloc, &longest, &shuffled)?;
     assert!(rt; backwards && mixed);
+    Ok(())
+}
+
+/// One growth is refused, whichever it is (docs/CONTRIBUTING.md says how): an offer that wants memory has changed
+/// nothing, and the same offer is then answered as where none was refused.
+#[test]
+fn answers_after_a_refused_growth(rt: HostRuntime) -> Result<(), Fail> {
+    let (alloc, eight) = (rt.alloc(), Width::Eight);
+    let (first, second) = (of_two(eight, 7, 1), of_two(eight, 7, 2));
+    let rows = [
+        Row::letters("opens", second, "b", Want::Kept),
+        Row::letters("opens another", of_two(eight, 8, 1), "x", Want::Kept),
+        Row::letters(
+            "one set too many",
+            of_two(eight, 9, 1),
+            "z",
+            Want::TooManyOpen,
+        ),
+        Row::letters("alone", None, "u", Want::Finished("u")),
+        Row::letters("there already", second, "b", Want::Repeat),
+        Row::letters("the last", first, "a", Want::Finished("ab")),
+        Row {
+            shows: "both alphabets",
+            from: "+1001",
+            place: of_two(eight, 8, 2),
+            piece: Piece::Ucs2(0x4F60),
+            want: Want::Finished("x你"),
+        },
+    ];
+    let answered = match are_answered(alloc, &rows) {
+        Ok(answered) => answered,
+        Err(_) => are_answered(alloc, &rows)?,
+    };
+    assert!(rt; answered);
     Ok(())
 }

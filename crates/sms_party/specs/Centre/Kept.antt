@@ -1,6 +1,6 @@
 -- What the code checks a submission against.
-use Rattle.std.specs.Prelude.{◌≡◌, ℕ, ◌<◌, max, Bool, false, ◌&&◌, ◌||◌, nat_lt, length, zero, suc, List, [], ◌∷◌, ◌++◌, Option, Some, None}
-use Rattle.std.specs.List.{IsDistinct}
+use Rattle.std.specs.Prelude.{◌≡◌, ℕ, ◌<◌, ◌≤◌, max, Bool, false, ◌&&◌, ◌||◌, nat_lt, length, zero, suc, List, [], ◌∷◌, ◌++◌, Option, Some, None}
+use Rattle.std.specs.List.{IsDistinct, filter}
 use Rattle.std.specs.Map.{keys_of, lookup}
 use Rattle.sms_tpdu.specs.Submit.{Submission}
 use Rattle.sms_party.specs.Centre.Checks.{Books}
@@ -24,6 +24,12 @@ is_kept last key now = ends_after now (lookup (key_eq key) last)
 pub record HoldsAlso (old : HeldValue) (key : HeldKey) (end : ℕ) (new : HeldValue) : Type 0 where
   pub ends : new.ends ≡ old.ends ++ end ∷ []
   pub kept : (other : HeldKey) (now : ℕ) → is_kept new.last other now ≡ ((nat_lt now end && key_eq key other) || is_kept old.last other now)
+  pub apart : IsDistinct key_eq (keys_of new.last)
+
+-- At a later moment those are left that end after it.
+pub record IsHeldLater (now : ℕ) (old new : HeldValue) : Type 0 where
+  pub ends : new.ends ≡ filter (nat_lt now) old.ends
+  pub kept : (key : HeldKey) (at : ℕ) → now ≤ at → is_kept new.last key at ≡ is_kept old.last key at
   pub apart : IsDistinct key_eq (keys_of new.last)
 
 abbrev pub free_at : List LineValue → ℕ → ℕ

@@ -1,6 +1,7 @@
 -- What the calls do at one recipient.
-use Rattle.std.specs.Prelude.{◌≡◌, ℕ, ◌+◌, ◌%◌, Bool, true, false, not, ◌&&◌, ◌==◌, nat_lt, if◌then◌else◌, List, [], ◌∷◌, ◌++◌, Option, Some, None, Result, Ok, Err}
+use Rattle.std.specs.Prelude.{◌≡◌, ℕ, ◌+◌, ◌%◌, ◌≤◌, All, slice_get, Bool, true, false, not, ◌&&◌, ◌==◌, nat_lt, if◌then◌else◌, List, [], ◌∷◌, ◌++◌, Option, Some, None, Result, Ok, Err}
 use Rattle.std.specs.List.{filter}
+use Rattle.std.proofs.Math.ListN.{set}
 use Rattle.sms_field.specs.AddressValue.{AddressValue}
 use Rattle.sms_tpdu.specs.Deliver.{Delivery}
 use Rattle.sms_relay.specs.declared.side.Side.TheVariants.{ToPhone}
@@ -82,6 +83,20 @@ HearsFor now tag cause line _ _ new = ⊥
 
 abbrev pub LineHears : ℕ → Tag → Option ℕ → LineValue → Result Step Dropped → LineValue → Type 0
 LineHears now tag cause line result new = HearsFor now tag cause line line.latest result new
+
+-- ---- the lines of all phones
+
+-- no message that waits at these lines ends before the moment
+abbrev pub AllEndFrom : ℕ → List LineValue → Type 0
+AllEndFrom earliest lines = All (λ line. All (λ m. earliest ≤ m.ends) line.queue) lines
+
+-- the line of this phone became another one in this way, and the others stay
+pub record ChangesLine (phone : ℕ) (old new : List LineValue) (How : LineValue → LineValue → Type 0) : Type 0 where
+  pub before : LineValue
+  pub after : LineValue
+  pub is_there : slice_get old phone ≡ Some before
+  pub others_stay : new ≡ set old phone after
+  pub how : How before after
 
 -- ---- an acceptance, at one line
 

@@ -9,7 +9,7 @@ use Rattle.sms_party.specs.Does.{Does, refuses_with}
 use Rattle.sms_party.specs.Centre.State.{Acceptance, Line, CentreState, changed}
 use Rattle.sms_party.specs.Centre.Checks.{books_of, checked_by}
 use Rattle.sms_party.specs.declared.message.TransferUnit.{TransferUnit}
-use Rattle.sms_party.specs.declared.message.TransferUnit.TheVariants.{Submit, Deliver, OtherUnit, BadUnit}
+use Rattle.sms_party.specs.declared.message.TransferUnit.TheVariants.{Submit, BadUnit}
 use Rattle.sms_party.specs.declared.message.Tag.{Tag}
 use Rattle.sms_party.specs.declared.centre.check.Check.{Check}
 use Rattle.sms_party.specs.declared.centre.check.Check.TheVariants.{Refuse, Accept}

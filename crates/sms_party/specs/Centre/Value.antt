@@ -51,14 +51,8 @@ phones_of v = addresses v.lines
 
 -- ---- what is left at a moment
 
-abbrev pub held_at : ℕ → HeldValue → HeldValue
-held_at now held = record { ends = filter (nat_lt now) held.ends; last = filter (λ e. nat_lt now e.1) held.last }
-
 abbrev pub waiting_at : ℕ → List WaitingValue → List WaitingValue
 waiting_at now queue = filter (λ m. nat_lt now m.ends) queue
 
 abbrev pub line_at : ℕ → LineValue → LineValue
 line_at now line = record line { queue = waiting_at now line.queue }
-
-abbrev pub centre_at : ℕ → CentreValue → CentreValue
-centre_at now v = record { limit = v.limit; held = held_at now v.held; lines = map (line_at now) v.lines }

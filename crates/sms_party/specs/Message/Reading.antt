@@ -1,5 +1,5 @@
 -- The message as which octets are read (3GPP TS 24.011, 7.2 and 7.3).
-use Rattle.std.specs.Prelude.{◌≡◌, ℕ, ◌<◌, Bool, List, [], ◌∷◌, length, Option, Some, None, Result, Err}
+use Rattle.std.specs.Prelude.{◌≡◌, ℕ, ◌<◌, Bool, List, ◌∷◌, length, Option, Some, None}
 use Rattle.sms_text.specs.Octets.{IsOctets}
 use Rattle.sms_field.specs.Reading.{Reads, IsReadable}
 use Rattle.sms_field.specs.Reasons.{StartsAs}

@@ -1,6 +1,6 @@
 -- An answer comes to a sender (3GPP TS 24.011, 7.3.3 and 7.3.4).
 use Rattle.std.specs.Prelude.{ℕ, suc, ◌-◌, Bool, true, false, if◌then◌else◌, ◌==◌, nat_lt, List, [], ◌∷◌, Option, Some, None, unwrap_or, Ok}
-use Rattle.sms_relay.specs.declared.side.Side.TheVariants.{FromPhone, ToPhone}
+use Rattle.sms_relay.specs.declared.side.Side.TheVariants.{ToPhone}
 use Rattle.sms_party.specs.declared.message.Report.{Report}
 use Rattle.sms_party.specs.declared.message.Report.TheVariants.{SubmitAck, SubmitError, DeliverAck, DeliverError}
 use Rattle.sms_party.specs.declared.message.Relay.{Relay}

@@ -1,5 +1,5 @@
 -- The states for which a sender's value stands, and what its calls answer.
-use Rattle.std.specs.Prelude.{◌≡◌, ℕ, zero, suc, ◌+◌, ◌-◌, ◌%◌, ◌<◌, Bool, true, false, if◌then◌else◌, List, [], ◌∷◌, ◌++◌, length, Option, Some, None, Result, Ok, Err}
+use Rattle.std.specs.Prelude.{◌≡◌, ℕ, suc, ◌+◌, ◌-◌, ◌%◌, ◌<◌, Bool, if◌then◌else◌, List, [], ◌∷◌, ◌++◌, length, Option, Some, Result, Err}
 use Rattle.sms_field.specs.AddressValue.{AddressValue}
 use Rattle.sms_tpdu.specs.declared.user_data.concat.Width.{Width}
 use Rattle.sms_join.specs.declared.units.Units.{Units}
@@ -10,15 +10,15 @@ use Rattle.sms_party.specs.declared.outcome.Step.{Step}
 use Rattle.sms_party.specs.declared.outcome.Dropped.{Dropped}
 use Rattle.sms_party.specs.declared.outcome.Dropped.TheVariants as dropped
 use Rattle.sms_party.specs.declared.sender.Status.{Status}
-use Rattle.sms_party.specs.declared.sender.Status.TheVariants.{Waiting, Accepted, Failed}
+use Rattle.sms_party.specs.declared.sender.Status.TheVariants.{Accepted, Failed}
 use Rattle.sms_party.specs.Message.{tag_of}
 use Rattle.sms_party.specs.Message.Reading.{ReadsAs}
 use Rattle.sms_party.specs.Sent.{nth, Sends, messages_of}
 use Rattle.sms_party.specs.Does.{Does, Answered}
 use Rattle.sms_party.specs.Sender.Texts.{Text, Sender, SenderState, new_senders, texts_of_phone, segments_of, sets_of, width_of, size_of}
-use Rattle.sms_party.specs.Sender.Calls.{composes, times_out}
+use Rattle.sms_party.specs.Sender.Calls.{composes}
 use Rattle.sms_party.specs.Sender.Answers.{sender_takes}
-use Rattle.sms_party.specs.Sender.Value.{TextValue, SenderValue}
+use Rattle.sms_party.specs.Sender.Value.{TextValue, SenderValue, status_among, all_waiting}
 
 -- What is kept of a text is text n of those typed, which has this number at its phone.
 pub record TextIs (phone number : ℕ) (texts : List Text) (v : TextValue) (n : ℕ) : Type 0 where
@@ -100,17 +100,6 @@ Types target text old (Err dropped.Busy) new =
     (pieces : List Units) → Steps (λ x phone. composes x phone target text pieces) old (Err dropped.Busy) new
 Types target text old result new =
     (pieces : List Units) × IsCut old.width text pieces × Steps (λ x phone. composes x phone target text pieces) old result new
-
--- how a text stands, by its number at its phone
-abbrev pub status_among : List Status → ℕ → Option Status
-status_among [] number = None
-status_among (status ∷ others) zero = None
-status_among (status ∷ others) (suc zero) = Some status
-status_among (status ∷ others) (suc (suc n)) = status_among others (suc n)
-
-abbrev pub all_waiting : List ℕ → List Status
-all_waiting [] = []
-all_waiting (n ∷ later) = Waiting ∷ all_waiting later
 
 -- Texts end in the order in which they were typed.
 abbrev pub status_of : SenderState → ℕ → ℕ → Option Status

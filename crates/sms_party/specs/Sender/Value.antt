@@ -1,5 +1,5 @@
 -- What the code of a sender holds, and what a call makes of it.
-use Rattle.std.specs.Prelude.{◌≡◌, ℕ, ◌+◌, ◌-◌, ◌%◌, Bool, true, false, if◌then◌else◌, ◌==◌, nat_lt, nat_le, List, [], ◌∷◌, ◌++◌, length, map, drop, Option, option_to_list, Some, None, unwrap_or, Result, Ok, Err, slice_get}
+use Rattle.std.specs.Prelude.{◌≡◌, ℕ, ◌+◌, ◌%◌, Bool, true, false, if◌then◌else◌, ◌==◌, nat_lt, List, [], ◌∷◌, ◌++◌, zero, suc, length, map, drop, Option, option_to_list, Some, None, unwrap_or, Result, Ok, Err, slice_get}
 use Rattle.std.specs.Global.{Global}
 use Rattle.std.proofs.Common.{Vec}
 use Rattle.sms_field.specs.AddressValue.{AddressValue}
@@ -53,6 +53,23 @@ pub record SenderValue : Type 0 where
   -- of the next putting out, and of the latest
   pub next : Tag
   pub latest : Tag
+
+-- ---- how the texts stand
+
+-- the one with this number; the first has number 1
+abbrev pub status_among : List Status → ℕ → Option Status
+status_among [] number = None
+status_among (status ∷ others) zero = None
+status_among (status ∷ others) (suc zero) = Some status
+status_among (status ∷ others) (suc (suc n)) = status_among others (suc n)
+
+abbrev pub all_waiting : {X : Type 0} → List X → List Status
+all_waiting [] = []
+all_waiting (x ∷ later) = Waiting ∷ all_waiting later
+
+-- of all texts that were typed, the first typed first
+abbrev pub statuses_in : SenderValue → List Status
+statuses_in v = v.ended ++ all_waiting v.pending
 
 -- ---- a segment is put out
 

@@ -1,8 +1,8 @@
 //! The messages that the centre holds.
 
-ghost use Rattle.std.specs.Prelude.{◌≡◌, ◌++◌, [], ◌∷◌, nat_lt, length, OnOk, OnErr};
-ghost use Rattle.sms_party.specs.Centre.Value.{HeldValue, held_at};
-ghost use Rattle.sms_party.specs.Centre.Kept.{is_kept, HoldsAlso};
+ghost use Rattle.std.specs.Prelude.{◌≡◌, ◌≤◌, ◌++◌, [], ◌∷◌, nat_lt, length, All, OnOk, OnErr};
+ghost use Rattle.sms_party.specs.Centre.Value.{HeldValue};
+ghost use Rattle.sms_party.specs.Centre.Kept.{is_kept, HoldsAlso, IsHeldLater};
 
 use indexmap::IndexMap;
 use std::alloc::{AllocError, Global};
@@ -21,19 +21,33 @@ pub(crate) struct HeldKey {
 pub(crate) struct HeldMessages {
     /// The end of each, in order of acceptance.
     ends: Vec<u64>,
+    /// None of them ends before this moment.
+    earliest: u64,
     /// For each key the greatest end of those that have it.
     last: IndexMap<HeldKey, u64>,
 }
 
 impl Model for HeldMessages {
     ghost use Rattle.indexmap.specs.IndexMap.{IsUnique};
+    ghost use Rattle.std.specs.Prelude.{◌≤◌, All};
     ghost use Rattle.sms_party.specs.Centre.Value.{HeldValue, key_eq};
 
     ghost Value = { HeldValue };
 
     ghost view = { λ h. record { ends = h.ends.items; last = h.last.entries } };
 
-    ghost invariant = { λ h. IsUnique key_eq h.last };
+    ghost invariant = { λ h. IsUnique key_eq h.last × All (λ e. h.earliest ≤ e) h.ends.items };
+}
+
+/// A moment before which none of these ends is.
+fn earliest_of(ends: &[u64]) -> u64
+    ensures { All (λ e. result ≤ e) ends.now }
+{
+    let mut earliest = u64::MAX;
+    for end in ends {
+        earliest = earliest.min(*end);
+    }
+    earliest
 }
 
 impl HeldMessages {
@@ -43,6 +57,7 @@ impl HeldMessages {
     {
         HeldMessages {
             ends: Vec::new(alloc),
+            earliest: u64::MAX,
             last: IndexMap::new(alloc),
         }
     }
@@ -64,16 +79,20 @@ impl HeldMessages {
         }
     }
 
-    /// Forgets those that have ended.
+    /// Forgets those that have ended. Where none has, it looks at no message.
     pub(crate) fn forget(&mut self, now: u64)
-        ensures { self.new ≡ held_at now self.old }
+        ensures { IsHeldLater now self.old self.new }
     {
+        if now < self.earliest {
+            return;
+        }
         self.ends.retain(|end| *end > now);
         self.last.retain(
             |_key: &HeldKey, end: &mut u64| -> bool
                 ensures { (result ≡ nat_lt now end.old) × (end.new ≡ end.old) }
             { *end > now },
         );
+        self.earliest = earliest_of(&self.ends);
     }
 
     /// Holds one more, with this key, to this end. If memory runs out, nothing has changed.
@@ -88,6 +107,7 @@ impl HeldMessages {
         };
         self.last.insert(key, greatest)?;
         self.ends.push_reserved(end);
+        self.earliest = self.earliest.min(end);
         Ok(())
     }
 }

@@ -1,6 +1,6 @@
 //! What the centre knows of one recipient.
 
-ghost use Rattle.std.specs.Prelude.{◌≡◌, ◌<◌, false, IfOk, IfErr};
+ghost use Rattle.std.specs.Prelude.{◌≡◌, ◌<◌, ◌≤◌, false, All, IfOk, IfErr};
 ghost use Rattle.sms_relay.specs.declared.side.Side.TheVariants.{ToPhone};
 ghost use Rattle.sms_party.specs.declared.message.Message.TheVariants.{Data};
 ghost use Rattle.sms_party.specs.declared.message.Relay.TheVariants.{Transfer};
@@ -8,7 +8,7 @@ ghost use Rattle.sms_party.specs.declared.message.TransferUnit.TheVariants.{Deli
 ghost use Rattle.sms_party.specs.Message.Carrying.{Carries};
 ghost use Rattle.sms_party.specs.Centre.Verdicts.{stays, verdict};
 ghost use Rattle.sms_party.specs.Centre.Value.{line_at};
-ghost use Rattle.sms_party.specs.Centre.Lines.{delivery_of, left_waiting, LinePushes, LineHears};
+ghost use Rattle.sms_party.specs.Centre.Lines.{delivery_of, new_line, left_waiting, LinePushes, LineHears};
 ghost use Rattle.sms_party.specs.declared.outcome.Dropped.TheVariants.{Memory};
 
 use crate::centre::waiting::{Push, WaitingMessage};
@@ -17,7 +17,8 @@ use crate::message::packets::{acknowledgement, address_of_centre, wrapped};
 use crate::outcome::{Dropped, Outcome, Step};
 use sms_field::Address;
 use sms_relay::{Side, wrap_transfer};
-use std::alloc::Global;
+use std::alloc::{AllocError, Global};
+use std::collections::VecDeque;
 use std::marker::Model;
 
 /// What the centre knows of one recipient.
@@ -25,7 +26,7 @@ use std::marker::Model;
 pub(crate) struct Line {
     pub address: Address,
     /// What is to be delivered, in order of its latest acceptance or push.
-    pub queue: Vec<WaitingMessage>,
+    pub queue: VecDeque<WaitingMessage>,
     /// No stamp below this one is given any more.
     pub free: u64,
     /// The transaction value and the reference of the next push.
@@ -103,7 +104,7 @@ fn stays(cause: Option<u8>) -> bool
 }
 
 /// Takes the message with this stamp from the queue, as the answer to its push says.
-fn take_out(queue: &mut Vec<WaitingMessage>, stamp: u64, cause: Option<u8>)
+fn take_out(queue: &mut VecDeque<WaitingMessage>, stamp: u64, cause: Option<u8>)
     ensures { queue.new.items ≡ left_waiting queue.old.items stamp cause }
 {
     if !stays(cause) {
@@ -112,6 +113,31 @@ fn take_out(queue: &mut Vec<WaitingMessage>, stamp: u64, cause: Option<u8>)
 }
 
 impl Line {
+    /// A line with nothing, at this address.
+    pub(crate) fn new(alloc: Global, phone: &Address) -> Result<Line, AllocError>
+        ensures { IfOk result (λ line. line ≡ new_line phone.now) }
+    {
+        Ok(Line {
+            address: phone.copy(alloc)?,
+            queue: VecDeque::new(alloc),
+            free: 0,
+            value: 0,
+            reference: 0,
+            latest: None,
+        })
+    }
+
+    /// A moment before which no message of the queue ends.
+    pub(crate) fn earliest(&self) -> u64
+        ensures { All (λ m. result ≤ m.ends) self.now.queue }
+    {
+        let mut earliest = u64::MAX;
+        for place in 0..self.queue.len() {
+            earliest = earliest.min(self.queue[place].ends);
+        }
+        earliest
+    }
+
     /// Removes the messages whose validity has ended.
     pub(crate) fn advance(&mut self, now: u64)
         ensures { self.new ≡ line_at now self.old }
@@ -123,13 +149,13 @@ impl Line {
     pub(crate) fn push(&mut self, alloc: Global) -> Result<Step, Dropped>
         ensures { LinePushes self.old result self.new }
     {
-        let Some((first, others)) = self.queue.as_slice().split_first() else {
+        let Some(first) = self.queue.front() else {
             return Ok(Step {
                 outcome: Outcome::NothingWaits,
                 packets: Vec::new(alloc),
             });
         };
-        let more = !others.is_empty();
+        let more = self.queue.len() > 1;
         let packet = delivery_packet(alloc, self.value, self.reference, first, more)?;
         let latest = Push {
             value: self.value,

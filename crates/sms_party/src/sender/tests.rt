@@ -283,16 +283,11 @@ static EARLY: [Row; 2] = [
 ];
 
 /// Makes the call of a row.
-fn called(
-    alloc: Global,
-    sender: &mut Sender,
-    target: &Address,
-    row: &Row,
-) -> Result<Step, Dropped> {
+fn called(sender: &mut Sender, target: &Address, row: &Row) -> Result<Step, Dropped> {
     match row.call {
-        Call::Type { text } => sender.type_text(alloc, target, text),
-        Call::Receive { octets } => sender.receive(alloc, octets),
-        Call::Timeout => sender.timeout(alloc),
+        Call::Type { text } => sender.type_text(target, text),
+        Call::Receive { octets } => sender.receive(octets),
+        Call::Timeout => sender.timeout(),
     }
 }
 
@@ -316,9 +311,9 @@ fn is_of(told: &Result<Step, Dropped>, row: &Row) -> bool {
 fn differs(alloc: Global, sender: &mut Sender, rows: &[Row]) -> Result<Option<&'static str>, Fail> {
     let target = Address::from_text(alloc, "+1002")?;
     for row in rows {
-        let mut told = called(alloc, sender, &target, row);
+        let mut told = called(sender, &target, row);
         if let Err(Dropped::Memory) = told {
-            told = called(alloc, sender, &target, row);
+            told = called(sender, &target, row);
         }
         if !is_of(&told, row) {
             return Ok(Some(row.name));
@@ -354,6 +349,7 @@ fn hears_refusals(rt: HostRuntime) -> Result<(), Fail> {
     assert_eq!(rt; differs(rt.alloc(), &mut sender, &REFUSED)?, None);
     assert_eq!(rt; sender.status(1), Some(Status::Accepted));
     assert_eq!(rt; sender.status(2), Some(Status::Failed));
+    assert_eq!(rt; sender.typed(), 3);
     let mut sender = Sender::new(rt.alloc(), Width::Eight, true);
     assert_eq!(rt; differs(rt.alloc(), &mut sender, &EARLY)?, None);
     assert_eq!(rt; sender.status(1), Some(Status::Accepted));
@@ -392,13 +388,13 @@ fn numbers_the_segments_of_a_text(rt: HostRuntime) -> Result<(), Fail> {
     let mut sender = Sender::new(rt.alloc(), Width::Sixteen, false);
     let target = Address::from_text(rt.alloc(), "+1002")?;
     let text = letters(rt.alloc(), 161)?;
-    let step = sender.type_text(rt.alloc(), &target, text.as_str())?;
+    let step = sender.type_text(&target, text.as_str())?;
     assert_eq!(rt; step.outcome, Outcome::Typed { text: 1 });
     let front: &[u8] =
         b"\x09\x01\x9D\x00\x00\x00\x03\x91\x01\x00\x95\x41\x00\x04\x91\x01\x20\x00\x00\xA0\x06\x08\x04\x00\x00\x02\x01";
     let wanted = with_letters(rt.alloc(), front, 19, b"")?;
     assert_eq!(rt; packet(&step, 0), wanted.as_slice());
-    let step = sender.receive(rt.alloc(), b"\x89\x01\x02\x03\x00")?;
+    let step = sender.receive(b"\x89\x01\x02\x03\x00")?;
     assert_eq!(rt;
         step.outcome,
         Outcome::Segment {
@@ -411,7 +407,7 @@ fn numbers_the_segments_of_a_text(rt: HostRuntime) -> Result<(), Fail> {
         packet(&step, 1),
         b"\x19\x01\x20\x00\x01\x00\x03\x91\x01\x00\x18\x41\x01\x04\x91\x01\x20\x00\x00\x11\x06\x08\x04\x00\x00\x02\x02\xE1\x70\x38\x1C\x0E\x87\xC3\x61".as_slice()
     );
-    let step = sender.receive(rt.alloc(), b"\x99\x01\x02\x03\x01")?;
+    let step = sender.receive(b"\x99\x01\x02\x03\x01")?;
     assert_eq!(rt; step.outcome, Outcome::Accepted { text: 1 });
     assert_eq!(rt; sender.status(1), Some(Status::Accepted));
     Ok(())
@@ -422,7 +418,7 @@ fn refuses_too_many_segments(rt: HostRuntime) -> Result<(), Fail> {
     let mut sender = Sender::new(rt.alloc(), Width::Eight, false);
     let target = Address::from_text(rt.alloc(), "+1002")?;
     let text = letters(rt.alloc(), 39_016)?;
-    match sender.type_text(rt.alloc(), &target, text.as_str()) {
+    match sender.type_text(&target, text.as_str()) {
         Ok(_) => assert!(rt; false),
         Err(why) => assert_eq!(rt; why, Dropped::TooManySegments),
     }
@@ -435,16 +431,17 @@ fn refuses_too_many_texts(rt: HostRuntime) -> Result<(), Fail> {
     let mut sender = Sender::new(rt.alloc(), Width::Eight, false);
     let target = Address::from_text(rt.alloc(), "+1002")?;
     for _ in 0..1000 {
-        let _step = sender.type_text(rt.alloc(), &target, "")?;
+        let _step = sender.type_text(&target, "")?;
     }
-    match sender.type_text(rt.alloc(), &target, "") {
+    match sender.type_text(&target, "") {
         Ok(_) => assert!(rt; false),
         Err(why) => assert_eq!(rt; why, Dropped::Busy),
     }
     assert_eq!(rt; sender.status(1000), Some(Status::Waiting));
     assert_eq!(rt; sender.status(1001), None);
-    let _step = sender.receive(rt.alloc(), b"\x89\x01\x02\x03\x00")?;
-    let step = sender.type_text(rt.alloc(), &target, "")?;
+    assert_eq!(rt; sender.typed(), 1000);
+    let _step = sender.receive(b"\x89\x01\x02\x03\x00")?;
+    let step = sender.type_text(&target, "")?;
     assert_eq!(rt; step.outcome, Outcome::Typed { text: 1001 });
     Ok(())
 }

@@ -16,7 +16,8 @@ use std::test::Fail;
 /// The address +100 and this digit.
 fn phone(alloc: Global, last: u8) -> Result<Address, AllocError>
     requires { last < 10 }
-    ensures { IfOk result (λ a. a ≡ record { kind = 1; plan = 1; symbols = symbols.Digits (1 ∷ 0 ∷ 0 ∷ last ∷ []) }) }
+    ensures { let number = symbols.Digits (1 ∷ 0 ∷ 0 ∷ last ∷ []) in
+        IfOk result (λ a. a ≡ record { kind = 1; plan = 1; symbols = number }) }
 {
     let digits = vec![in alloc; 1, 0, 0, last]?;
     Ok(Address {
@@ -48,9 +49,9 @@ fn new_fixture(alloc: Global, held: usize) -> Result<Fixture, Fail>
 fn called(alloc: Global, fixture: &mut Fixture, row: &Row) -> Result<Step, Dropped> {
     match row.call {
         Call::Receive { phone, octets } if phone < 3 && row.now < 3_155_760_000 => {
-            fixture.centre.receive(alloc, row.now, phone, octets)
+            fixture.centre.receive(row.now, phone, octets)
         }
-        Call::Push { phone } if phone < 3 => fixture.centre.push(alloc, row.now, phone),
+        Call::Push { phone } if phone < 3 => fixture.centre.push(row.now, phone),
         _ => {
             fixture.centre.advance(row.now);
             Ok(Step {

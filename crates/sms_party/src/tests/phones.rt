@@ -16,7 +16,8 @@ use std::test::Fail;
 /// The address +100 and this digit.
 fn address(alloc: Global, last: u8) -> Result<Address, AllocError>
     requires { last < 10 }
-    ensures { IfOk result (λ a. a ≡ record { kind = 1; plan = 1; symbols = symbols.Digits (1 ∷ 0 ∷ 0 ∷ last ∷ []) }) }
+    ensures { let number = symbols.Digits (1 ∷ 0 ∷ 0 ∷ last ∷ []) in
+        IfOk result (λ a. a ≡ record { kind = 1; plan = 1; symbols = number }) }
 {
     let digits = vec![in alloc; 1, 0, 0, last]?;
     Ok(Address {
@@ -39,6 +40,20 @@ fn new_net(alloc: Global) -> Result<Net, Fail> {
     let phones = [address(alloc, 1)?, address(alloc, 2)?];
     let centre = Centre::new(alloc, 1000, &phones)?;
     Ok(Net { centre })
+}
+
+/// The centre takes what comes from a phone.
+fn receives(net: &mut Net, phone: usize, octets: &[u8]) -> Result<Step, Dropped>
+    requires { phone < 2 }
+{
+    net.centre.receive(0, phone, octets)
+}
+
+/// The centre pushes to a phone.
+fn pushes(net: &mut Net, phone: usize) -> Result<Step, Dropped>
+    requires { phone < 2 }
+{
+    net.centre.push(0, phone)
 }
 
 /// A phone that asks to reject duplicates from the first putting out on, or does not.
@@ -71,25 +86,27 @@ fn one_text_goes_its_way(rt: HostRuntime) -> Result<(), Fail> {
     let mut net = new_net(alloc)?;
     let mut a = phone(alloc, false)?;
     let mut b = phone(alloc, false)?;
-    let typed = a.type_text(alloc, &address(alloc, 2)?, "hi")?;
+    let typed = a.type_text(&address(alloc, 2)?, "hi")?;
     let submission: &[u8] =
         b"\x09\x01\x13\x00\x00\x00\x03\x91\x01\x00\x0B\x01\x00\x04\x91\x01\x20\x00\x00\x02\xE8\x34";
     assert!(rt; is(&typed, Outcome::Typed { text: 1 }, &[submission]));
-    let held = net.centre.receive(alloc, 0, 0, packet(&typed, 0))?;
+    let held = receives(&mut net, 0, packet(&typed, 0))?;
     let report: &[u8] = b"\x89\x01\x0D\x03\x00\x41\x09\x01\x00\x00\x10\x10\x00\x00\x00\x00";
     assert!(rt; is(&held, Outcome::Held, &[b"\x89\x04", report]));
-    let pushed = net.centre.push(alloc, 0, 1)?;
+    let pushed = pushes(&mut net, 1)?;
     let delivery: &[u8] =
         b"\x09\x01\x19\x01\x00\x03\x91\x01\x00\x00\x11\x04\x04\x91\x01\x10\x00\x00\x00\x10\x10\x00\x00\x00\x00\x02\xE8\x34";
     assert!(rt; is(&pushed, Outcome::Pushed, &[delivery]));
-    let finished = b.receive(alloc, 0, packet(&pushed, 0))?;
+    let finished = b.receive(0, packet(&pushed, 0))?;
     let thanks: &[u8] = b"\x89\x01\x06\x02\x00\x41\x02\x00\x00";
     assert!(rt; is(&finished, Outcome::Finished, &[b"\x89\x04", thanks]));
-    let delivered = net.centre.receive(alloc, 0, 1, packet(&finished, 1))?;
+    let delivered = receives(&mut net, 1, packet(&finished, 1))?;
     assert!(rt; is(&delivered, Outcome::Delivered, &[b"\x09\x04"]));
-    let accepted = a.receive(alloc, 0, packet(&held, 1))?;
+    let accepted = a.receive(0, packet(&held, 1))?;
     assert!(rt; is(&accepted, Outcome::Accepted { text: 1 }, &[b"\x09\x04"]));
     assert_eq!(rt; a.status(1), Some(Status::Accepted));
+    assert_eq!(rt; a.typed(), 1);
+    assert_eq!(rt; b.typed(), 0);
     assert_eq!(rt; a.store().len(), 0);
     assert_eq!(rt; b.store().len(), 1);
     Ok(())
@@ -100,13 +117,13 @@ fn a_duplicate_is_rejected_early(rt: HostRuntime) -> Result<(), Fail> {
     let alloc = rt.alloc();
     let mut net = new_net(alloc)?;
     let mut a = phone(alloc, true)?;
-    let typed = a.type_text(alloc, &address(alloc, 2)?, "hi")?;
+    let typed = a.type_text(&address(alloc, 2)?, "hi")?;
     let submission: &[u8] =
         b"\x09\x01\x13\x00\x00\x00\x03\x91\x01\x00\x0B\x05\x00\x04\x91\x01\x20\x00\x00\x02\xE8\x34";
     assert!(rt; is(&typed, Outcome::Typed { text: 1 }, &[submission]));
-    let held = net.centre.receive(alloc, 0, 0, packet(&typed, 0))?;
+    let held = receives(&mut net, 0, packet(&typed, 0))?;
     assert_eq!(rt; held.outcome, Outcome::Held);
-    let refused = net.centre.receive(alloc, 0, 0, packet(&typed, 0))?;
+    let refused = receives(&mut net, 0, packet(&typed, 0))?;
     let report: &[u8] =
         b"\x89\x01\x10\x05\x00\x01\x15\x41\x0A\x01\xC5\x00\x00\x10\x10\x00\x00\x00\x00";
     let outcome = Outcome::Refused {
@@ -114,9 +131,9 @@ fn a_duplicate_is_rejected_early(rt: HostRuntime) -> Result<(), Fail> {
         failure: Some(0xC5),
     };
     assert!(rt; is(&refused, outcome, &[b"\x89\x04", report]));
-    let accepted = a.receive(alloc, 0, packet(&refused, 1))?;
+    let accepted = a.receive(0, packet(&refused, 1))?;
     assert!(rt; is(&accepted, Outcome::Accepted { text: 1 }, &[b"\x09\x04"]));
-    match a.receive(alloc, 0, packet(&held, 1)) {
+    match a.receive(0, packet(&held, 1)) {
         Ok(_) => assert!(rt; false),
         Err(why) => assert_eq!(rt; why, Dropped::Unmatched),
     }
@@ -127,11 +144,11 @@ fn a_duplicate_is_rejected_early(rt: HostRuntime) -> Result<(), Fail> {
 fn a_phone_tells_answers_by_their_flag(rt: HostRuntime) -> Result<(), Fail> {
     let alloc = rt.alloc();
     let mut phone = phone(alloc, false)?;
-    match phone.receive(alloc, 0, b"\x09\x01\x05\x00") {
+    match phone.receive(0, b"\x09\x01\x05\x00") {
         Ok(_) => assert!(rt; false),
         Err(why) => assert_eq!(rt; why, Dropped::NotCp),
     }
-    let refused = phone.receive(alloc, 0, b"\x09\x01\x02\x06\x05")?;
+    let refused = phone.receive(0, b"\x09\x01\x02\x06\x05")?;
     let outcome = Outcome::Refused {
         cause: 97,
         failure: None,
@@ -143,90 +160,10 @@ fn a_phone_tells_answers_by_their_flag(rt: HostRuntime) -> Result<(), Fail> {
             &[b"\x89\x04", b"\x89\x01\x04\x04\x05\x01\x61"]
         )
     );
-    match phone.receive(alloc, 0, b"\x89\x01\x02\x06\x05") {
+    match phone.receive(0, b"\x89\x01\x02\x06\x05") {
         Ok(_) => assert!(rt; false),
         Err(why) => assert_eq!(rt; why, Dropped::Unmatched),
     }
-    assert_eq!(rt; phone.timeout(alloc)?.outcome, Outcome::Idle);
-    Ok(())
-}
-
-/// As many letters `a`.
-fn letters(alloc: Global, count: usize) -> Result<String, Fail> {
-    let mut text = String::new(alloc);
-    for _ in 0..count {
-        text.push('a')?;
-    }
-    Ok(text)
-}
-
-/// Sends the three segments of a text to the centre.
-fn send_three(alloc: Global, net: &mut Net, text: &str) -> Result<(), Fail> {
-    let mut a = phone(alloc, false)?;
-    let mut step = a.type_text(alloc, &address(alloc, 2)?, text)?;
-    for place in [0, 1, 1] {
-        let told = net.centre.receive(alloc, 0, 0, packet(&step, place))?;
-        step = a.receive(alloc, 0, packet(&told, 1))?;
-    }
-    Ok(())
-}
-
-/// The packets of three pushes.
-fn push_three(alloc: Global, net: &mut Net) -> Result<Vec<Vec<u8>>, Fail> {
-    let mut packets = Vec::new(alloc);
-    for _ in 0..3 {
-        let pushed = net.centre.push(alloc, 0, 1)?;
-        packets.push(Vec::from_slice(alloc, packet(&pushed, 0))?)?;
-    }
-    Ok(packets)
-}
-
-/// Brings a packet to a phone twice, and says whether the second one is a repeat.
-fn is_repeat(alloc: Global, phone: &mut Phone, packet: &[u8]) -> Result<bool, Fail> {
-    let _first = phone.receive(alloc, 0, packet)?;
-    let again = phone.receive(alloc, 0, packet)?;
-    Ok(again.outcome == Outcome::Repeat)
-}
-
-/// Brings each of the packets twice, in an order, and says whether the store then has the text once.
-fn is_stored_once(
-    alloc: Global,
-    packets: &[Vec<u8>],
-    order: [usize; 3],
-    text: &str,
-) -> Result<bool, Fail> {
-    let mut b = phone(alloc, false)?;
-    for place in order {
-        let Some(packet) = packets.get(place) else {
-            return Ok(false);
-        };
-        if !is_repeat(alloc, &mut b, packet.as_slice())? {
-            return Ok(false);
-        }
-    }
-    match b.store() {
-        [entry] => Ok(entry.text.as_str() == text),
-        _ => Ok(false),
-    }
-}
-
-#[test]
-fn three_segments_come_in_any_order(rt: HostRuntime) -> Result<(), Fail> {
-    let alloc = rt.alloc();
-    let mut net = new_net(alloc)?;
-    let text = letters(alloc, 307)?;
-    send_three(alloc, &mut net, text.as_str())?;
-    let packets = push_three(alloc, &mut net)?;
-    let orders = [
-        [0, 1, 2],
-        [0, 2, 1],
-        [1, 0, 2],
-        [1, 2, 0],
-        [2, 0, 1],
-        [2, 1, 0],
-    ];
-    for order in orders {
-        assert!(rt; is_stored_once(alloc, packets.as_slice(), order, text.as_str())?);
-    }
+    assert_eq!(rt; phone.timeout()?.outcome, Outcome::Idle);
     Ok(())
 }

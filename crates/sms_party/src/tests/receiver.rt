@@ -48,9 +48,9 @@ fn differs(alloc: Global, limits: &Limits, rows: &[Row]) -> Result<Option<&'stat
     let mut phone = Receiver::new(alloc, limits.open_max, limits.remembered, limits.store)?;
     for row in rows {
         phone.age(row.now);
-        let mut told = phone.receive(alloc, row.now, row.octets);
+        let mut told = phone.receive(row.now, row.octets);
         if let Err(Dropped::Memory) = told {
-            told = phone.receive(alloc, row.now, row.octets);
+            told = phone.receive(row.now, row.octets);
         }
         if !is_of(&told, row) || !has_texts(phone.store(), row.store) {
             return Ok(Some(row.name));

@@ -8,7 +8,7 @@ use Rattle.sms_join.proofs.SegmentTexts.{one_text_more}
 use Rattle.sms_join.proofs.reading.joined_texts.Goals as goal
 
 pub loop-units-init : goal.loop-units-init
-loop-units-init c = ap (λ l. chars l ++ flat_map text_of_units (lent c.args.segments.now)) c.new-joined.ensures.bytes ∙ ap (λ l. l ++ flat_map text_of_units (lent c.args.segments.now)) chars-nil
+loop-units-init c = ap (λ l. chars l ++ flat_map text_of_units (lent c.args.segments.now)) c.in_ok-joined.ensures.bytes ∙ ap (λ l. l ++ flat_map text_of_units (lent c.args.segments.now)) chars-nil
 
 pub loop-units-preserved : goal.loop-units-preserved
 loop-units-preserved c =

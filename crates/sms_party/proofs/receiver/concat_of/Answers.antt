@@ -1,4 +1,4 @@
-use Rattle.std.proofs.Common.{sym, ap, ◌∙◌, Some}
+use Rattle.std.proofs.Common.{sym, ap, ◌∙◌}
 use Rattle.sms_tpdu.specs.UserData.ConcatenationFound.{concat_of_header}
 use Rattle.sms_party.proofs.receiver.concat_of.Goals as goal
 

@@ -1,7 +1,5 @@
 -- The sets that stay are those that are not old.
-use Rattle.std.proofs.Common.{rules, ◌≡◌, List, sym, ap, subst, ◌∙◌}
-use Rattle.std.proofs.lemmas.Fn.{filter_same}
-use Rattle.std.specs.List.{filter}
+use Rattle.std.proofs.Common.{◌≡◌, List, sym, ap, subst, ◌∙◌}
 use Rattle.sms_join.specs.declared.key.Key.{Key}
 use Rattle.sms_join.specs.Aging.{aged}
 use Rattle.sms_join.specs.JoinerValue.{JoinerValue}
@@ -13,19 +11,16 @@ use Rattle.sms_join.proofs.Offers.{same_refl}
 use Rattle.sms_join.proofs.Outcomes.{joiner_of}
 use Rattle.sms_join.proofs.joiner.Joiner.age.Goals as goal
 
-retained : (c : goal.After-retain) → c.retain.new.self.items ≡ filter (stays c.args.now) c.self.inside.sets.items
-retained c = filter_same _ _ _ (λ x b f' k. search rules) _ _ c.retain.ensures.filtered
-
 pub invariant_of-self : goal.invariant_of-self
-invariant_of-self c = subst AreOpen (sym (retained c)) (still_open (stays c.args.now) c.self.inside.sets.items c.self.invariant)
+invariant_of-self c = subst AreOpen (sym c.age.ensures) (still_open (stays c.args.now) c.self.inside.sets c.self.invariant)
 
 pub returns-clause-holds : goal.returns-clause-holds
 unfolding aged
 returns-clause-holds c =
     let ks : List Key = c.self.inside.finished.keys in
-    let ss : List SetValue = c.self.inside.sets.items in
-    let same : all_pieces c.retain.new.self.items ≡ (aged c.args.now (joiner_of ss ks)).kept =
-    ap all_pieces (retained c) ∙ sets_age c.args.now ss c.self.invariant in
-    subst (λ (v : JoinerValue). IsSame (joiner_of c.retain.new.self.items ks) (aged c.args.now v.holds)) c.self.view_is
+    let ss : List SetValue = c.self.inside.sets in
+    let same : all_pieces c.age.new.self ≡ (aged c.args.now (joiner_of ss ks)).kept =
+    ap all_pieces c.age.ensures ∙ sets_age c.args.now ss c.self.invariant in
+    subst (λ (v : JoinerValue). IsSame (joiner_of c.age.new.self ks) (aged c.args.now v.holds)) c.self.view_is
     (subst (λ (l : List Piece). IsSame (record { kept = l; finished = ks }) (aged c.args.now (joiner_of ss ks))) (sym same)
     (same_refl (aged c.args.now (joiner_of ss ks))))

@@ -1,4 +1,4 @@
-use Rattle.std.proofs.Common.{sym, ap, ◌∙◌, Ok, Err}
+use Rattle.std.proofs.Common.{sym, ap, ◌∙◌, Err}
 use Rattle.sms_tpdu.specs.Submit.{Submission}
 use Rattle.sms_party.specs.Address.{phone_at}
 use Rattle.sms_field.specs.Times.{end_of}

@@ -1,4 +1,4 @@
-use Rattle.std.proofs.Common.{List, ap, sym, subst, ◌∙◌}
+use Rattle.std.proofs.Common.{ap, sym, subst, ◌∙◌}
 use Rattle.sms_party.specs.Centre.State.{new_centre}
 use Rattle.sms_party.specs.Centre.Value.{HeldValue, addresses}
 use Rattle.sms_party.specs.Centre.Standing.{StandsFor}
@@ -7,8 +7,8 @@ use Rattle.sms_party.proofs.centre.Centre.new.Goals as goal
 
 pub returns-clause-stands : goal.returns-clause-stands
 returns-clause-stands c = λ clock.
-    subst (λ (h : HeldValue). StandsFor c.args.held c.args.phones.now clock (record { limit = c.args.held; held = h; lines = c.in_ok-new_lines.field-0.items }) new_centre) (sym c.new.ensures)
-    (new_centre_stands c.args.held c.args.phones.now c.in_ok-new_lines.field-0.items c.in_ok-new_lines.ensures clock)
+    subst (λ (h : HeldValue). StandsFor c.args.held c.args.phones.now clock (record { limit = c.args.held; held = h; lines = c.in_ok-new.field-0 }) new_centre) (sym c.new.ensures)
+    (new_centre_stands c.args.held c.args.phones.now c.in_ok-new.field-0 c.in_ok-new.ensures clock)
 
 pub returns-clause-phones : goal.returns-clause-phones
-returns-clause-phones c = ap addresses c.in_ok-new_lines.ensures ∙ new_addresses c.args.phones.now
+returns-clause-phones c = ap addresses c.in_ok-new.ensures ∙ new_addresses c.args.phones.now

@@ -1,18 +1,15 @@
-use Rattle.std.proofs.Common.{◌≡◌, ◌<◌, max, length, sym, ap, subst, ◌∙◌, Ok}
-use Rattle.std.proofs.Math.ListN.{set}
-use Rattle.std.proofs.Common.{List, [], ◌∷◌, ◌++◌}
+use Rattle.std.proofs.Common.{◌≡◌, List, max, sym, ap, subst, ◌∙◌, Ok}
 use Rattle.sms_field.specs.AddressValue.{AddressValue}
 use Rattle.sms_tpdu.specs.Submit.{Submission}
 use Rattle.sms_party.specs.declared.centre.check.Check.{Check}
 use Rattle.sms_party.specs.Centre.State.{Acceptance}
-use Rattle.sms_party.specs.Centre.Submissions.{checked}
+use Rattle.sms_party.specs.Centre.Submissions.{checked, accept}
 use Rattle.sms_party.specs.Centre.Value.{CentreValue, LineValue, phones_of}
 use Rattle.sms_party.specs.Centre.Standing.{StandsFor}
 use Rattle.sms_party.specs.Centre.Calls.{CentreAnswers, IsCheckIn}
-use Rattle.sms_party.specs.Centre.Kept.{IsLawfulCheck, free_at, key_of, HoldsAlso}
-use Rattle.sms_party.proofs.Lines.{addresses_set, line_here}
-use Rattle.sms_party.proofs.Taking.{as_many, puts_answer}
-use Rattle.sms_party.proofs.Accepting.{accepted_stands, waiting_from}
+use Rattle.sms_party.specs.Centre.Kept.{free_at, key_of, HoldsAlso}
+use Rattle.sms_party.proofs.Taking.{puts_answer}
+use Rattle.sms_party.proofs.Accepting.{accepted_stands, accepted_phones, waiting_from}
 use Rattle.sms_party.proofs.centre.Centre.settle.Goals as goal
 
 pub returns-in-Refuse-clause-steps : goal.returns-in-Refuse-clause-steps
@@ -24,32 +21,27 @@ returns-in-Refuse-clause-steps c = λ h limit phones s origin stands.
 pub returns-in_ok-hold-in-Accept-clause-steps : goal.returns-in_ok-hold-in-Accept-clause-steps
 unfolding checked
 returns-in_ok-hold-in-Accept-clause-steps c = λ h limit phones s origin stands.
-    let v : CentreValue = record { limit = c.self.inside.limit; held = c.self.inside.held; lines = c.self.inside.lines.items } in
+    let v : CentreValue = record { limit = c.self.inside.limit; held = c.self.inside.held; lines = c.self.inside.lines } in
     let a : Acceptance = record { phone = c.args.phone; submission = c.args.submission; recipient = c.in-Accept.recipient; stamp = c.in-Accept.stamp; ends = c.in-Accept.ends; origin = origin } in
     let known = subst (λ (k : Check). IsCheckIn c.args.now c.args.phone c.args.submission k c.args.self.now) c.in-Accept.is h in
-    let lawful = subst (λ (k : Check). IsLawfulCheck c.args.self.now k) c.in-Accept.is c.requires.check in
     let p = c.in_ok-step-in-Accept.ensures in
     let back = sym c.self.view_is in
     let reference = ap (λ (x : Submission). x.reference) c.submission-in-Accept.view_is in
+    let held = c.in_ok-hold-in-Accept.ensures.line in
     subst (λ (k : Check). CentreAnswers limit phones c.args.now s (checked s c.args.now c.args.phone c.args.tag c.args.submission origin k) (Ok c.in_ok-step-in-Accept.step)
-    (record { limit = c.self.inside.limit; held = c.hold.new.held; lines = set c.self.inside.lines.items c.in-Accept.recipient c.hold.new.line })) (sym c.in-Accept.is) (
+    (record { limit = c.self.inside.limit; held = c.hold.new.held; lines = c.hold.new.self })) (sym c.in-Accept.is) (
       ap Ok (sym p.0),
       p.1,
-      accepted_stands limit phones c.args.now v s (subst (λ (w : CentreValue). StandsFor limit phones c.args.now w s) back stands) a c.hold.new.held c.index.result.now c.index_mut-line.result.now c.hold.new.line _
-          (line_here c.args.phone v c.index.result.now (subst (λ (w : CentreValue). c.args.phone < length w.lines) back (subst (λ n. c.args.phone < n) (as_many c.args.self.now.lines) c.requires.phone)) c.index.ensures)
-          (line_here c.in-Accept.recipient v c.index_mut-line.result.now (subst (λ (w : CentreValue). c.in-Accept.recipient < length w.lines) back (subst (λ n. c.in-Accept.recipient < n) (as_many c.args.self.now.lines) lawful.0)) c.index_mut-line.ensures.value)
+      subst (λ (lines : List LineValue). StandsFor limit phones c.args.now (record { limit = c.self.inside.limit; held = c.hold.new.held; lines = lines }) (accept s a)) (sym held.others_stay)
+          (accepted_stands limit phones c.args.now v s (subst (λ (w : CentreValue). StandsFor limit phones c.args.now w s) back stands) a c.hold.new.held held.before held.after _
+          held.is_there
           (subst (λ (w : CentreValue). c.in-Accept.stamp ≡ max (free_at w.lines c.in-Accept.recipient) c.args.now) back known.0)
           known.1
           (subst (λ n. HoldsAlso c.self.inside.held (key_of c.args.phone n c.in-Accept.recipient) c.in-Accept.ends c.hold.new.held) reference c.in_ok-hold-in-Accept.ensures.held)
-          c.in_ok-hold-in-Accept.ensures.line
-          (ap (λ (o : AddressValue). waiting_from o a) (c.in_ok-origin-in-Accept.ensures ∙ ap (λ (l : LineValue). l.address) c.behind-self.view_is)),
+          held.how
+          (ap (λ (o : AddressValue). waiting_from o a) (c.in_ok-origin-in-Accept.ensures ∙ c.address.ensures))),
     )
 
 pub returns-in_ok-hold-in-Accept-clause-phones : goal.returns-in_ok-hold-in-Accept-clause-phones
 returns-in_ok-hold-in-Accept-clause-phones c =
-    let v : CentreValue = record { limit = c.self.inside.limit; held = c.self.inside.held; lines = c.self.inside.lines.items } in
-    let lawful = subst (λ (k : Check). IsLawfulCheck c.args.self.now k) c.in-Accept.is c.requires.check in
-    addresses_set v.lines c.in-Accept.recipient c.index_mut-line.result.now c.hold.new.line
-    (line_here c.in-Accept.recipient v c.index_mut-line.result.now (subst (λ (w : CentreValue). c.in-Accept.recipient < length w.lines) (sym c.self.view_is) (subst (λ n. c.in-Accept.recipient < n) (as_many c.args.self.now.lines) lawful.0)) c.index_mut-line.ensures.value)
-    (ap (λ (l : LineValue). l.address) c.in_ok-hold-in-Accept.ensures.line)
-    ∙ ap phones_of c.self.view_is
+    accepted_phones c.in-Accept.recipient c.self.inside.lines c.hold.new.self _ c.in_ok-hold-in-Accept.ensures.line ∙ ap phones_of c.self.view_is

@@ -1,35 +1,30 @@
-use Rattle.std.proofs.Common.{sym, ap, subst, ◌∙◌, Err}
+use Rattle.std.proofs.Common.{List, sym, ap, subst, ◌∙◌, Err}
 use Rattle.sms_relay.specs.declared.side.Side.{Side}
 use Rattle.sms_party.specs.declared.message.Relay.{Relay}
 use Rattle.sms_party.specs.declared.message.Relay.TheVariants.{Answer}
 use Rattle.sms_party.specs.declared.outcome.Dropped.TheVariants.{Unmatched}
 use Rattle.sms_party.specs.Centre.{centre_answered}
-use Rattle.sms_party.specs.Centre.Value.{CentreValue, phones_of}
+use Rattle.sms_party.specs.Centre.Verdicts.{centre_hears}
+use Rattle.sms_party.specs.Centre.Value.{LineValue, CentreValue, phones_of}
 use Rattle.sms_party.specs.Centre.Standing.{StandsFor}
 use Rattle.sms_party.specs.Centre.Calls.{CentreAnswers}
-use Rattle.sms_party.proofs.Lines.{addresses_set, line_here}
-use Rattle.sms_party.proofs.Taking.{as_many, nothing_comes}
-use Rattle.sms_party.proofs.Hearing.{hear_steps, heard_address}
-use Rattle.std.proofs.Common.{◌<◌, length}
-use Rattle.std.proofs.Math.ListN.{set}
+use Rattle.sms_party.proofs.Taking.{nothing_comes}
+use Rattle.sms_party.proofs.Hearing.{hear_steps, heard_phones}
 use Rattle.sms_party.proofs.centre.Centre.take_answer.Goals as goal
 
 pub returns-in-FromPhone-clause-steps : goal.returns-in-FromPhone-clause-steps
 unfolding centre_answered
 returns-in-FromPhone-clause-steps c = λ limit phones s origin stands.
-    subst (λ (r : Relay). CentreAnswers limit phones c.args.now s (centre_answered s c.args.now c.args.phone c.args.tag r) (c.hear.result) (record { limit = c.self.inside.limit; held = c.self.inside.held; lines = set c.self.inside.lines.items c.args.phone c.hear.new.self })) (sym (c.in-Answer.is ∙ ap (λ (x : Side). Answer x c.in-Answer.cause c.in-Answer.report) c.in-FromPhone.is))
-    (let v : CentreValue = record { limit = c.self.inside.limit; held = c.self.inside.held; lines = c.self.inside.lines.items } in
-    hear_steps limit phones c.args.now v s c.args.phone c.index_mut-line.result.now c.hear.new.self
-    (line_here c.args.phone v c.index_mut-line.result.now (subst (λ (w : CentreValue). c.args.phone < length w.lines) (sym c.self.view_is) (subst (λ n. c.args.phone < n) (as_many c.args.self.now.lines) c.requires.phone)) c.index_mut-line.ensures.value)
-    (subst (λ (w : CentreValue). StandsFor limit phones c.args.now w s) (sym c.self.view_is) stands) c.args.tag c.in-Answer.cause c.hear.result c.hear.ensures)
+    let v : CentreValue = record { limit = c.self.inside.limit; held = c.self.inside.held; lines = c.self.inside.lines } in
+    let h = c.hear.ensures in
+    subst (λ (r : Relay). CentreAnswers limit phones c.args.now s (centre_answered s c.args.now c.args.phone c.args.tag r) c.hear.result (record { limit = v.limit; held = v.held; lines = c.hear.new.self })) (sym (c.in-Answer.is ∙ ap (λ (x : Side). Answer x c.in-Answer.cause c.in-Answer.report) c.in-FromPhone.is))
+    (subst (λ (lines : List LineValue). CentreAnswers limit phones c.args.now s (centre_hears s c.args.now c.args.phone c.args.tag c.in-Answer.cause (s.line c.args.phone).latest) c.hear.result (record { limit = v.limit; held = v.held; lines = lines })) (sym h.others_stay)
+    (hear_steps limit phones c.args.now v s c.args.phone h.before h.after h.is_there
+    (subst (λ (w : CentreValue). StandsFor limit phones c.args.now w s) (sym c.self.view_is) stands) c.args.tag c.in-Answer.cause c.hear.result h.how))
 
 pub returns-in-FromPhone-clause-phones : goal.returns-in-FromPhone-clause-phones
 returns-in-FromPhone-clause-phones c =
-    let v : CentreValue = record { limit = c.self.inside.limit; held = c.self.inside.held; lines = c.self.inside.lines.items } in
-    addresses_set v.lines c.args.phone c.index_mut-line.result.now c.hear.new.self
-    (line_here c.args.phone v c.index_mut-line.result.now (subst (λ (w : CentreValue). c.args.phone < length w.lines) (sym c.self.view_is) (subst (λ n. c.args.phone < n) (as_many c.args.self.now.lines) c.requires.phone)) c.index_mut-line.ensures.value)
-    (heard_address c.args.now c.args.tag c.in-Answer.cause c.index_mut-line.result.now c.hear.new.self c.hear.result c.hear.ensures)
-    ∙ ap phones_of c.self.view_is
+    heard_phones c.args.now c.args.tag c.in-Answer.cause c.args.phone c.self.inside.lines c.hear.new.self c.hear.result c.hear.ensures ∙ ap phones_of c.self.view_is
 
 pub returns-in-Answer-clause-steps : goal.returns-in-Answer-clause-steps
 unfolding centre_answered

@@ -1,4 +1,4 @@
-use Rattle.std.proofs.Common.{◌≡◌, sym, ap, subst, ◌∙◌}
+use Rattle.std.proofs.Common.{sym, subst, ◌∙◌}
 use Rattle.sms_party.specs.Phone.{PhoneValue, PhoneReceives}
 use Rattle.sms_party.proofs.Phones.{received}
 use Rattle.sms_party.proofs.phone.Phone.receive.Goals as goal

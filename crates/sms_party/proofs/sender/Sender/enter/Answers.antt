@@ -1,7 +1,6 @@
-use Rattle.std.proofs.Common.{ℕ, ◌+◌, ◌%◌, ◌++◌, List, [], ◌∷◌, Option, Some, None, Vec, map, drop, length, ◌≡◌, refl, sym, ap, ◌∙◌, subst, Ok, arith}
+use Rattle.std.proofs.Common.{ℕ, ◌+◌, ◌%◌, ◌++◌, List, [], ◌∷◌, None, Vec, map, length, ◌≡◌, sym, ap, ◌∙◌, Ok}
 use Rattle.std.specs.Global.{Global}
 use Rattle.std.specs.Option.{option_to_list}
-use Rattle.std.specs.List.{slice_get}
 use Rattle.sms_party.specs.declared.message.Message.{Message}
 use Rattle.sms_party.specs.declared.outcome.Outcome.TheVariants as outcome
 use Rattle.sms_party.specs.Does.{CarriesEach}

@@ -1,13 +1,12 @@
-use Rattle.std.proofs.Common.{true, ℕ, ◌+◌, ◌++◌, List, [], ◌∷◌, Option, Some, None, Vec, map, drop, length, ◌≡◌, refl, sym, ap, ◌∙◌, subst, Ok, arith}
+use Rattle.std.proofs.Common.{true, ℕ, ◌+◌, List, [], None, Vec, map, length, ◌≡◌, sym, ap, ◌∙◌, subst, Ok}
 use Rattle.std.specs.Global.{Global}
 use Rattle.std.specs.Option.{option_to_list}
 use Rattle.std.specs.List.{slice_get}
 use Rattle.sms_party.specs.declared.message.Message.{Message}
 use Rattle.sms_party.specs.declared.outcome.Outcome.TheVariants as outcome
-use Rattle.sms_party.specs.declared.sender.Status.{Status}
 use Rattle.sms_party.specs.Does.{CarriesEach}
-use Rattle.sms_party.specs.Sender.Value.{TextValue, SenderValue, text_put, counted, repeated, stepped, ended_with}
-use Rattle.sms_party.proofs.SenderParts.{carried, is_out, second_first}
+use Rattle.sms_party.specs.Sender.Value.{SenderValue, text_put, counted, repeated}
+use Rattle.sms_party.proofs.SenderParts.{carried, is_out}
 use Rattle.sms_party.proofs.sender.Sender.repeat.Goals as goal
 
 pub returns-clause-did : goal.returns-clause-did

@@ -1,4 +1,4 @@
-use Rattle.std.proofs.Common.{ℕ, ◌+◌, ◌≡◌, ◌≢◌, length, drop, [], Ok, refl, sym, ap, ◌∙◌, subst, arith}
+use Rattle.std.proofs.Common.{ℕ, ◌+◌, ◌≡◌, length, drop, [], Ok, refl, ap, ◌∙◌, subst, arith}
 use Rattle.sms_party.specs.declared.outcome.Outcome.TheVariants.{Idle, GaveUp}
 use Rattle.sms_party.specs.declared.outcome.Step.{Step}
 use Rattle.sms_party.specs.declared.sender.Status.TheVariants.{Failed}

@@ -1,5 +1,5 @@
-use Rattle.std.proofs.Common.{◌≡◌, ◌<◌, ◌%◌, ◌+◌, refl, sym, ap, subst, ◌∙◌, rules, arith}
-use Rattle.sms_field.specs.AddressValue.{AddressValue, HasSpelling}
+use Rattle.std.proofs.Common.{◌≡◌, ◌<◌, refl, sym, subst, arith}
+use Rattle.sms_field.specs.AddressValue.{HasSpelling}
 use Rattle.sms_field.specs.Coding.{alphabet_at}
 use Rattle.sms_field.specs.declared.coding.Alphabet.{Alphabet}
 use Rattle.sms_tpdu.specs.UserData.{FitsAlphabet}

@@ -1,0 +1,14 @@
+use Rattle.std.proofs.Common.{ap, ◌∙◌}
+use Rattle.std.specs.List.{position}
+use Rattle.sms_join.specs.declared.key.Key.{Key}
+use Rattle.sms_join.specs.Key.{same_key}
+use Rattle.sms_join.specs.OpenSet.{SetValue}
+use Rattle.sms_join.specs.Piece.{key_of}
+use Rattle.sms_join.proofs.Slots.{place_same}
+use Rattle.sms_join.proofs.open_sets.OpenSets.find.Goals as goal
+
+pub returns : goal.returns
+returns c =
+    c.find_key.ensures
+    ∙ (place_same (λ (k : Key). same_key k (key_of c.args.origin.now c.args.stamp c.args.concat)) c.self.inside.slots.entries
+    ∙ ap (position (λ (s : SetValue). same_key s.key (key_of c.args.origin.now c.args.stamp c.args.concat))) c.self.view_is)

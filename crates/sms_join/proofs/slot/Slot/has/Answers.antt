@@ -1,0 +1,21 @@
+use Rattle.std.proofs.Common.{◌≡◌, ℕ, ◌-◌, List, length, Option, None, is_some, get_or, sym, ap, ◌∙◌, arith}
+use Rattle.std.proofs.lemmas.List.{get_or_default}
+use Rattle.sms_join.specs.declared.units.Units.{Units}
+use Rattle.sms_join.specs.OpenSet.{is_in}
+use Rattle.sms_join.specs.Slots.{SlotValue, filled_from}
+use Rattle.sms_join.proofs.Slots.{in_place}
+use Rattle.sms_join.proofs.slot.Slot.has.Goals as goal
+
+pub returns : goal.returns
+returns c =
+    let ps : List (Option Units) = c.self.inside.places.items in
+    let i : ℕ = c.from.result - 1 in
+    let first = c.requires.first in
+    let last = c.requires.last in
+    let number = c.from.ensures in
+    let same : length ps ≡ length c.args.self.now.places = ap (λ (v : SlotValue). length v.places) c.self.view_is in
+    let read : c.index.result.now ≡ get_or ps i None = c.index.ensures ∙ get_or_default ps i c.index.result.now None (omega arith) in
+    c.is_some.ensures
+    ∙ (ap is_some read
+    ∙ (sym (in_place 1 c.args.sequence ps i (omega arith))
+    ∙ ap (λ (v : SlotValue). is_in c.args.sequence (filled_from 1 v.places)) c.self.view_is))

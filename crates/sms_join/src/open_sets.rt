@@ -1,0 +1,177 @@
+//! The sets of pieces that are not whole.
+
+ghost use Rattle.std.specs.Prelude.{◌≡◌, ℕ, suc, ◌+◌, ◌<◌, ◌≤◌, [], ◌∷◌, ◌++◌, ◌==◌, not, nat_le, length, position, true, false, IfOk, OnOk, OnErr};
+ghost use Rattle.std.proofs.Math.ListN.{set};
+ghost use Rattle.std.specs.List.{filter, remove};
+ghost use Rattle.std.specs.Str.{chars};
+ghost use Rattle.std.specs.String.{string_bytes};
+ghost use Rattle.indexmap.specs.IndexMap.{keys};
+ghost use Rattle.sms_join.specs.Finishing.{lacks_only};
+ghost use Rattle.sms_join.specs.Key.{same_key, maximum_of};
+ghost use Rattle.sms_join.specs.OpenSet.{has_set, is_in, with_piece};
+ghost use Rattle.sms_join.specs.Piece.{key_of};
+ghost use Rattle.sms_join.specs.Reading.{text_of_segments};
+ghost use Rattle.sms_join.specs.Slots.{At, HasPlace};
+
+use crate::key::Key;
+use crate::slot::Slot;
+use crate::units::Units;
+use indexmap::IndexMap;
+use sms_field::{Address, Stamp};
+use sms_tpdu::Concat;
+use std::alloc::{AllocError, Global};
+use std::marker::Model;
+
+/// The open sets, each known by its key.
+#[derive(Drop)]
+pub(crate) struct OpenSets {
+    slots: IndexMap<Key, Slot>,
+}
+
+impl Model for OpenSets {
+    ghost use Rattle.std.specs.Prelude.{List};
+    ghost use Rattle.sms_join.specs.OpenSet.{SetValue};
+    ghost use Rattle.sms_join.specs.Slots.{AreSlots, sets_of};
+
+    ghost Value = { List SetValue };
+
+    ghost view = { λ o. sets_of o.slots.entries };
+
+    ghost invariant = { λ o. AreSlots o.slots.entries };
+}
+
+/// Which of the sets such a message or segment is of.
+fn find_key(
+    slots: &IndexMap<Key, Slot>,
+    origin: &Address,
+    stamp: Stamp,
+    concat: Option<Concat>,
+) -> Option<usize>
+    ensures { result
+        ≡ position (λ key. same_key key (key_of origin.now stamp concat)) (keys slots.now) }
+{
+    slots
+        .keys()
+        .position(|key| key.is_of(origin, stamp, concat))
+}
+
+impl OpenSets {
+    /// None.
+    pub(crate) fn new(alloc: Global) -> OpenSets
+        ensures { result ≡ [] }
+    {
+        OpenSets {
+            slots: IndexMap::new(alloc),
+        }
+    }
+
+    /// How many there are.
+    pub(crate) fn count(&self) -> usize
+        ensures { result ≡ length self.now }
+    {
+        self.slots.len()
+    }
+
+    /// Which of them such a message or segment is of.
+    pub(crate) fn find(
+        &self,
+        origin: &Address,
+        stamp: Stamp,
+        concat: Option<Concat>,
+    ) -> Option<usize>
+        ensures { result
+            ≡ position (λ set. same_key set.key (key_of origin.now stamp concat)) self.now }
+    {
+        find_key(&self.slots, origin, stamp, concat)
+    }
+
+    /// Whether this piece of the set has come.
+    pub(crate) fn has(&self, index: usize, sequence: u8) -> bool
+        requires { HasPlace self.now index sequence }
+        ensures { At self.now index (λ set. result ≡ is_in sequence set.sequences) }
+    {
+        self.slots[index].has(sequence)
+    }
+
+    /// Whether all pieces of the set but one have come.
+    pub(crate) fn lacks_one(&self, index: usize) -> bool
+        requires { index < length self.now }
+        ensures { At self.now index (λ set. result
+            ≡ (suc (length set.sequences) == maximum_of set.key)) }
+    {
+        self.slots[index].lacks_one()
+    }
+
+    /// Adds a piece of the set that has not come. It takes no memory.
+    pub(crate) fn put(&mut self, index: usize, sequence: u8, units: Units)
+        requires place { HasPlace self.old index sequence }
+        requires missing { At self.old index (λ set. is_in sequence set.sequences ≡ false) }
+        ensures { At self.old index (λ own. self.new
+            ≡ set self.old index (with_piece own sequence units)) }
+    {
+        self.slots[index].put(sequence, units);
+    }
+
+    /// The text of the set with these units for the piece that has not come.
+    pub(crate) fn text_with(
+        &self,
+        alloc: Global,
+        index: usize,
+        units: &Units,
+    ) -> Result<String, AllocError>
+        requires { index < length self.now }
+        ensures { IfOk result (λ text. At self.now index (λ set.
+            (n : ℕ) → 0 < n → n ≤ maximum_of set.key → lacks_only set n ≡ true
+            → chars (string_bytes text)
+            ≡ text_of_segments (with_piece set n units.now).units)) }
+    {
+        self.slots[index].text_with(alloc, units)
+    }
+
+    /// Drops the set, and gives its key.
+    pub(crate) fn remove(&mut self, index: usize) -> Key
+        requires { index < length self.old }
+        ensures others { self.new ≡ remove self.old index }
+        ensures key { At self.old index (λ set. result ≡ set.key) }
+    {
+        let (key, _) = self.slots.shift_remove_index(index).unwrap();
+        key
+    }
+
+    /// Opens a set with its first piece. If memory runs out, nothing has changed.
+    pub(crate) fn open(
+        &mut self,
+        alloc: Global,
+        key: Key,
+        now: u64,
+        sequence: u8,
+        units: Units,
+    ) -> Result<(), AllocError>
+        requires first { 0 < sequence }
+        requires last { sequence ≤ maximum_of key }
+        requires closed { has_set self.old key ≡ false }
+        ensures ok { OnOk result (self.new ≡ self.old ++ record {
+          key = key;
+          opened = now;
+          sequences = sequence ∷ [];
+          units = units ∷ [];
+        } ∷ []) }
+        ensures err { OnErr result (self.new ≡ self.old) }
+    {
+        let slot = Slot::new(alloc, now, key.maximum(), sequence, units)?;
+        self.slots.insert(key, slot)?;
+        Ok(())
+    }
+
+    /// Drops those that were opened too long ago. It takes no memory.
+    pub(crate) fn age(&mut self, now: u64)
+        ensures { self.new ≡ filter (λ set. not (nat_le (set.opened + 604800) now)) self.old }
+    {
+        self.slots.retain(
+            |_key: &Key, slot: &mut Slot| -> bool
+                ensures { (result ≡ not (nat_le (slot.old.opened + 604800) now))
+                    × (slot.new ≡ slot.old) }
+            { !slot.is_old(now) },
+        );
+    }
+}
