@@ -48,7 +48,7 @@ use Rattle.sms_party.specs.Sender.Putting.{Puts, puts, puts_first, puts_text, wi
 use Rattle.sms_party.specs.Sender.Calls.{appended, typed, composes, ends, repeats, times_out}
 use Rattle.sms_party.specs.Sender.Answers.{advanced, noted, hears, matches, sender_receives, accepts}
 use Rattle.sms_party.specs.Receiver.State.{ReceiverState}
-use Rattle.sms_world.specs.declared.limits.Limits.{Limits}
+use Rattle.sms_script.specs.declared.script.limits.Limits.{Limits}
 use Rattle.sms_party.specs.Receiver.{receiver_opened}
 use Rattle.sms_world.specs.Texts.Keys.{stamp_given, is_from}
 use Rattle.sms_world.specs.Texts.{size_in}

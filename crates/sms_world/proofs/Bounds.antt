@@ -17,7 +17,7 @@ use Rattle.sms_party.specs.Message.{Origin}
 use Rattle.sms_party.specs.Sent.{Place, Centre, Phone, Sent}
 use Rattle.sms_world.specs.Told.{Told}
 use Rattle.sms_party.specs.Receiver.State.{ReceiverState, new_receiver, ReceiverLimits}
-use Rattle.sms_world.specs.declared.limits.Limits.{Limits}
+use Rattle.sms_script.specs.declared.script.limits.Limits.{Limits}
 use Rattle.sms_world.proofs.Offered.{stored, is_taken, offers, units_in_delivery, each_offer, each_opened}
 use Rattle.sms_party.specs.Receiver.Offers.{is_full_for, takes}
 use Rattle.sms_party.specs.Receiver.Pieces.{piece_in}

@@ -26,7 +26,7 @@ use Rattle.sms_party.specs.Sender.Segments.{piece_of}
 use Rattle.sms_party.specs.Sender.Calls.{composes, times_out}
 use Rattle.sms_party.specs.Sender.Answers.{sender_receives}
 use Rattle.sms_party.specs.Receiver.State.{ReceiverState, new_receiver}
-use Rattle.sms_world.specs.declared.limits.Limits.{Limits}
+use Rattle.sms_script.specs.declared.script.limits.Limits.{Limits}
 use Rattle.sms_party.specs.Receiver.{receiver_takes, receiver_opened}
 use Rattle.sms_world.proofs.Offered.{units_in_delivery, offers, is_taken, each_offer}
 use Rattle.sms_party.specs.Receiver.Offers.{offers_units}

@@ -1,4 +1,16 @@
 pub mod SameKeys
+pub mod AllOf
+pub mod Aged
+pub mod Characters
+pub mod Replaced
+pub mod Ways
+pub mod Answering
+pub mod Packets
+pub mod Happening
+pub mod Shown
+pub mod Claimed
+pub mod OneAfterAnother
+pub mod Beginning
 pub mod Arrived
 pub mod Entries
 pub mod Walk
@@ -26,3 +38,5 @@ pub mod Understood
 pub mod Unread
 pub mod Rejecting
 pub mod Rows
+pub mod Networks
+pub mod Transcribing

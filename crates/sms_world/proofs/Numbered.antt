@@ -34,7 +34,7 @@ use Rattle.sms_party.specs.Sender.Texts.{Text, Sender, SenderState, width_of}
 use Rattle.sms_party.specs.Sender.Putting.{Puts, puts, puts_first, puts_text, with_sender, sender_drops, does}
 use Rattle.sms_party.specs.Sender.Calls.{appended, typed, composes, ends, repeats, times_out}
 use Rattle.sms_party.specs.Sender.Answers.{advanced, noted, hears, matches, sender_receives}
-use Rattle.sms_world.specs.declared.limits.Limits.{Limits}
+use Rattle.sms_script.specs.declared.script.limits.Limits.{Limits}
 use Rattle.sms_world.specs.Told.{Told}
 use Rattle.sms_world.specs.Machine.{Machine, start}
 use Rattle.sms_world.specs.Machine.Event.{Event, Compose, Carry, Timeout, Push, Tick, Inject, Act, Is}

@@ -24,7 +24,7 @@ use Rattle.sms_party.specs.Sender.Texts.{Text, SenderState, new_sender, width_of
 use Rattle.sms_party.specs.Sender.Calls.{composes, times_out}
 use Rattle.sms_party.specs.Sender.Answers.{sender_receives}
 use Rattle.sms_party.specs.Receiver.State.{ReceiverState, ReceiverLimits}
-use Rattle.sms_world.specs.declared.limits.Limits.{Limits}
+use Rattle.sms_script.specs.declared.script.limits.Limits.{Limits}
 use Rattle.sms_party.specs.Receiver.{receiver_opened}
 use Rattle.sms_world.proofs.Offered.{units_in_delivery, offers, is_taken, each_offer, each_opened}
 use Rattle.sms_party.specs.Receiver.Pieces.{piece_in}

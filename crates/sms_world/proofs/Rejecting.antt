@@ -34,7 +34,7 @@ use Rattle.sms_party.specs.Sender.Putting.{Puts, puts, puts_first, puts_text, wi
 use Rattle.sms_party.specs.Sender.Calls.{typed, composes, repeats, times_out}
 use Rattle.sms_party.specs.Sender.Answers.{noted, hears, matches, sender_receives}
 use Rattle.sms_party.specs.Sender.Segments.{submission_of}
-use Rattle.sms_world.specs.declared.limits.Limits.{Limits}
+use Rattle.sms_script.specs.declared.script.limits.Limits.{Limits}
 use Rattle.sms_world.specs.Machine.{Machine, start}
 use Rattle.sms_world.specs.Machine.Event.{Event, Act, Composes, Carries, TimesOut, Pushes, Ticks, Injects}
 use Rattle.sms_world.specs.Machine.Next.{Next, next, stays, by_sender, by_centre, by_receiver, of_centre, to_phone, pushed, comes, comes_to_phone, carries, packet, ticked, phone_of, to_centre, receiver_limits}

@@ -28,7 +28,7 @@ use Rattle.sms_party.specs.Centre.Held.{unended}
 use Rattle.sms_party.specs.Centre.Stamps.{Call, Receive, Push, called_all, AreBelow, IsRising, StampsRise}
 use Rattle.sms_party.specs.Sent.{Place, Centre, Phone, Sent}
 use Rattle.sms_world.specs.Told.{Told}
-use Rattle.sms_world.specs.declared.limits.Limits.{Limits}
+use Rattle.sms_script.specs.declared.script.limits.Limits.{Limits}
 use Rattle.sms_world.specs.Machine.{Machine, start}
 use Rattle.sms_world.specs.Machine.Event.{Event, Act, Composes, Carries, TimesOut, Pushes, Ticks, Injects}
 use Rattle.sms_world.specs.Machine.Next.{Next, next, stays, by_sender, by_centre, by_receiver, of_centre, pushed, comes, comes_to_phone, carries, packet, ticked, phone_of}

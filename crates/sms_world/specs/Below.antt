@@ -8,6 +8,9 @@ use Rattle.sms_join.specs.OpenTexts.{OpenSetsAreOpenTexts, StayApart, AgesOne, N
 use Rattle.sms_join.specs.Reading.{CutIsReadAsText}
 use Rattle.sms_party.specs.Message.Laws.{EachIsRead, OneMessageIsRead, CarriedIsRead}
 use Rattle.sms_party.specs.Centre.Stamps.{StampsRise}
+use Rattle.sms_party.specs.Few.{FewArePutOut}
+use Rattle.sms_party.specs.Drops.{DropsPutNothingOut}
+use Rattle.sms_party.specs.Sender.Others.{OthersLeaveSender}
 
 pub record Below : Type 0 where
   pub back : MomentComesBackOfZone0
@@ -26,3 +29,6 @@ pub record Below : Type 0 where
   pub one : OneMessageIsRead
   pub carried : CarriedIsRead
   pub stamps : StampsRise
+  pub few_put : FewArePutOut
+  pub dropped : DropsPutNothingOut
+  pub others : OthersLeaveSender

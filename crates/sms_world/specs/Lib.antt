@@ -1,4 +1,7 @@
 pub mod Told
+pub mod Words
+pub mod World
+pub mod Network
 pub mod Below
 pub mod Machine
 pub mod Texts
@@ -10,3 +13,4 @@ pub mod Accepted
 pub mod Understood
 pub mod Unread
 pub mod Rows
+pub mod Playing

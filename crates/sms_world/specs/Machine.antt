@@ -6,7 +6,7 @@ use Rattle.sms_party.specs.Centre.State.{CentreState, new_centre}
 use Rattle.sms_party.specs.Sent.{Sent}
 use Rattle.sms_party.specs.Sender.Texts.{SenderState, new_senders}
 use Rattle.sms_party.specs.Receiver.State.{ReceiverState, new_receiver}
-use Rattle.sms_world.specs.declared.limits.Limits.{Limits}
+use Rattle.sms_script.specs.declared.script.limits.Limits.{Limits}
 pub mod Event
 pub mod Next
 pub mod Step

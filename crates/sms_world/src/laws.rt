@@ -13,6 +13,7 @@ ghost use Rattle.sms_world.specs.Headline.Refused.{RefusedOnlyWhereFull};
 ghost use Rattle.sms_world.specs.Headline.Stores.{StoresStand};
 ghost use Rattle.sms_world.specs.OrderTests.{OrderIsTested};
 ghost use Rattle.sms_world.specs.Understood.{IsOneAct};
+ghost use Rattle.sms_world.specs.World.Claims.{ClaimsHold};
 ghost use Rattle.sms_world.specs.Unread.{NothingSaidChangesNoParty, UnreadChangesNothing};
 
 use sms_field::laws::moments_come_back;
@@ -22,12 +23,12 @@ use sms_join::laws::{
 };
 use sms_join::{cut_is_read_as_text, texts_have_one_cut};
 use sms_party::{
-    carried_messages_are_read, octets_are_read_as_a_message, octets_are_read_as_one_message,
-    stamps_rise,
+    carried_messages_are_read, drops_put_nothing_out, few_are_put_out,
+    octets_are_read_as_a_message, octets_are_read_as_one_message, others_leave_sender, stamps_rise,
 };
 
 /// Does nothing: its contract collects the laws of the crates below on which the others stand.
-fn laws_below()
+pub(crate) fn laws_below()
     ensures { Below }
 {
     moments_come_back();
@@ -46,6 +47,9 @@ fn laws_below()
     octets_are_read_as_one_message();
     carried_messages_are_read();
     stamps_rise();
+    few_are_put_out();
+    drops_put_nothing_out();
+    others_leave_sender();
 }
 
 /// Does nothing: its contract says that each event is one act: a text has one cut, and octets are read as one message.
@@ -146,4 +150,17 @@ pub fn unread_units_change_no_party()
     ensures { NothingSaidChangesNoParty }
 {
     octets_are_read_as_one_message();
+}
+
+/// Does nothing: its contract says what holds of every world, by the states of the machine for which it stands: the
+/// stores, what is refused, what is accepted, and what is shown as accepted.
+pub fn claims_hold()
+    ensures { ClaimsHold }
+{
+    stores_stand();
+    finished_texts_are_whole();
+    deliveries_are_refused_only_where_full();
+    segments_are_accepted_once();
+    accepted_texts_were_accepted();
+    copies_may_come_in_time();
 }

@@ -4,7 +4,7 @@ use Rattle.std.specs.Prelude.{◌≡◌, ℕ, List}
 use Rattle.sms_field.specs.AddressValue.{AddressValue}
 use Rattle.sms_join.specs.Arrivals.{open_pieces, OpenApart}
 use Rattle.sms_world.specs.Told.{Told}
-use Rattle.sms_world.specs.declared.limits.Limits.{Limits}
+use Rattle.sms_script.specs.declared.script.limits.Limits.{Limits}
 use Rattle.sms_world.specs.Machine.{Machine, start}
 use Rattle.sms_world.specs.Machine.Event.{Event}
 use Rattle.sms_world.specs.Texts.{size_in}

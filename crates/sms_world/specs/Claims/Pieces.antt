@@ -21,7 +21,7 @@ use Rattle.sms_world.specs.Told.{Told}
 use Rattle.sms_party.specs.Sender.Texts.{Text, Sender}
 use Rattle.sms_party.specs.Sender.Segments.{submission_of}
 use Rattle.sms_world.specs.Machine.{Machine, start}
-use Rattle.sms_world.specs.declared.limits.Limits.{Limits}
+use Rattle.sms_script.specs.declared.script.limits.Limits.{Limits}
 use Rattle.sms_world.specs.Machine.Event.{Event}
 use Rattle.sms_world.specs.Machine.Step.{RunWith}
 use Rattle.sms_world.specs.Texts.{size_in}

@@ -7,7 +7,7 @@ use Rattle.sms_party.specs.declared.outcome.Outcome.TheVariants.{Refused, Finish
 use Rattle.sms_party.specs.Message.{Origin}
 use Rattle.sms_party.specs.Sent.{Sent}
 use Rattle.sms_world.specs.Told.{Told}
-use Rattle.sms_world.specs.declared.limits.Limits.{Limits}
+use Rattle.sms_script.specs.declared.script.limits.Limits.{Limits}
 use Rattle.sms_world.specs.Machine.{Machine, start}
 use Rattle.sms_world.specs.Machine.Event.{Event}
 use Rattle.sms_world.specs.Machine.Step.{no_memory, Step}

@@ -18,7 +18,7 @@ use Rattle.sms_party.specs.Centre.{centre_receives}
 use Rattle.sms_party.specs.Centre.Pushes.{centre_pushes}
 use Rattle.sms_party.specs.Receiver.{receiver_opened}
 use Rattle.sms_party.specs.Receiver.State.{ReceiverLimits, ReceiverState}
-use Rattle.sms_world.specs.declared.limits.Limits.{Limits}
+use Rattle.sms_script.specs.declared.script.limits.Limits.{Limits}
 use Rattle.sms_world.specs.declared.fault.WorldFault.TheVariants.{NoSuchPacket, NoSuchPhone, ClockEnd, Party}
 use Rattle.sms_world.specs.Told.{Told, of_party}
 use Rattle.sms_join.specs.Aging.{aged, is_old}

@@ -19,4 +19,7 @@ returns c =
       one = c.octets_are_read_as_one_message.ensures;
       carried = c.carried_messages_are_read.ensures;
       stamps = c.stamps_rise.ensures;
+      few_put = c.few_are_put_out.ensures;
+      dropped = c.drops_put_nothing_out.ensures;
+      others = c.others_leave_sender.ensures;
     }

@@ -1,0 +1,52 @@
+-- The states of the machine for which the code of the whole stands.
+use Rattle.std.specs.Prelude.{◌≡◌, ℕ, ◌<◌, if◌then◌else◌, List, [], ◌∷◌, length, reverse, Some, slice_get}
+use Rattle.std.specs.List.{AllByRecursion}
+use Rattle.sms_field.specs.Times.{end_of_2099}
+use Rattle.sms_party.specs.Sent.{Place, Centre, Phone, Sent}
+use Rattle.sms_party.specs.Message.Carrying.{Carries}
+use Rattle.sms_party.specs.Centre.Standing as centre
+use Rattle.sms_party.specs.Sender.Stands.{SenderStands}
+use Rattle.sms_party.specs.Receiver.Standing as receiver
+use Rattle.sms_party.specs.Phone.{PhoneValue}
+use Rattle.sms_script.specs.Transcript.Lines.{PacketValue}
+use Rattle.sms_world.specs.Machine.{Machine}
+use Rattle.sms_world.specs.Machine.Next.{receiver_limits}
+use Rattle.sms_world.specs.World.Value.{PartiesValue, WorldValue}
+
+-- where a packet goes
+abbrev pub place_of : PacketValue → Place
+place_of p = if p.is_up then Centre p.phone else Phone p.phone
+
+-- The packet carries the message to where it goes.
+abbrev pub IsPacketOf : PacketValue → Sent → Type 0
+IsPacketOf p x = (x.to ≡ place_of p) × Carries p.octets x.message
+
+-- These are packets of what was put out, each of its own message, in the same order.
+abbrev pub ArePacketsOf : List PacketValue → List Sent → Type 0
+ArePacketsOf [] [] = Unit {0}
+ArePacketsOf (p ∷ packets) (x ∷ sent) = IsPacketOf p x × ArePacketsOf packets sent
+ArePacketsOf _ _ = ⊥
+
+-- The parties stand for those of the machine: the centre for its centre, and each phone for its sender and its receiver.
+pub record PartiesStand (v : PartiesValue) (m : Machine) : Type 0 where
+  pub centre_stands : centre.StandsFor m.limits.held m.phones m.clock v.centre m.centre
+  pub as_many : length v.phones ≡ length m.phones
+  pub senders_stand : (p : ℕ) (phone : PhoneValue) → slice_get v.phones p ≡ Some phone → SenderStands p phone.sender m.senders
+  pub receivers_stand : (p : ℕ) (phone : PhoneValue) → slice_get v.phones p ≡ Some phone
+      → receiver.StandsFor (receiver_limits m.limits) phone.receiver (m.receiver p)
+
+-- The world stands for a state of the machine: limits and clock are the same, its parties stand for the machine's, and its
+-- packets are those of all that was ever put out.
+pub record StandsFor (v : WorldValue) (m : Machine) : Type 0 where
+  pub limits_are : m.limits ≡ v.limits
+  pub clock_is : m.clock ≡ v.clock
+  pub parties_stand : PartiesStand v.parties m
+  pub packets_are : ArePacketsOf v.packets (reverse m.sent)
+
+-- What is true of every world: its clock stands before the end of 2099, each packet is of one of its phones, and there is a
+-- state of the machine for which it stands.
+pub record IsWorld (v : WorldValue) : Type 0 where
+  pub clock : v.clock < end_of_2099
+  pub ways : AllByRecursion (λ p. p.phone < length v.parties.phones) v.packets
+  pub machine : Machine
+  pub stands : StandsFor v machine

@@ -1,0 +1,52 @@
+//! The world as the network of a script.
+
+ghost use Rattle.std.specs.Prelude.{◌≡◌};
+ghost use Rattle.sms_world.specs.Network.{conduct};
+
+use crate::words::{status_text, told_text};
+use crate::world::World;
+use sms_field::Address;
+use sms_script::{Entry, Event, Limits, Network, Packet};
+use std::alloc::{AllocError, Global};
+
+impl Network for World {
+    ghost conduct = { conduct };
+
+    fn begin(alloc: Global, limits: Limits, phones: &[Address]) -> Result<Self, AllocError> {
+        World::new(alloc, limits, phones)
+    }
+
+    fn step(&mut self, alloc: Global, event: &Event) -> Result<String, AllocError> {
+        let told = World::step(self, event);
+        told_text(alloc, &told)
+    }
+
+    fn packet_count(&self) -> usize {
+        World::packet_count(self)
+    }
+
+    fn packet(&self, number: usize) -> Option<Packet<'_>> {
+        self.packet_on_way(number)
+    }
+
+    fn typed(&self, phone: usize) -> usize {
+        World::typed(self, phone)
+    }
+
+    fn status(&self, phone: usize, text: usize) -> Option<&str> {
+        let status = World::status(self, phone, text)?;
+        Some(status_text(status))
+    }
+
+    fn stored(&self, phone: usize) -> usize {
+        self.store(phone).len()
+    }
+
+    fn entry(&self, phone: usize, place: usize) -> Option<Entry<'_>> {
+        let entry = self.store(phone).get(place)?;
+        Some(Entry {
+            origin: &entry.origin,
+            text: entry.text.as_str(),
+        })
+    }
+}

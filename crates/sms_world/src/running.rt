@@ -1,0 +1,43 @@
+//! A world and a list of events.
+
+ghost use Rattle.std.specs.Prelude.{◌≡◌, IfOk, length};
+ghost use Rattle.sms_script.specs.Meaning.Known.{ArePhones};
+ghost use Rattle.sms_script.specs.Script.Limits.{AreLimits};
+ghost use Rattle.sms_world.specs.World.Claims.{StoresAreWhole, AcceptsOnce};
+ghost use Rattle.sms_world.specs.World.Claims.{AcceptedWereAccepted, CopiesMayComeInTime};
+ghost use Rattle.sms_world.specs.World.Steps.{Runs};
+
+use crate::fault::WorldFault;
+use crate::laws::claims_hold;
+use crate::world::World;
+use sms_field::Address;
+use sms_party::Outcome;
+use sms_script::{Event, Limits};
+use std::alloc::{AllocError, Global};
+
+/// Makes a world with these limits and phones, and lets these events happen, one after another. It
+/// answers the world afterwards, and what each event has answered. An event that answers a fault
+/// changes nothing, and the next one happens all the same.
+pub fn run(
+    alloc: Global,
+    limits: Limits,
+    phones: &[Address],
+    events: &[Event],
+) -> Result<(World, Vec<Result<Outcome, WorldFault>>), AllocError>
+    requires limits { AreLimits limits }
+    requires phones { ArePhones phones.now }
+    ensures runs { IfOk result (λ r. Runs limits phones.now events.now r.1.items r.0) }
+    ensures phones { IfOk result (λ r. length r.0.parties.phones ≡ length phones.now) }
+    ensures whole { IfOk result (λ r. StoresAreWhole r.0) }
+    ensures once { IfOk result (λ r. AcceptsOnce r.0) }
+    ensures accepted { IfOk result (λ r. AcceptedWereAccepted r.0) }
+    ensures copies { IfOk result (λ r. CopiesMayComeInTime r.0) }
+{
+    claims_hold();
+    let mut world = World::new(alloc, limits, phones)?;
+    let mut answers = Vec::with_capacity(alloc, events.len())?;
+    for event in events {
+        answers.push(world.step(event))?;
+    }
+    Ok((world, answers))
+}

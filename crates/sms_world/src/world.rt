@@ -1,0 +1,301 @@
+//! The whole.
+
+mod parties;
+mod sent_packet;
+
+ghost use Rattle.std.specs.Prelude.{◌≡◌, ◌≤◌, ◌<◌, ◌-◌, ◌+◌, ◌++◌, IfOk, length, slice_get};
+ghost use Rattle.std.specs.Str.{chars};
+ghost use Rattle.std.specs.Vec.{vec_len, vec_capacity};
+ghost use Rattle.std.specs.Option.{option_map};
+ghost use Rattle.sms_party.specs.Does.{packets_of};
+ghost use Rattle.sms_party.specs.Sender.Value.{status_among};
+ghost use Rattle.sms_script.specs.Meaning.Known.{ArePhones};
+ghost use Rattle.sms_script.specs.Play.Runs.{IsTick};
+ghost use Rattle.sms_script.specs.Script.Limits.{AreLimits};
+ghost use Rattle.sms_script.specs.Transcript.Shown.{shown};
+ghost use Rattle.sms_world.specs.Machine.{start};
+ghost use Rattle.sms_world.specs.Machine.Event.{Compose, Carry, Timeout, Push, Tick, Inject};
+ghost use Rattle.sms_world.specs.World.Parties.{place_at, on_way};
+ghost use Rattle.sms_world.specs.World.Phones.{store_in, statuses_at};
+ghost use Rattle.sms_world.specs.World.Standing.{StandsFor};
+ghost use Rattle.sms_world.specs.World.Claims.{StoresAreWhole, RefusesOnlyWhereFull};
+ghost use Rattle.sms_world.specs.World.Claims.{AcceptsOnce, AcceptedWereAccepted, CopiesMayComeInTime};
+ghost use Rattle.sms_world.specs.World.Steps.{event_of, PutsMore, Steps, GivesPacket, GivesStore, GivesStatus};
+
+use crate::fault::WorldFault;
+use crate::laws::{claims_hold, laws_below};
+use crate::world::parties::Parties;
+use crate::world::sent_packet::SentPacket;
+use sms_field::Address;
+use sms_party::{Dropped, Entry, Outcome, Status, Step};
+use sms_script::{Event, Limits, Packet};
+use std::alloc::{AllocError, Global};
+use std::marker::Model;
+
+/// The clock stands below this moment, the end of 2099.
+const CLOCK_END: u64 = 3_155_760_000;
+
+/// Phones that send and receive, the service centre between them, and every packet that was ever
+/// put out. Phones are counted from 0, packets and the texts of a phone from 1. The clock counts
+/// seconds since the beginning of 2000.
+#[derive(Drop)]
+pub struct World {
+    limits: Limits,
+    clock: u64,
+    parties: Parties,
+    packets: Vec<SentPacket>,
+}
+
+impl Model for World {
+    ghost use Rattle.sms_world.specs.World.Standing.{IsWorld};
+    ghost use Rattle.sms_world.specs.World.Value.{WorldValue};
+
+    ghost Value = { WorldValue };
+
+    ghost view = { λ w. record {
+      limits = w.limits;
+      clock = w.clock;
+      parties = w.parties;
+      packets = w.packets.items;
+    } };
+
+    ghost invariant = { λ w. IsWorld (record {
+      limits = w.limits;
+      clock = w.clock;
+      parties = w.parties;
+      packets = w.packets.items;
+    }) };
+}
+
+impl World {
+    /// A world in which nothing has happened: phones of these addresses, which are different and at
+    /// most 100, and a centre between them. The clock stands at the beginning of 2000.
+    pub fn new(alloc: Global, limits: Limits, phones: &[Address]) -> Result<World, AllocError>
+        requires limits { AreLimits limits }
+        requires phones { ArePhones phones.now }
+        ensures stands { IfOk result (λ w. StandsFor w (start limits phones.now)) }
+        ensures phones { IfOk result (λ w. length w.parties.phones ≡ length phones.now) }
+    {
+        laws_below();
+        Ok(World {
+            limits,
+            clock: 0,
+            parties: Parties::new(alloc, limits, phones)?,
+            packets: Vec::new(alloc),
+        })
+    }
+
+    /// What happens at an event. If it answers a fault, the world is as it was; only the messages
+    /// whose validity has ended may be gone from the centre.
+    ///
+    /// A text is typed at a phone, a packet comes to its destination, a phone has waited long enough
+    /// for an answer, the centre hands a message to a phone, the clock moves on by some seconds, or
+    /// octets come that nobody put out.
+    pub fn step(&mut self, event: &Event) -> Result<Outcome, WorldFault>
+        ensures steps { Steps (event_of event.now) self.old result self.new }
+        ensures phones { length self.new.parties.phones ≡ length self.old.parties.phones }
+        ensures packets { PutsMore self.old self.new }
+        ensures ticks { IsTick event.now → self.new.packets ≡ self.old.packets }
+        ensures whole { StoresAreWhole self.new }
+        ensures refused { RefusesOnlyWhereFull (event_of event.now) self.old result self.new }
+        ensures once { AcceptsOnce self.new }
+        ensures accepted { AcceptedWereAccepted self.new }
+        ensures copies { CopiesMayComeInTime self.new }
+    {
+        claims_hold();
+        self.happen(event)
+    }
+
+    /// What happens at an event, by cases.
+    fn happen(&mut self, event: &Event) -> Result<Outcome, WorldFault>
+        ensures steps { Steps (event_of event.now) self.old result self.new }
+        ensures phones { length self.new.parties.phones ≡ length self.old.parties.phones }
+        ensures packets { PutsMore self.old self.new }
+        ensures ticks { IsTick event.now → self.new.packets ≡ self.old.packets }
+    {
+        match event {
+            Event::Compose {
+                phone,
+                target,
+                text,
+            } => self.compose(*phone, target, text.as_str()),
+            Event::Carry(number) => self.carry(*number),
+            Event::Timeout(phone) => self.time_out(*phone),
+            Event::Push(phone) => self.push(*phone),
+            Event::Tick(seconds) => self.tick(*seconds),
+            Event::Inject { up, phone, octets } => self.inject(*up, *phone, octets.as_slice()),
+        }
+    }
+
+    /// A text is typed at a phone.
+    fn compose(&mut self, phone: usize, target: &Address, text: &str) -> Result<Outcome, WorldFault>
+        ensures steps { Steps (Compose phone target.now (chars text.now)) self.old result self.new }
+        ensures phones { length self.new.parties.phones ≡ length self.old.parties.phones }
+        ensures packets { PutsMore self.old self.new }
+    {
+        laws_below();
+        if phone >= self.parties.count() {
+            return Err(WorldFault::NoSuchPhone);
+        }
+        make_room(&mut self.packets)?;
+        let step = self.parties.type_text(phone, target, text)?;
+        Ok(keep(&mut self.packets, true, phone, step))
+    }
+
+    /// A packet comes to its destination.
+    fn carry(&mut self, number: u64) -> Result<Outcome, WorldFault>
+        ensures steps { Steps (Carry number) self.old result self.new }
+        ensures phones { length self.new.parties.phones ≡ length self.old.parties.phones }
+        ensures packets { PutsMore self.old self.new }
+    {
+        laws_below();
+        if number == 0 || number > self.packets.len() as u64 {
+            return Err(WorldFault::NoSuchPacket);
+        }
+        make_room(&mut self.packets)?;
+        let packet = &self.packets[number as usize - 1];
+        let (up, phone) = (packet.up, packet.phone);
+        let octets = packet.octets.as_slice();
+        let step = self.parties.receive(self.clock, up, phone, octets)?;
+        Ok(keep(&mut self.packets, !up, phone, step))
+    }
+
+    /// A phone has waited long enough for an answer.
+    fn time_out(&mut self, phone: usize) -> Result<Outcome, WorldFault>
+        ensures steps { Steps (Timeout phone) self.old result self.new }
+        ensures phones { length self.new.parties.phones ≡ length self.old.parties.phones }
+        ensures packets { PutsMore self.old self.new }
+    {
+        laws_below();
+        if phone >= self.parties.count() {
+            return Err(WorldFault::NoSuchPhone);
+        }
+        make_room(&mut self.packets)?;
+        let step = self.parties.timeout(phone)?;
+        Ok(keep(&mut self.packets, true, phone, step))
+    }
+
+    /// The centre hands a message to a phone.
+    fn push(&mut self, phone: usize) -> Result<Outcome, WorldFault>
+        ensures steps { Steps (Push phone) self.old result self.new }
+        ensures phones { length self.new.parties.phones ≡ length self.old.parties.phones }
+        ensures packets { PutsMore self.old self.new }
+    {
+        laws_below();
+        if phone >= self.parties.count() {
+            return Err(WorldFault::NoSuchPhone);
+        }
+        make_room(&mut self.packets)?;
+        let step = self.parties.push(self.clock, phone)?;
+        Ok(keep(&mut self.packets, false, phone, step))
+    }
+
+    /// The clock moves on by so many seconds. It takes no memory.
+    fn tick(&mut self, seconds: u64) -> Result<Outcome, WorldFault>
+        ensures steps { Steps (Tick seconds) self.old result self.new }
+        ensures phones { length self.new.parties.phones ≡ length self.old.parties.phones }
+        ensures packets { self.new.packets ≡ self.old.packets }
+    {
+        if seconds >= CLOCK_END - self.clock {
+            return Err(WorldFault::ClockEnd);
+        }
+        self.clock += seconds;
+        self.parties.advance(self.clock);
+        Ok(Outcome::Ticked)
+    }
+
+    /// Octets that nobody put out come to the centre from a phone, or to a phone.
+    fn inject(&mut self, up: bool, phone: usize, octets: &[u8]) -> Result<Outcome, WorldFault>
+        ensures steps { Steps (Inject (place_at up phone) octets.now) self.old result self.new }
+        ensures phones { length self.new.parties.phones ≡ length self.old.parties.phones }
+        ensures packets { PutsMore self.old self.new }
+    {
+        laws_below();
+        if phone >= self.parties.count() {
+            return Err(WorldFault::NoSuchPhone);
+        }
+        make_room(&mut self.packets)?;
+        let step = self.parties.receive(self.clock, up, phone, octets)?;
+        Ok(keep(&mut self.packets, !up, phone, step))
+    }
+
+    /// The octets of the packet of this number, if as many were put out. It takes no memory.
+    pub fn packet(&self, number: u64) -> Option<&[u8]>
+        ensures { GivesPacket self.now number (option_map (λ octets. octets.now) result) }
+    {
+        if number == 0 || number > self.packets.len() as u64 {
+            return None;
+        }
+        Some(self.packets[number as usize - 1].octets.as_slice())
+    }
+
+    /// How many packets were ever put out.
+    pub fn packet_count(&self) -> usize
+        ensures { result ≡ length self.now.packets }
+    {
+        self.packets.len()
+    }
+
+    /// The packet of this number with its way, if as many were put out.
+    pub fn packet_on_way(&self, number: usize) -> Option<Packet<'_>>
+        requires { 1 ≤ number }
+        ensures { option_map shown result ≡ slice_get self.now.packets (number - 1) }
+    {
+        let packet = self.packets.get(number - 1)?;
+        Some(Packet {
+            up: packet.up,
+            phone: packet.phone,
+            octets: packet.octets.as_slice(),
+        })
+    }
+
+    /// The texts that came to a phone, in order of completion. It takes no memory.
+    pub fn store(&self, phone: usize) -> &[Entry]
+        requires { phone < length self.now.parties.phones }
+        ensures store { result.now ≡ store_in self.now.parties.phones phone }
+        ensures stands { GivesStore self.now phone result.now }
+    {
+        self.parties.store(phone)
+    }
+
+    /// How many texts were typed at a phone.
+    pub fn typed(&self, phone: usize) -> usize
+        requires { phone < length self.now.parties.phones }
+        ensures { result ≡ length (statuses_at self.now.parties.phones phone) }
+    {
+        self.parties.typed(phone)
+    }
+
+    /// How the text of this number of a phone stands; the first typed text has number 1. It takes
+    /// no memory.
+    pub fn status(&self, phone: usize, number: usize) -> Option<Status>
+        requires { phone < length self.now.parties.phones }
+        ensures status { let all = statuses_at self.now.parties.phones phone in
+            result ≡ status_among all number }
+        ensures stands { GivesStatus self.now phone number result }
+        ensures accepted { AcceptedWereAccepted self.now }
+    {
+        claims_hold();
+        self.parties.status(phone, number)
+    }
+}
+
+/// Makes room for the packets of a step, two at most. If memory runs out, nothing has changed.
+fn make_room(packets: &mut Vec<SentPacket>) -> Result<(), AllocError>
+    ensures items { packets.new.items ≡ packets.old.items }
+    ensures room { IfOk result (λ _. vec_len packets.new + 2 ≤ vec_capacity packets.new) }
+{
+    packets.reserve(2)
+}
+
+/// Keeps the packets of a step, for which there is room.
+fn keep(packets: &mut Vec<SentPacket>, up: bool, phone: usize, step: Step) -> Outcome
+    requires { vec_len packets.old + length step.packets.items ≤ vec_capacity packets.old }
+    ensures outcome { result ≡ step.outcome }
+    ensures packets { packets.new.items ≡ packets.old.items ++ on_way up phone (packets_of step) }
+{
+    for octets in step.packets {
+        packets.push_reserved(SentPacket { up, phone, octets });
+    }
+    step.outcome
+}
