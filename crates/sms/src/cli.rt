@@ -5,6 +5,7 @@ ghost use Rattle.std.specs.Prelude.{◌≤◌};
 use crate::encode::encode;
 use crate::fault::Fault;
 use crate::lines::Lines;
+use crate::play::play_script;
 use crate::printed::Hexadecimal;
 use crate::relay::{show_cp, show_rp};
 use crate::show::{show_centre, show_unit};
@@ -41,7 +42,12 @@ fn show<W: Write>(alloc: Global, shown: Shown<'_>, output: &mut W) -> Result<(),
     }
 }
 
-fn answer<W: Write>(alloc: Global, request: Request<'_>, output: &mut W) -> Result<(), Fault> {
+fn answer<R: Read, W: Write>(
+    alloc: Global,
+    request: Request<'_>,
+    input: &mut R,
+    output: &mut W,
+) -> Result<(), Fault> {
     match request {
         Request::Show(shown) => show(alloc, shown, output),
         Request::Encode(draft) => {
@@ -50,6 +56,7 @@ fn answer<W: Write>(alloc: Global, request: Request<'_>, output: &mut W) -> Resu
             Ok(())
         }
         Request::Split(long) => put_segments(alloc, &long, output),
+        Request::Play => play_script(alloc, input, output),
     }
 }
 
@@ -75,17 +82,18 @@ fn explain<W: Write>(error: &clap::Error, output: &mut W) -> u8
 }
 
 /// Does what the words ask, the program's name first, and answers the exit status: 0 done, 1 refused
-/// input, 2 wrong words, 3 memory or a device. Nothing reads the input yet.
+/// input, 2 wrong words, 3 memory or a device. A script is read from the input. The output is not
+/// flushed.
 pub fn command<S: AsStr, R: Read, W: Write>(
     alloc: Global,
     words: &[S],
-    _input: &mut R,
+    input: &mut R,
     output: &mut W,
 ) -> u8
     ensures { result ≤ 3 }
 {
     match parse_words(alloc, words) {
-        Ok(request) => match answer(alloc, request, output) {
+        Ok(request) => match answer(alloc, request, input, output) {
             Ok(()) => 0,
             Err(fault) => refuse(&fault, output),
         },

@@ -1,25 +1,19 @@
 //! The octets of a unit whose text is in one piece.
 
-ghost use Rattle.std.specs.Prelude.{IfOk};
-ghost use Rattle.sms_text.specs.Bits.{AreSeptets};
-ghost use Rattle.sms_text.specs.Octets.{IsOctets};
+ghost use Rattle.std.specs.Prelude.{◌≡◌, All, IfOk};
 ghost use Rattle.sms_field.specs.Coding.{alphabet_at};
 ghost use Rattle.sms_tpdu.specs.UserData.{FitsAlphabet};
 ghost use Rattle.sms_tpdu.specs.Submit.ValidityPeriod.{IsInRange};
+ghost use Rattle.sms_tpdu.specs.declared.user_data.concat.Width.TheVariants.{Eight};
+ghost use Rattle.sms_join.specs.SegmentUser.{IsSendable, coding_of};
 
 use crate::fault::Fault;
 use crate::words::{Draft, DraftKind};
 use hex::FromHex;
 use sms_field::{Address, AddressFault, Stamp, Validity};
-use sms_text::{gsm_of, octets_of_units, ucs2_of};
-use sms_tpdu::{Body, Deliver, Octets, Septets, Submit, Unit, UserData};
+use sms_join::{Segment, SplitFault, Units, segment_user, split};
+use sms_tpdu::{Deliver, Submit, Unit, UserData, Width};
 use std::alloc::Global;
-
-/// The greatest number of septets in one piece.
-const MOST_SEPTETS: usize = 160;
-
-/// The greatest number of octets in one piece.
-const MOST_OCTETS: usize = 140;
 
 /// The stamp of a delivery that is given none: the first second of 2000 in UTC.
 const FIRST_SECOND: [u8; 7] = [0x00, 0x10, 0x10, 0x00, 0x00, 0x00, 0x00];
@@ -48,49 +42,39 @@ struct Piece {
     user: UserData,
 }
 
-/// A text in one piece of the 7-bit alphabet.
+/// The data coding scheme that tells the alphabet of units.
 #[tactic(auto, unfolding(sms_field::specs::Coding::alphabet_at))]
-fn septet_piece(septets: Vec<u8>) -> Result<Piece, Fault>
-    requires { AreSeptets septets.items }
-    ensures { IfOk result (λ piece. FitsAlphabet (alphabet_at piece.dcs) piece.user) }
+fn coding_scheme(units: &Units) -> u8
+    ensures { alphabet_at result ≡ coding_of units.now }
 {
-    if septets.len() > MOST_SEPTETS {
-        return Err(Fault::TextTooLong);
+    match units {
+        Units::Gsm(_) => 0x00,
+        Units::Ucs2(_) => 0x08,
     }
-    let body = Body::Septets(Septets::new(septets));
-    Ok(Piece {
-        dcs: 0x00,
-        user: UserData { header: None, body },
-    })
 }
 
-/// A text in one piece of UCS-2.
-#[tactic(auto, unfolding(sms_field::specs::Coding::alphabet_at))]
-fn ucs2_piece(octets: Vec<u8>) -> Result<Piece, Fault>
-    requires { IsOctets octets.items }
-    ensures { IfOk result (λ piece. FitsAlphabet (alphabet_at piece.dcs) piece.user) }
+/// The segments of a text.
+fn segments_of(alloc: Global, text: &str) -> Result<Vec<Segment>, Fault>
+    ensures { IfOk result (λ segments. All (IsSendable Eight) segments.items) }
 {
-    if octets.len() > MOST_OCTETS {
-        return Err(Fault::TextTooLong);
+    match split(alloc, text, Width::Eight) {
+        Ok(segments) => Ok(segments),
+        Err(SplitFault::TooManySegments) => Err(Fault::TextTooLong),
+        Err(SplitFault::Memory) => Err(Fault::Memory),
     }
-    let body = Body::Octets(Octets::new(octets));
-    Ok(Piece {
-        dcs: 0x08,
-        user: UserData { header: None, body },
-    })
 }
 
 /// A text in one piece: in the 7-bit alphabet where that has all its characters, else in UCS-2.
 fn piece_of(alloc: Global, text: &str) -> Result<Piece, Fault>
     ensures { IfOk result (λ piece. FitsAlphabet (alphabet_at piece.dcs) piece.user) }
 {
-    match gsm_of(alloc, text)? {
-        Some(septets) => septet_piece(septets),
-        None => {
-            let units = ucs2_of(alloc, text)?;
-            ucs2_piece(octets_of_units(alloc, &units)?)
-        }
-    }
+    let segments = segments_of(alloc, text)?;
+    let [segment] = segments.as_slice() else {
+        return Err(Fault::TextTooLong);
+    };
+    let user = segment_user(alloc, segment, Width::Eight, 0)?;
+    let dcs = coding_scheme(&segment.units);
+    Ok(Piece { dcs, user })
 }
 
 /// The octets of an SMS-DELIVER after which no more messages wait.

@@ -4,6 +4,7 @@ ghost use Rattle.std.specs.Prelude.{◌≤◌};
 
 use sms_relay::RelayFault;
 use sms_tpdu::UnitFault;
+use sms_world::PlayFault;
 use std::alloc::AllocError;
 use std::io;
 use thiserror::Error;
@@ -35,6 +36,9 @@ pub enum Fault {
     /// A text needs more segments than can be numbered.
     #[error("too many segments")]
     TooManySegments,
+    /// A script is not played to its end.
+    #[error("{0}")]
+    Play(PlayFault),
     /// The output takes no more.
     #[error("write failed")]
     Write,
@@ -52,7 +56,9 @@ impl Fault {
         match self {
             Fault::Unit(_) | Fault::Message(_) | Fault::BadHex | Fault::BadAddress => 1,
             Fault::TextTooLong | Fault::TooManySegments => 1,
+            Fault::Play(PlayFault::Script { .. }) => 1,
             Fault::WrongOption | Fault::ReferenceTooLarge => 2,
+            Fault::Play(_) => 3,
             Fault::Write | Fault::Memory => 3,
         }
     }

@@ -5,6 +5,7 @@ mod cli;
 mod encode;
 mod fault;
 mod lines;
+mod play;
 mod printed;
 mod relay;
 mod reports;

@@ -19,6 +19,21 @@ static SHOWN_KINDS: [&str; 8] = [
     "cp",
 ];
 
+/// What stands below the help of `play`.
+const SCRIPT_HELP: &str = "\
+The script is read from standard input, for example:
+
+  phone a +1001
+  phone b +1002
+  type a +1002 hi
+  carry 1
+  push b
+  carry 4
+  carry 6
+  carry 3
+
+Packets are numbered from 1 as they are put out; carry K brings packet K to its end.";
+
 static DRAFT_KINDS: [&str; 2] = ["deliver", "submit"];
 
 /// A kind of transfer unit.
@@ -86,6 +101,8 @@ pub enum Request<'a> {
     Show(Shown<'a>),
     Encode(Draft<'a>),
     Split(LongText<'a>),
+    /// A script is played.
+    Play,
 }
 
 fn word<'a>(alloc: Global, name: &'a str, help: &'a str) -> Arg<'a> {
@@ -171,6 +188,12 @@ fn split_command<'a>(alloc: Global) -> Result<Command<'a>, AllocError> {
         ))
 }
 
+fn play_command<'a>(alloc: Global) -> Command<'a> {
+    Command::new(alloc, "play")
+        .about("Plays a script of a network of phones, and prints its transcript")
+        .after_help(SCRIPT_HELP)
+}
+
 fn whole_command<'a>(alloc: Global) -> Result<Command<'a>, AllocError> {
     Command::new(alloc, "sms")
         .about("Reads and writes short messages")
@@ -178,7 +201,8 @@ fn whole_command<'a>(alloc: Global) -> Result<Command<'a>, AllocError> {
         .subcommand_required(true)
         .subcommand(show_command(alloc)?)?
         .subcommand(encode_command(alloc)?)?
-        .subcommand(split_command(alloc)?)
+        .subcommand(split_command(alloc)?)?
+        .subcommand(play_command(alloc))
 }
 
 /// The kind that a word names.
@@ -242,6 +266,7 @@ fn request_of<'a>(name: &str, found: &ArgMatches<'a>) -> Option<Request<'a>> {
         "show" => shown_of(found),
         "encode" => draft_of(found),
         "split" => long_text_of(found),
+        "play" => Some(Request::Play),
         _ => None,
     }
 }

@@ -1,3 +1,4 @@
+mod plays;
 mod relays;
 mod reports;
 mod rows;
@@ -7,8 +8,9 @@ mod widths;
 use super::*;
 use crate::printed::Escaped;
 use rows::{
-    AFTER_CENTRES, DELIVERIES, EXPLAINED, Encoded, HEADERS, HELLO, HELLO_SHOWN, LONG_TEXTS,
-    MORE_DELIVERIES, NO_DELIVERIES, NO_SUBMISSIONS, NO_UNITS, NotEncoded, SUBMISSIONS, UNITS,
+    AFTER_CENTRES, AfterCentre, DELIVERIES, EXPLAINED, Encoded, Filled, HEADERS, HELLO,
+    HELLO_SHOWN, LONG_TEXTS, LongText, MORE_DELIVERIES, NO_DELIVERIES, NO_SUBMISSIONS, NO_UNITS,
+    NotEncoded, SUBMISSIONS, TWO_PIECES, UNITS,
 };
 use std::test::Fail;
 
@@ -66,28 +68,38 @@ fn shows_a_whole_delivery(rt: HostRuntime) -> Result<(), Fail> {
     Ok(())
 }
 
+/// Whether octets that begin with a centre have the status and the answer of a row.
+fn is_answered_after_a_centre(rt: &HostRuntime, row: &AfterCentre) -> Result<bool, Fail> {
+    let (status, answer) = answer_to(rt, &["sms", "show", "--sca", row.kind, row.octets])?;
+    Ok(status == row.status && answer.as_str() == row.answer)
+}
+
 #[test]
 fn shows_what_stands_after_a_centre(rt: HostRuntime) -> Result<(), Fail> {
-    for (kind, octets, status, lines) in AFTER_CENTRES {
-        let answer = answer_to(&rt, &["sms", "show", "--sca", kind, octets])?;
-        assert_eq!(rt; answer.0, status, "{octets}");
-        assert_eq!(rt; answer.1.as_str(), lines, "{octets}");
+    for row in AFTER_CENTRES.as_slice() {
+        let shown = is_answered_after_a_centre(&rt, row)?;
+        assert!(rt; shown, "{} {}", row.kind, row.octets);
     }
     Ok(())
 }
 
 #[test]
 fn refuses_what_is_no_unit(rt: HostRuntime) -> Result<(), Fail> {
-    for (octets, line) in NO_DELIVERIES {
-        let answer = answer_to(&rt, &["sms", "show", "deliver", octets])?;
-        assert_eq!(rt; answer.0, 1, "{octets}");
-        assert_eq!(rt; answer.1.as_str(), line, "{octets}");
+    for row in NO_DELIVERIES.as_slice() {
+        let (status, answer) = answer_to(&rt, &["sms", "show", "deliver", row.octets])?;
+        assert_eq!(rt; status, 1, "{}", row.octets);
+        assert_eq!(rt; answer.as_str(), row.line, "{}", row.octets);
     }
-    for (octets, line) in NO_SUBMISSIONS {
-        let answer = answer_to(&rt, &["sms", "show", "submit", octets])?;
-        assert_eq!(rt; answer.0, 1, "{octets}");
-        assert_eq!(rt; answer.1.as_str(), line, "{octets}");
+    for row in NO_SUBMISSIONS.as_slice() {
+        let (status, answer) = answer_to(&rt, &["sms", "show", "submit", row.octets])?;
+        assert_eq!(rt; status, 1, "{}", row.octets);
+        assert_eq!(rt; answer.as_str(), row.line, "{}", row.octets);
     }
+    Ok(())
+}
+
+#[test]
+fn misses_each_octet_of_a_delivery(rt: HostRuntime) -> Result<(), Fail> {
     for place in 0..28 {
         let octets = HELLO.get(..2 * place).ok_or("no front")?;
         let line = format!(in rt.alloc(); "at {place}: short\n")?;
@@ -100,10 +112,10 @@ fn refuses_what_is_no_unit(rt: HostRuntime) -> Result<(), Fail> {
 
 #[test]
 fn explains_the_words(rt: HostRuntime) -> Result<(), Fail> {
-    for (words, status, part) in EXPLAINED {
-        let (answered, text) = answer_to(&rt, words)?;
-        assert_eq!(rt; answered, status, "{words:?}");
-        assert!(rt; says(&text, part), "{words:?}: {text}");
+    for row in EXPLAINED.as_slice() {
+        let (status, text) = answer_to(&rt, row.words)?;
+        assert_eq!(rt; status, row.status, "{:?}", row.words);
+        assert!(rt; says(&text, row.part), "{:?}: {text}", row.words);
     }
     Ok(())
 }
@@ -210,37 +222,74 @@ fn shown_data(
     answer_to(rt, &["sms", "show", "deliver", &octets])
 }
 
+/// Whether data that are full are shown after their header under each alphabet.
+fn is_full(rt: &HostRuntime, row: &Filled, data: &str) -> Result<bool, Fail> {
+    let ones = repeated(rt, "FF", row.ones)?;
+    let text = repeated(rt, "à", row.septets)?;
+    let text_line = format!(in rt.alloc(); "\ntext: {text}\n")?;
+    let data_line = format!(in rt.alloc(); "\ndata: {}{ones}\n", row.first)?;
+    let septets = shown_data(rt, "00", "A0", data)?;
+    let octets = shown_data(rt, "04", "8C", data)?;
+    let units = shown_data(rt, "08", "8C", data)?;
+    Ok(
+        (septets.0, octets.0, units.0) == (0, 0, 0)
+            && says(&septets.1, &text_line)
+            && says(&octets.1, &data_line),
+    )
+}
+
+/// Whether data are refused after their header under a coding scheme, at a length above the greatest.
+fn is_too_full(rt: &HostRuntime, scheme: &str, length: &str, data: &str) -> Result<bool, Fail> {
+    let (status, answer) = shown_data(rt, scheme, length, data)?;
+    Ok(status == 1 && answer.as_str() == "at 14: data too long\n")
+}
+
 #[test]
 fn shows_what_fits_after_a_header(rt: HostRuntime) -> Result<(), Fail> {
-    for (header, first, octets, septets) in HEADERS {
-        let ones = repeated(&rt, "FF", octets)?;
-        let data = format!(in rt.alloc(); "{header}{first}{ones}")?;
-        let text = repeated(&rt, "à", septets)?;
-        let text_line = format!(in rt.alloc(); "\ntext: {text}\n")?;
-        let data_line = format!(in rt.alloc(); "\ndata: {first}{ones}\n")?;
-        let septets = shown_data(&rt, "00", "A0", &data)?;
-        assert!(rt; says(&septets.1, &text_line), "{header}");
-        let octets = shown_data(&rt, "04", "8C", &data)?;
-        assert!(rt; says(&octets.1, &data_line), "{header}");
-        let units = shown_data(&rt, "08", "8C", &data)?;
-        assert_eq!(rt; (septets.0, octets.0, units.0), (0, 0, 0), "{header}");
+    for row in HEADERS.as_slice() {
+        let ones = repeated(&rt, "FF", row.ones)?;
+        let data = format!(in rt.alloc(); "{}{}{ones}", row.header, row.first)?;
+        let shown = is_full(&rt, row, &data)?;
+        assert!(rt; shown, "{}", row.header);
         for (scheme, length) in [("00", "A1"), ("04", "8D"), ("08", "8D")] {
-            let (status, answer) = shown_data(&rt, scheme, length, &data)?;
-            assert_eq!(rt; status, 1, "{header}");
-            assert_eq!(rt; answer.as_str(), "at 14: data too long\n", "{header}");
+            let refused = is_too_full(&rt, scheme, length, &data)?;
+            assert!(rt; refused, "{} {scheme}", row.header);
         }
     }
     Ok(())
 }
 
+/// Whether a text of one character is encoded as the octets of a row.
+fn is_long(rt: &HostRuntime, row: &LongText) -> Result<bool, Fail> {
+    let text = repeated(rt, row.character, row.count)?;
+    let middle = repeated(rt, row.part, row.times)?;
+    let (status, answer) = encoding_of(rt, "submit", &[], "", &text)?;
+    let octets = format!(in rt.alloc(); "{}{middle}{}", row.first, row.last)?;
+    Ok(status == 0 && answer == octets)
+}
+
 #[test]
 fn encodes_what_fits_one_piece(rt: HostRuntime) -> Result<(), Fail> {
-    for (character, count, first, part, times, last) in LONG_TEXTS {
-        let text = repeated(&rt, character, count)?;
-        let middle = repeated(&rt, part, times)?;
-        let (_, answer) = encoding_of(&rt, "submit", &[], "", &text)?;
-        let expected = format!(in rt.alloc(); "{first}{middle}{last}")?;
-        assert_eq!(rt; answer, expected, "{character} {count}");
+    for row in LONG_TEXTS.as_slice() {
+        let encoded = is_long(&rt, row)?;
+        assert!(rt; encoded, "{} {}", row.character, row.count);
+    }
+    Ok(())
+}
+
+#[test]
+fn refuses_a_text_of_two_pieces(rt: HostRuntime) -> Result<(), Fail> {
+    for row in TWO_PIECES.as_slice() {
+        let text = repeated(&rt, row.character, row.count)?;
+        let (status, answer) = encoding_of(&rt, row.kind, &[], "+1002", &text)?;
+        assert_eq!(rt; status, 1, "{} {} {}", row.kind, row.character, row.count);
+        assert_eq!(rt;
+            answer.as_str(),
+            "text too long",
+            "{} {}",
+            row.character,
+            row.count
+        );
     }
     Ok(())
 }

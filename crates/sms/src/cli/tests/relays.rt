@@ -78,12 +78,12 @@ fn shows_faults_in_cp_messages(rt: HostRuntime) -> Result<(), Fail> {
 
 #[test]
 fn misses_each_octet_of_a_message(rt: HostRuntime) -> Result<(), Fail> {
-    for (kind, octets, end) in WHOLE_MESSAGES {
-        for place in 0..octets.len() / 2 {
-            let front = octets.get(..2 * place).ok_or("no front")?;
+    for row in WHOLE_MESSAGES.as_slice() {
+        for place in 0..row.octets.len() / 2 {
+            let front = row.octets.get(..2 * place).ok_or("no front")?;
             let line = format!(in rt.alloc(); "at {place}: short\n")?;
-            let refused = is_answered(&rt, kind, front, &line, 1)?;
-            assert_eq!(rt; refused, place != end, "{place}");
+            let refused = is_answered(&rt, row.kind, front, &line, 1)?;
+            assert_eq!(rt; refused, place != row.end, "{} {front}", row.kind);
         }
     }
     Ok(())

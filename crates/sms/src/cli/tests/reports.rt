@@ -108,12 +108,12 @@ fn shows_data_of_each_length(rt: HostRuntime) -> Result<(), Fail> {
 
 #[test]
 fn misses_each_octet_of_a_report(rt: HostRuntime) -> Result<(), Fail> {
-    for (kind, octets) in WHOLE_REPORTS {
-        for place in 0..octets.len() / 2 {
-            let front = octets.get(..2 * place).ok_or("no front")?;
+    for row in WHOLE_REPORTS.as_slice() {
+        for place in 0..row.octets.len() / 2 {
+            let front = row.octets.get(..2 * place).ok_or("no front")?;
             let line = format!(in rt.alloc(); "at {place}: short\n")?;
-            let refused = is_answered(&rt, kind, front, &line, 1)?;
-            assert!(rt; refused, "{place}");
+            let refused = is_answered(&rt, row.kind, front, &line, 1)?;
+            assert!(rt; refused, "{} {front}", row.kind);
         }
     }
     Ok(())

@@ -43,6 +43,46 @@ pub struct NotEncoded {
     pub line: &'static str,
 }
 
+/// Octets that are no unit, and the line of the answer.
+pub struct NotShown {
+    pub octets: &'static str,
+    pub line: &'static str,
+}
+
+/// Words that `clap` answers: the status, and a part of its text.
+pub struct Explained {
+    pub words: &'static [&'static str],
+    pub status: u8,
+    pub part: &'static str,
+}
+
+/// A text of one character, as many times as are counted, and its octets in a submission: what stands first, a part as
+/// many times as are counted, and what stands last.
+pub struct LongText {
+    pub character: &'static str,
+    pub count: usize,
+    pub first: &'static str,
+    pub part: &'static str,
+    pub times: usize,
+    pub last: &'static str,
+}
+
+/// A kind of unit, and a text of one character, as many times as are counted.
+pub struct TwoPieces {
+    pub kind: &'static str,
+    pub character: &'static str,
+    pub count: usize,
+}
+
+/// A header with its length octet, and data that are all ones after it: their first octet, in which the fill bits are
+/// 0, how many octets `FF` follow, and how many `à` their septets are.
+pub struct Filled {
+    pub header: &'static str,
+    pub first: &'static str,
+    pub ones: usize,
+    pub septets: usize,
+}
+
 /// A kind of unit, octets that begin with the address of a service centre, the status and the answer.
 pub struct AfterCentre {
     pub kind: &'static str,
@@ -52,7 +92,7 @@ pub struct AfterCentre {
 }
 
 /// Deliveries, and lines of the answer.
-pub static DELIVERIES: [Shown; 57] = [
+pub static DELIVERIES: [Shown; 56] = [
     Shown {
         octets: "040491101000000010100000000002E834",
         lines: "length: 2\ntext: hi\n",
@@ -132,10 +172,6 @@ pub static DELIVERIES: [Shown; 57] = [
     Shown {
         octets: "040491101000000010221000000000",
         lines: "stamp: 2000-01-22 01:00:00 +00:00\n",
-    },
-    Shown {
-        octets: "040491101000000010100000000000",
-        lines: "stamp: 2000-01-01 00:00:00 +00:00\n",
     },
     Shown {
         octets: "04049110100000A010100000000000",
@@ -251,7 +287,7 @@ pub static DELIVERIES: [Shown; 57] = [
     },
     Shown {
         octets: "040491101000000010100000000000",
-        lines: "more: no\nloop: no\nreport: no\nreply: no\n",
+        lines: "type: deliver\nmore: no\nloop: no\nreport: no\nreply: no\nfrom: +0101\nnumber: 1 1\npid: 00\ndcs: 00\nstamp: 2000-01-01 00:00:00 +00:00\nlength: 0\ntext: \n",
     },
     Shown {
         octets: "0C0491101000000010100000000000",
@@ -284,7 +320,7 @@ pub static DELIVERIES: [Shown; 57] = [
 ];
 
 /// More deliveries, and lines of the answer.
-pub static MORE_DELIVERIES: [Shown; 57] = [
+pub static MORE_DELIVERIES: [Shown; 56] = [
     Shown {
         octets: "0404911010000000101000000000021B05",
         lines: "length: 2\ntext: \\f\n",
@@ -360,10 +396,6 @@ pub static MORE_DELIVERIES: [Shown; 57] = [
     Shown {
         octets: "04049110100008001010000000000E0000001F007F005C000A000D000C",
         lines: "length: 14\ntext: \\x00\\x1f\\x7f\\\\\\n\\r\\f\n",
-    },
-    Shown {
-        octets: "0404911010000800101000000000030041FF",
-        lines: "length: 3\ntext: A\n",
     },
     Shown {
         octets: "040491101000080010100000000004FFFEFFFF",
@@ -628,179 +660,420 @@ pub static SUBMISSIONS: [Shown; 27] = [
 ];
 
 /// Octets that are no delivery, and the answer.
-pub static NO_DELIVERIES: [(&str, &str); 35] = [
-    (
-        "040BC87238880900F1000099309251619580A1",
-        "at 18: data too long\n",
-    ),
-    ("", "at 0: short\n"),
-    ("-", "at 0: short\n"),
-    ("0", "bad hex\n"),
-    ("040", "bad hex\n"),
-    ("0x04", "bad hex\n"),
-    ("04 04", "bad hex\n"),
-    ("0G", "bad hex\n"),
-    ("04--", "bad hex\n"),
-    ("01", "at 0: wrong type\n"),
-    ("02", "at 0: wrong type\n"),
-    ("03", "at 0: wrong type\n"),
-    ("05", "at 0: wrong type\n"),
-    ("44", "at 1: short\n"),
-    ("4404911010000000101000000000", "at 14: short\n"),
-    ("0415", "at 1: address too long\n"),
-    ("041591", "at 1: address too long\n"),
-    ("0404911F", "at 3: bad digit\n"),
-    ("040491F1", "at 3: bad digit\n"),
-    ("040391210F", "at 4: bad digit\n"),
-    ("0404911010000000101000000000A1", "at 14: data too long\n"),
-    ("04049110100004001010000000008D", "at 14: data too long\n"),
-    ("04049110100008001010000000008D", "at 14: data too long\n"),
-    ("040491101000000010100000000001", "at 15: short\n"),
-    ("04049110100004001010000000000241", "at 16: short\n"),
-    ("440491101000000010100000000001", "at 14: header too long\n"),
-    ("440491101000000010100000000000", "at 14: header too long\n"),
-    (
-        "44049110100000001010000000000202",
-        "at 15: header too long\n",
-    ),
-    (
-        "44049110100004001010000000000000",
-        "at 14: header too long\n",
-    ),
-    (
-        "44049110100004001010000000000101",
-        "at 15: header too long\n",
-    ),
-    ("440491101000040010100000000002", "at 15: short\n"),
-    ("44049110100000001010000000001005", "at 16: short\n"),
-    ("4404911010000000101000000000A1", "at 14: data too long\n"),
-    ("44049110100008001010000000008D", "at 14: data too long\n"),
-    ("0401D1", "at 3: short\n"),
+pub static NO_DELIVERIES: [NotShown; 35] = [
+    NotShown {
+        octets: "040BC87238880900F1000099309251619580A1",
+        line: "at 18: data too long\n",
+    },
+    NotShown {
+        octets: "",
+        line: "at 0: short\n",
+    },
+    NotShown {
+        octets: "-",
+        line: "at 0: short\n",
+    },
+    NotShown {
+        octets: "0",
+        line: "bad hex\n",
+    },
+    NotShown {
+        octets: "040",
+        line: "bad hex\n",
+    },
+    NotShown {
+        octets: "0x04",
+        line: "bad hex\n",
+    },
+    NotShown {
+        octets: "04 04",
+        line: "bad hex\n",
+    },
+    NotShown {
+        octets: "0G",
+        line: "bad hex\n",
+    },
+    NotShown {
+        octets: "04--",
+        line: "bad hex\n",
+    },
+    NotShown {
+        octets: "01",
+        line: "at 0: wrong type\n",
+    },
+    NotShown {
+        octets: "02",
+        line: "at 0: wrong type\n",
+    },
+    NotShown {
+        octets: "03",
+        line: "at 0: wrong type\n",
+    },
+    NotShown {
+        octets: "05",
+        line: "at 0: wrong type\n",
+    },
+    NotShown {
+        octets: "44",
+        line: "at 1: short\n",
+    },
+    NotShown {
+        octets: "4404911010000000101000000000",
+        line: "at 14: short\n",
+    },
+    NotShown {
+        octets: "0415",
+        line: "at 1: address too long\n",
+    },
+    NotShown {
+        octets: "041591",
+        line: "at 1: address too long\n",
+    },
+    NotShown {
+        octets: "0404911F",
+        line: "at 3: bad digit\n",
+    },
+    NotShown {
+        octets: "040491F1",
+        line: "at 3: bad digit\n",
+    },
+    NotShown {
+        octets: "040391210F",
+        line: "at 4: bad digit\n",
+    },
+    NotShown {
+        octets: "0404911010000000101000000000A1",
+        line: "at 14: data too long\n",
+    },
+    NotShown {
+        octets: "04049110100004001010000000008D",
+        line: "at 14: data too long\n",
+    },
+    NotShown {
+        octets: "04049110100008001010000000008D",
+        line: "at 14: data too long\n",
+    },
+    NotShown {
+        octets: "040491101000000010100000000001",
+        line: "at 15: short\n",
+    },
+    NotShown {
+        octets: "04049110100004001010000000000241",
+        line: "at 16: short\n",
+    },
+    NotShown {
+        octets: "440491101000000010100000000001",
+        line: "at 14: header too long\n",
+    },
+    NotShown {
+        octets: "440491101000000010100000000000",
+        line: "at 14: header too long\n",
+    },
+    NotShown {
+        octets: "44049110100000001010000000000202",
+        line: "at 15: header too long\n",
+    },
+    NotShown {
+        octets: "44049110100004001010000000000000",
+        line: "at 14: header too long\n",
+    },
+    NotShown {
+        octets: "44049110100004001010000000000101",
+        line: "at 15: header too long\n",
+    },
+    NotShown {
+        octets: "440491101000040010100000000002",
+        line: "at 15: short\n",
+    },
+    NotShown {
+        octets: "44049110100000001010000000001005",
+        line: "at 16: short\n",
+    },
+    NotShown {
+        octets: "4404911010000000101000000000A1",
+        line: "at 14: data too long\n",
+    },
+    NotShown {
+        octets: "44049110100008001010000000008D",
+        line: "at 14: data too long\n",
+    },
+    NotShown {
+        octets: "0401D1",
+        line: "at 3: short\n",
+    },
 ];
 
 /// Octets that are no submission, and the answer.
-pub static NO_SUBMISSIONS: [(&str, &str); 21] = [
-    ("", "at 0: short\n"),
-    ("00", "at 0: wrong type\n"),
-    ("02", "at 0: wrong type\n"),
-    ("03", "at 0: wrong type\n"),
-    ("41", "at 1: short\n"),
-    ("01", "at 1: short\n"),
-    ("0100", "at 2: short\n"),
-    ("010015", "at 2: address too long\n"),
-    ("01000191", "at 4: short\n"),
-    ("0100019100", "at 5: short\n"),
-    ("010001911F", "at 4: bad digit\n"),
-    ("0100049101F0", "at 5: bad digit\n"),
-    ("0100049101200000", "at 8: short\n"),
-    ("01000491012000001", "bad hex\n"),
-    ("01000491012000A1", "at 8: short\n"),
-    ("0100049101200000A1", "at 8: data too long\n"),
-    ("01000491012000048D", "at 8: data too long\n"),
-    ("11000491012000", "at 7: short\n"),
-    ("1100049101200000", "at 8: short\n"),
-    ("19000491012000009930925161", "at 13: short\n"),
-    ("0100049101200000029B", "at 10: short\n"),
+pub static NO_SUBMISSIONS: [NotShown; 21] = [
+    NotShown {
+        octets: "",
+        line: "at 0: short\n",
+    },
+    NotShown {
+        octets: "00",
+        line: "at 0: wrong type\n",
+    },
+    NotShown {
+        octets: "02",
+        line: "at 0: wrong type\n",
+    },
+    NotShown {
+        octets: "03",
+        line: "at 0: wrong type\n",
+    },
+    NotShown {
+        octets: "41",
+        line: "at 1: short\n",
+    },
+    NotShown {
+        octets: "01",
+        line: "at 1: short\n",
+    },
+    NotShown {
+        octets: "0100",
+        line: "at 2: short\n",
+    },
+    NotShown {
+        octets: "010015",
+        line: "at 2: address too long\n",
+    },
+    NotShown {
+        octets: "01000191",
+        line: "at 4: short\n",
+    },
+    NotShown {
+        octets: "0100019100",
+        line: "at 5: short\n",
+    },
+    NotShown {
+        octets: "010001911F",
+        line: "at 4: bad digit\n",
+    },
+    NotShown {
+        octets: "0100049101F0",
+        line: "at 5: bad digit\n",
+    },
+    NotShown {
+        octets: "0100049101200000",
+        line: "at 8: short\n",
+    },
+    NotShown {
+        octets: "01000491012000001",
+        line: "bad hex\n",
+    },
+    NotShown {
+        octets: "01000491012000A1",
+        line: "at 8: short\n",
+    },
+    NotShown {
+        octets: "0100049101200000A1",
+        line: "at 8: data too long\n",
+    },
+    NotShown {
+        octets: "01000491012000048D",
+        line: "at 8: data too long\n",
+    },
+    NotShown {
+        octets: "11000491012000",
+        line: "at 7: short\n",
+    },
+    NotShown {
+        octets: "1100049101200000",
+        line: "at 8: short\n",
+    },
+    NotShown {
+        octets: "19000491012000009930925161",
+        line: "at 13: short\n",
+    },
+    NotShown {
+        octets: "0100049101200000029B",
+        line: "at 10: short\n",
+    },
 ];
 
 /// Words that `clap` answers, the status, and what its text has.
-pub static EXPLAINED: [(&[&str], u8, &str); 34] = [
-    (&["sms"], 2, "requires a subcommand"),
-    (&["sms", "help"], 0, "Usage: sms"),
-    (&["sms", "--help"], 0, "encode  Prints the octets"),
-    (
-        &["sms", "show", "-h"],
-        0,
-        "[possible values: deliver, submit, submit-ack, submit-error, deliver-ack, deliver-error, rp, cp]",
-    ),
-    (&["sms", "encode", "--help"], 0, "--stamp <HEX>"),
-    (&["sms", "--version"], 0, "sms 0.1\n"),
-    (&["sms", "read", "deliver", "00"], 2, "'read'"),
-    (&["sms", "split", "--help"], 0, "--ref <N>"),
-    (&["sms", "split"], 2, "<TEXT>"),
-    (&["sms", "split", "a", "b"], 2, "'b'"),
-    (&["sms", "split", "-5"], 2, "'-5'"),
-    (
-        &["sms", "split", "a", "--ref", "65536"],
-        2,
-        "65536 is not in 0..=65535",
-    ),
-    (&["sms", "split", "a", "--ref", "x"], 2, "'x'"),
-    (
-        &["sms", "split", "a", "--ref", "1", "--ref", "1"],
-        2,
-        "cannot be used multiple times",
-    ),
-    (&["sms", "split", "a", "--mr", "1"], 2, "'--mr'"),
-    (&["sms", "play"], 2, "'play'"),
-    (&["sms", "show"], 2, "<KIND> <HEX>"),
-    (&["sms", "show", "deliver"], 2, "<HEX>"),
-    (&["sms", "show", "rl", "00"], 2, "'rl'"),
-    (
-        &["sms", "show", "", "00"],
-        2,
-        "[possible values: deliver, submit, submit-ack, submit-error, deliver-ack, deliver-error, rp, cp]",
-    ),
-    (&["sms", "show", "deliver", "00", "00"], 2, "'00'"),
-    (&["sms", "show", "deliver", "-00"], 2, "'-0'"),
-    (
-        &["sms", "show", "deliver", "00", "--sca", "--sca"],
-        2,
-        "cannot be used multiple times",
-    ),
-    (
-        &["sms", "encode", "submit-ack", "1", "a"],
-        2,
-        "'submit-ack'",
-    ),
-    (&["sms", "encode", "submit", "1"], 2, "<TEXT>"),
-    (&["sms", "encode", "submit", "1", "-5"], 2, "'-5'"),
-    (
-        &["sms", "encode", "submit", "1", "a", "--mr", "256"],
-        2,
-        "256 is not in 0..=255",
-    ),
-    (
-        &["sms", "encode", "submit", "1", "a", "--mr", "x"],
-        2,
-        "'x'",
-    ),
-    (
-        &["sms", "encode", "submit", "1", "a", "--mr"],
-        2,
-        "a value is required",
-    ),
-    (
-        &[
+pub static EXPLAINED: [Explained; 35] = [
+    Explained {
+        words: &["sms"],
+        status: 2,
+        part: "requires a subcommand",
+    },
+    Explained {
+        words: &["sms", "help"],
+        status: 0,
+        part: "Usage: sms",
+    },
+    Explained {
+        words: &["sms", "--help"],
+        status: 0,
+        part: "encode  Prints the octets",
+    },
+    Explained {
+        words: &["sms", "show", "-h"],
+        status: 0,
+        part: "[possible values: deliver, submit, submit-ack, submit-error, deliver-ack, deliver-error, rp, cp]",
+    },
+    Explained {
+        words: &["sms", "encode", "--help"],
+        status: 0,
+        part: "--stamp <HEX>",
+    },
+    Explained {
+        words: &["sms", "--version"],
+        status: 0,
+        part: "sms 0.1\n",
+    },
+    Explained {
+        words: &["sms", "read", "deliver", "00"],
+        status: 2,
+        part: "'read'",
+    },
+    Explained {
+        words: &["sms", "split", "--help"],
+        status: 0,
+        part: "--ref <N>",
+    },
+    Explained {
+        words: &["sms", "split"],
+        status: 2,
+        part: "<TEXT>",
+    },
+    Explained {
+        words: &["sms", "split", "a", "b"],
+        status: 2,
+        part: "'b'",
+    },
+    Explained {
+        words: &["sms", "split", "-5"],
+        status: 2,
+        part: "'-5'",
+    },
+    Explained {
+        words: &["sms", "split", "a", "--ref", "65536"],
+        status: 2,
+        part: "65536 is not in 0..=65535",
+    },
+    Explained {
+        words: &["sms", "split", "a", "--ref", "x"],
+        status: 2,
+        part: "'x'",
+    },
+    Explained {
+        words: &["sms", "split", "a", "--ref", "1", "--ref", "1"],
+        status: 2,
+        part: "cannot be used multiple times",
+    },
+    Explained {
+        words: &["sms", "split", "a", "--mr", "1"],
+        status: 2,
+        part: "'--mr'",
+    },
+    Explained {
+        words: &["sms", "play", "x"],
+        status: 2,
+        part: "'x'",
+    },
+    Explained {
+        words: &["sms", "play", "--help"],
+        status: 0,
+        part: "  carry 6\n  carry 3\n",
+    },
+    Explained {
+        words: &["sms", "show"],
+        status: 2,
+        part: "<KIND> <HEX>",
+    },
+    Explained {
+        words: &["sms", "show", "deliver"],
+        status: 2,
+        part: "<HEX>",
+    },
+    Explained {
+        words: &["sms", "show", "rl", "00"],
+        status: 2,
+        part: "'rl'",
+    },
+    Explained {
+        words: &["sms", "show", "", "00"],
+        status: 2,
+        part: "[possible values: deliver, submit, submit-ack, submit-error, deliver-ack, deliver-error, rp, cp]",
+    },
+    Explained {
+        words: &["sms", "show", "deliver", "00", "00"],
+        status: 2,
+        part: "'00'",
+    },
+    Explained {
+        words: &["sms", "show", "deliver", "-00"],
+        status: 2,
+        part: "'-0'",
+    },
+    Explained {
+        words: &["sms", "show", "deliver", "00", "--sca", "--sca"],
+        status: 2,
+        part: "cannot be used multiple times",
+    },
+    Explained {
+        words: &["sms", "encode", "submit-ack", "1", "a"],
+        status: 2,
+        part: "'submit-ack'",
+    },
+    Explained {
+        words: &["sms", "encode", "submit", "1"],
+        status: 2,
+        part: "<TEXT>",
+    },
+    Explained {
+        words: &["sms", "encode", "submit", "1", "-5"],
+        status: 2,
+        part: "'-5'",
+    },
+    Explained {
+        words: &["sms", "encode", "submit", "1", "a", "--mr", "256"],
+        status: 2,
+        part: "256 is not in 0..=255",
+    },
+    Explained {
+        words: &["sms", "encode", "submit", "1", "a", "--mr", "x"],
+        status: 2,
+        part: "'x'",
+    },
+    Explained {
+        words: &["sms", "encode", "submit", "1", "a", "--mr"],
+        status: 2,
+        part: "a value is required",
+    },
+    Explained {
+        words: &[
             "sms", "encode", "submit", "1", "a", "--mr", "1", "--mr", "1",
         ],
-        2,
-        "cannot be used multiple times",
-    ),
-    (
-        &["sms", "encode", "submit", "1", "a", "--validity", "256"],
-        2,
-        "256 is not in 0..=255",
-    ),
-    (
-        &["sms", "encode", "submit", "1", "a", "--rd", "--rd"],
-        2,
-        "cannot be used multiple times",
-    ),
-    (
-        &["sms", "encode", "deliver", "1", "a", "--stamp"],
-        2,
-        "a value is required",
-    ),
-    (
-        &["sms", "encode", "deliver", "+x", "a", "--rd", "--mr", "256"],
-        2,
-        "256 is not in 0..=255",
-    ),
+        status: 2,
+        part: "cannot be used multiple times",
+    },
+    Explained {
+        words: &["sms", "encode", "submit", "1", "a", "--validity", "256"],
+        status: 2,
+        part: "256 is not in 0..=255",
+    },
+    Explained {
+        words: &["sms", "encode", "submit", "1", "a", "--rd", "--rd"],
+        status: 2,
+        part: "cannot be used multiple times",
+    },
+    Explained {
+        words: &["sms", "encode", "deliver", "1", "a", "--stamp"],
+        status: 2,
+        part: "a value is required",
+    },
+    Explained {
+        words: &["sms", "encode", "deliver", "+x", "a", "--rd", "--mr", "256"],
+        status: 2,
+        part: "256 is not in 0..=255",
+    },
 ];
 
 /// Kinds of unit, options, addresses and texts, and the octets.
-pub static UNITS: [Encoded; 73] = [
+pub static UNITS: [Encoded; 71] = [
     Encoded {
         kind: "submit",
         options: &["--validity", "170"],
@@ -1124,13 +1397,6 @@ pub static UNITS: [Encoded; 73] = [
         octets: "0414D0783C1E8FC7E3F1783C1E0000001010000000000161",
     },
     Encoded {
-        kind: "submit",
-        options: &[],
-        address: "+",
-        text: "a",
-        octets: "0100009100000161",
-    },
-    Encoded {
         kind: "deliver",
         options: &[],
         address: "+0",
@@ -1262,13 +1528,6 @@ pub static UNITS: [Encoded; 73] = [
         address: "+0123456789012345678",
         text: "a",
         octets: "041391103254769810325476F80000001010000000000161",
-    },
-    Encoded {
-        kind: "submit",
-        options: &[],
-        address: "+01234567890123456789",
-        text: "a",
-        octets: "010014911032547698103254769800000161",
     },
     Encoded {
         kind: "submit",
@@ -1550,114 +1809,274 @@ pub static NO_UNITS: [NotEncoded; 29] = [
     },
 ];
 
-/// Texts of one character, which stands as many times as the number says, and the answer: what stands first, what is
-/// repeated, how often, and what stands last.
-pub static LONG_TEXTS: [(&str, usize, &str, &str, usize, &str); 10] = [
-    (
-        "a",
-        159,
-        "0100008100009F",
-        "E170381C0E87C3",
-        19,
-        "E170381C0E8701",
-    ),
-    ("a", 160, "010000810000A0", "E170381C0E87C3", 20, ""),
-    ("a", 161, "text too long", "", 0, ""),
-    ("€", 80, "010000810000A0", "9BF2A6BC296FCA", 20, ""),
-    ("€", 81, "text too long", "", 0, ""),
-    ("ж", 70, "0100008100088C", "0436", 70, ""),
-    ("ж", 71, "text too long", "", 0, ""),
-    ("😀", 35, "0100008100088C", "D83DDE00", 35, ""),
-    ("😀", 36, "text too long", "", 0, ""),
-    ("ж", 161, "text too long", "", 0, ""),
+/// Texts of one character that fit one piece, and the submission of each.
+pub static LONG_TEXTS: [LongText; 5] = [
+    LongText {
+        character: "a",
+        count: 159,
+        first: "0100008100009F",
+        part: "E170381C0E87C3",
+        times: 19,
+        last: "E170381C0E8701",
+    },
+    LongText {
+        character: "a",
+        count: 160,
+        first: "010000810000A0",
+        part: "E170381C0E87C3",
+        times: 20,
+        last: "",
+    },
+    LongText {
+        character: "€",
+        count: 80,
+        first: "010000810000A0",
+        part: "9BF2A6BC296FCA",
+        times: 20,
+        last: "",
+    },
+    LongText {
+        character: "ж",
+        count: 70,
+        first: "0100008100088C",
+        part: "0436",
+        times: 70,
+        last: "",
+    },
+    LongText {
+        character: "😀",
+        count: 35,
+        first: "0100008100088C",
+        part: "D83DDE00",
+        times: 35,
+        last: "",
+    },
 ];
 
-/// Headers with their length octet; the first octet of a text that is all `à` and fills the data after
-/// the header, how many octets `FF` follow, and how many septets the text has.
-pub static HEADERS: [(&str, &str, usize, usize); 9] = [
-    ("00", "C0", 138, 158),
-    ("0170", "E0", 137, 157),
-    ("027000", "F0", 136, 156),
-    ("03700100", "F8", 135, 155),
-    ("0470020000", "FC", 134, 154),
-    ("057003000000", "FE", 133, 153),
-    ("06700400000000", "FF", 132, 152),
-    ("0770050000000000", "C0", 131, 150),
-    ("087006000000000000", "E0", 130, 149),
+/// Texts of one character that do not fit one piece.
+pub static TWO_PIECES: [TwoPieces; 6] = [
+    TwoPieces {
+        kind: "submit",
+        character: "a",
+        count: 161,
+    },
+    TwoPieces {
+        kind: "submit",
+        character: "€",
+        count: 81,
+    },
+    TwoPieces {
+        kind: "submit",
+        character: "ж",
+        count: 71,
+    },
+    TwoPieces {
+        kind: "submit",
+        character: "😀",
+        count: 36,
+    },
+    TwoPieces {
+        kind: "submit",
+        character: "ж",
+        count: 161,
+    },
+    TwoPieces {
+        kind: "deliver",
+        character: "ж",
+        count: 71,
+    },
+];
+
+/// Headers before data that they leave full, by the greatest lengths.
+pub static HEADERS: [Filled; 9] = [
+    Filled {
+        header: "00",
+        first: "C0",
+        ones: 138,
+        septets: 158,
+    },
+    Filled {
+        header: "0170",
+        first: "E0",
+        ones: 137,
+        septets: 157,
+    },
+    Filled {
+        header: "027000",
+        first: "F0",
+        ones: 136,
+        septets: 156,
+    },
+    Filled {
+        header: "03700100",
+        first: "F8",
+        ones: 135,
+        septets: 155,
+    },
+    Filled {
+        header: "0470020000",
+        first: "FC",
+        ones: 134,
+        septets: 154,
+    },
+    Filled {
+        header: "057003000000",
+        first: "FE",
+        ones: 133,
+        septets: 153,
+    },
+    Filled {
+        header: "06700400000000",
+        first: "FF",
+        ones: 132,
+        septets: 152,
+    },
+    Filled {
+        header: "0770050000000000",
+        first: "C0",
+        ones: 131,
+        septets: 150,
+    },
+    Filled {
+        header: "087006000000000000",
+        first: "E0",
+        ones: 130,
+        septets: 149,
+    },
 ];
 
 /// Kinds of unit, octets that begin with the address of a service centre, the status and the answer.
-pub static AFTER_CENTRES: [(&str, &str, u8, &str); 22] = [
-    (
-        "deliver",
-        "07917283010010F5040BC87238880900F10000993092516195800AE8329BFD4697D9EC37",
-        0,
-        "centre: +27381000015\ntype: deliver\nmore: no\nloop: no\nreport: no\nreply: no\nfrom: 27838890001\nnumber: 4 8\npid: 00\ndcs: 00\nstamp: 2099-03-29 15:16:59 +02:00\nlength: 10\ntext: hellohello\n",
-    ),
-    (
-        "submit",
-        "00010004910120000000",
-        0,
-        "centre: none\ntype: submit\nreject: no\nreport: no\nreply: no\nreference: 00\nto: +1002\nnumber: 1 1\npid: 00\ndcs: 00\nvalidity: none\nlength: 0\ntext: \n",
-    ),
-    (
-        "submit",
-        "0191010004910120000000",
-        0,
-        "centre: +\ntype: submit\nreject: no\nreport: no\nreply: no\nreference: 00\nto: +1002\nnumber: 1 1\npid: 00\ndcs: 00\nvalidity: none\nlength: 0\ntext: \n",
-    ),
-    (
-        "submit",
-        "0181010004910120000000",
-        0,
-        "centre: \ntype: submit\nreject: no\nreport: no\nreply: no\nreference: 00\nto: +1002\nnumber: 1 1\npid: 00\ndcs: 00\nvalidity: none\nlength: 0\ntext: \n",
-    ),
-    (
-        "submit",
-        "0291F1010004910120000000",
-        0,
-        "centre: +1\ntype: submit\nreject: no\nreport: no\nreply: no\nreference: 00\nto: +1002\nnumber: 1 1\npid: 00\ndcs: 00\nvalidity: none\nlength: 0\ntext: \n",
-    ),
-    (
-        "submit",
-        "039121F3010004910120000000",
-        0,
-        "centre: +123\ntype: submit\nreject: no\nreport: no\nreply: no\nreference: 00\nto: +1002\nnumber: 1 1\npid: 00\ndcs: 00\nvalidity: none\nlength: 0\ntext: \n",
-    ),
-    (
-        "submit",
-        "0BD121436587092143658709010004910120000000",
-        0,
-        "centre: 12345678901234567890\ntype: submit\nreject: no\nreport: no\nreply: no\nreference: 00\nto: +1002\nnumber: 1 1\npid: 00\ndcs: 00\nvalidity: none\nlength: 0\ntext: \n",
-    ),
-    (
-        "submit",
-        "0691BADCFEEEE0010004910120000000",
-        1,
-        "at 4: bad address\n",
-    ),
-    ("deliver", "", 1, "at 0: short\n"),
-    ("deliver", "00", 1, "centre: none\nat 0: short\n"),
-    ("deliver", "01", 1, "at 1: short\n"),
-    ("deliver", "0C91", 1, "at 0: bad address\n"),
-    ("deliver", "FF", 1, "at 0: bad address\n"),
-    ("deliver", "0291", 1, "at 2: short\n"),
-    ("deliver", "02911F", 1, "at 2: bad address\n"),
-    ("deliver", "0391F121", 1, "at 2: bad address\n"),
-    ("deliver", "03911F21", 1, "at 2: bad address\n"),
-    ("deliver", "019105", 1, "centre: +\nat 0: wrong type\n"),
-    ("deliver", "00040BC8", 1, "centre: none\nat 3: short\n"),
-    (
-        "deliver",
-        "07917283010010F5040BC87238880900F10000993092516195800AA1",
-        1,
-        "centre: +27381000015\nat 20: short\n",
-    ),
-    (
-        "deliver",
-        "039121F105",
-        1,
-        "centre: +121\nat 0: wrong type\n",
-    ),
-    ("submit", "0004", 1, "centre: none\nat 0: wrong type\n"),
+pub static AFTER_CENTRES: [AfterCentre; 22] = [
+    AfterCentre {
+        kind: "deliver",
+        octets: "07917283010010F5040BC87238880900F10000993092516195800AE8329BFD4697D9EC37",
+        status: 0,
+        answer: "centre: +27381000015\ntype: deliver\nmore: no\nloop: no\nreport: no\nreply: no\nfrom: 27838890001\nnumber: 4 8\npid: 00\ndcs: 00\nstamp: 2099-03-29 15:16:59 +02:00\nlength: 10\ntext: hellohello\n",
+    },
+    AfterCentre {
+        kind: "submit",
+        octets: "00010004910120000000",
+        status: 0,
+        answer: "centre: none\ntype: submit\nreject: no\nreport: no\nreply: no\nreference: 00\nto: +1002\nnumber: 1 1\npid: 00\ndcs: 00\nvalidity: none\nlength: 0\ntext: \n",
+    },
+    AfterCentre {
+        kind: "submit",
+        octets: "0191010004910120000000",
+        status: 0,
+        answer: "centre: +\ntype: submit\nreject: no\nreport: no\nreply: no\nreference: 00\nto: +1002\nnumber: 1 1\npid: 00\ndcs: 00\nvalidity: none\nlength: 0\ntext: \n",
+    },
+    AfterCentre {
+        kind: "submit",
+        octets: "0181010004910120000000",
+        status: 0,
+        answer: "centre: \ntype: submit\nreject: no\nreport: no\nreply: no\nreference: 00\nto: +1002\nnumber: 1 1\npid: 00\ndcs: 00\nvalidity: none\nlength: 0\ntext: \n",
+    },
+    AfterCentre {
+        kind: "submit",
+        octets: "0291F1010004910120000000",
+        status: 0,
+        answer: "centre: +1\ntype: submit\nreject: no\nreport: no\nreply: no\nreference: 00\nto: +1002\nnumber: 1 1\npid: 00\ndcs: 00\nvalidity: none\nlength: 0\ntext: \n",
+    },
+    AfterCentre {
+        kind: "submit",
+        octets: "039121F3010004910120000000",
+        status: 0,
+        answer: "centre: +123\ntype: submit\nreject: no\nreport: no\nreply: no\nreference: 00\nto: +1002\nnumber: 1 1\npid: 00\ndcs: 00\nvalidity: none\nlength: 0\ntext: \n",
+    },
+    AfterCentre {
+        kind: "submit",
+        octets: "0BD121436587092143658709010004910120000000",
+        status: 0,
+        answer: "centre: 12345678901234567890\ntype: submit\nreject: no\nreport: no\nreply: no\nreference: 00\nto: +1002\nnumber: 1 1\npid: 00\ndcs: 00\nvalidity: none\nlength: 0\ntext: \n",
+    },
+    AfterCentre {
+        kind: "submit",
+        octets: "0691BADCFEEEE0010004910120000000",
+        status: 1,
+        answer: "at 4: bad address\n",
+    },
+    AfterCentre {
+        kind: "deliver",
+        octets: "",
+        status: 1,
+        answer: "at 0: short\n",
+    },
+    AfterCentre {
+        kind: "deliver",
+        octets: "00",
+        status: 1,
+        answer: "centre: none\nat 0: short\n",
+    },
+    AfterCentre {
+        kind: "deliver",
+        octets: "01",
+        status: 1,
+        answer: "at 1: short\n",
+    },
+    AfterCentre {
+        kind: "deliver",
+        octets: "0C91",
+        status: 1,
+        answer: "at 0: bad address\n",
+    },
+    AfterCentre {
+        kind: "deliver",
+        octets: "FF",
+        status: 1,
+        answer: "at 0: bad address\n",
+    },
+    AfterCentre {
+        kind: "deliver",
+        octets: "0291",
+        status: 1,
+        answer: "at 2: short\n",
+    },
+    AfterCentre {
+        kind: "deliver",
+        octets: "02911F",
+        status: 1,
+        answer: "at 2: bad address\n",
+    },
+    AfterCentre {
+        kind: "deliver",
+        octets: "0391F121",
+        status: 1,
+        answer: "at 2: bad address\n",
+    },
+    AfterCentre {
+        kind: "deliver",
+        octets: "03911F21",
+        status: 1,
+        answer: "at 2: bad address\n",
+    },
+    AfterCentre {
+        kind: "deliver",
+        octets: "019105",
+        status: 1,
+        answer: "centre: +\nat 0: wrong type\n",
+    },
+    AfterCentre {
+        kind: "deliver",
+        octets: "00040BC8",
+        status: 1,
+        answer: "centre: none\nat 3: short\n",
+    },
+    AfterCentre {
+        kind: "deliver",
+        octets: "07917283010010F5040BC87238880900F10000993092516195800AA1",
+        status: 1,
+        answer: "centre: +27381000015\nat 20: short\n",
+    },
+    AfterCentre {
+        kind: "deliver",
+        octets: "039121F105",
+        status: 1,
+        answer: "centre: +121\nat 0: wrong type\n",
+    },
+    AfterCentre {
+        kind: "submit",
+        octets: "0004",
+        status: 1,
+        answer: "centre: none\nat 0: wrong type\n",
+    },
 ];

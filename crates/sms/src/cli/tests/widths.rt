@@ -107,19 +107,3 @@ fn refuses_references_and_texts_too_large(rt: HostRuntime) -> Result<(), Fail> {
     }
     Ok(())
 }
-
-/// Whether a text is refused as one that needs more than one piece.
-fn is_too_long(rt: &HostRuntime, kind: &str, text: &str) -> Result<bool, Fail> {
-    let text = expanded(rt, text)?;
-    let (status, answer) = answer_to(rt, &["sms", "encode", kind, "+1002", &text])?;
-    Ok(status == 1 && answer.as_str() == "text too long\n")
-}
-
-#[test]
-fn refuses_a_text_of_two_pieces(rt: HostRuntime) -> Result<(), Fail> {
-    let submit = is_too_long(&rt, "submit", "a*161")?;
-    assert!(rt; submit);
-    let deliver = is_too_long(&rt, "deliver", "ж*71")?;
-    assert!(rt; deliver);
-    Ok(())
-}

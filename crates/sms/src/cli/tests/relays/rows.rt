@@ -2,6 +2,13 @@
 
 use crate::cli::tests::rows::{AfterCentre, Shown};
 
+/// A kind of message, its octets, and where it may end: before its user data, or else at its end.
+pub struct WholeMessage {
+    pub kind: &'static str,
+    pub octets: &'static str,
+    pub end: usize,
+}
+
 /// RP messages with what they carry, and the answer.
 pub static RP_MESSAGES: [Shown; 58] = [
     Shown {
@@ -1150,28 +1157,68 @@ pub static FAULTS_IN_CP: [Shown; 39] = [
     },
 ];
 
-/// Kinds, octets, and where the message may end, before its user data or else at its end.
-pub static WHOLE_MESSAGES: [(&str, &str, usize); 12] = [
-    ("rp", "000000039101000B010004910120000002E834", 19),
-    (
-        "rp",
-        "0100039101000011040491101000000010100000000002E834",
-        25,
-    ),
-    ("rp", "020041020000", 2),
-    ("rp", "03004109010000101000000000", 2),
-    ("rp", "04000116410300D300", 4),
-    ("rp", "0500021500410A01C50000101000000000", 5),
-    ("rp", "0400017F", 4),
-    ("cp", "090113000000039101000B010004910120000002E834", 22),
-    (
-        "cp",
-        "E901190100039101000011040491101000000010100000000002E834",
-        28,
-    ),
-    ("cp", "09010D03004109010000101000000000", 16),
-    ("cp", "091016", 3),
-    ("cp", "8904", 2),
+/// Messages of which no octet may miss.
+pub static WHOLE_MESSAGES: [WholeMessage; 12] = [
+    WholeMessage {
+        kind: "rp",
+        octets: "000000039101000B010004910120000002E834",
+        end: 19,
+    },
+    WholeMessage {
+        kind: "rp",
+        octets: "0100039101000011040491101000000010100000000002E834",
+        end: 25,
+    },
+    WholeMessage {
+        kind: "rp",
+        octets: "020041020000",
+        end: 2,
+    },
+    WholeMessage {
+        kind: "rp",
+        octets: "03004109010000101000000000",
+        end: 2,
+    },
+    WholeMessage {
+        kind: "rp",
+        octets: "04000116410300D300",
+        end: 4,
+    },
+    WholeMessage {
+        kind: "rp",
+        octets: "0500021500410A01C50000101000000000",
+        end: 5,
+    },
+    WholeMessage {
+        kind: "rp",
+        octets: "0400017F",
+        end: 4,
+    },
+    WholeMessage {
+        kind: "cp",
+        octets: "090113000000039101000B010004910120000002E834",
+        end: 22,
+    },
+    WholeMessage {
+        kind: "cp",
+        octets: "E901190100039101000011040491101000000010100000000002E834",
+        end: 28,
+    },
+    WholeMessage {
+        kind: "cp",
+        octets: "09010D03004109010000101000000000",
+        end: 16,
+    },
+    WholeMessage {
+        kind: "cp",
+        octets: "091016",
+        end: 3,
+    },
+    WholeMessage {
+        kind: "cp",
+        octets: "8904",
+        end: 2,
+    },
 ];
 
 /// Kinds, octets that begin with the address of a service centre, the status, and the answer.

@@ -9,6 +9,12 @@ pub struct Report {
     pub answer: &'static str,
 }
 
+/// A kind of report, and its octets.
+pub struct WholeReport {
+    pub kind: &'static str,
+    pub octets: &'static str,
+}
+
 /// A kind of report, its octets up to TP-UDL, that, how many octets of data follow, and the lines before those of the data.
 pub struct Data {
     pub kind: &'static str,
@@ -487,7 +493,7 @@ pub static REPORTS: [Report; 60] = [
 ];
 
 /// Kinds, octets with a failure cause, and the answer.
-pub static CAUSES: [Report; 22] = [
+pub static CAUSES: [Report; 21] = [
     Report {
         kind: "submit-error",
         octets: "01900000101000000000",
@@ -577,11 +583,6 @@ pub static CAUSES: [Report; 22] = [
         kind: "deliver-error",
         octets: "00C700",
         answer: "type: deliver-error\nheader: no\ncause: C7\n",
-    },
-    Report {
-        kind: "deliver-error",
-        octets: "00D300",
-        answer: "type: deliver-error\nheader: no\ncause: D3\n",
     },
     Report {
         kind: "deliver-error",
@@ -1540,26 +1541,56 @@ pub static MORE_NO_REPORTS: [Report; 48] = [
     },
 ];
 
-/// Kinds and octets of which none may miss.
-pub static WHOLE_REPORTS: [(&str, &str); 12] = [
-    ("submit-ack", "0107993092516195807F04030041FF"),
-    (
-        "submit-ack",
-        "0187FA55993092516195807F000AE8329BFD4697D9EC37",
-    ),
-    ("submit-ack", "0104993092516195800AE8329BFD4697D9EC37"),
-    ("submit-error", "01D307993092516195807F04030041FF"),
-    (
-        "submit-error",
-        "01D387FA55993092516195807F000AE8329BFD4697D9EC37",
-    ),
-    ("submit-error", "01D304993092516195800AE8329BFD4697D9EC37"),
-    ("deliver-ack", "00077F04030041FF"),
-    ("deliver-ack", "0087FA557F000AE8329BFD4697D9EC37"),
-    ("deliver-ack", "00040AE8329BFD4697D9EC37"),
-    ("deliver-error", "00D3077F04030041FF"),
-    ("deliver-error", "00D387FA557F000AE8329BFD4697D9EC37"),
-    ("deliver-error", "00D3040AE8329BFD4697D9EC37"),
+/// Reports of which no octet may miss.
+pub static WHOLE_REPORTS: [WholeReport; 12] = [
+    WholeReport {
+        kind: "submit-ack",
+        octets: "0107993092516195807F04030041FF",
+    },
+    WholeReport {
+        kind: "submit-ack",
+        octets: "0187FA55993092516195807F000AE8329BFD4697D9EC37",
+    },
+    WholeReport {
+        kind: "submit-ack",
+        octets: "0104993092516195800AE8329BFD4697D9EC37",
+    },
+    WholeReport {
+        kind: "submit-error",
+        octets: "01D307993092516195807F04030041FF",
+    },
+    WholeReport {
+        kind: "submit-error",
+        octets: "01D387FA55993092516195807F000AE8329BFD4697D9EC37",
+    },
+    WholeReport {
+        kind: "submit-error",
+        octets: "01D304993092516195800AE8329BFD4697D9EC37",
+    },
+    WholeReport {
+        kind: "deliver-ack",
+        octets: "00077F04030041FF",
+    },
+    WholeReport {
+        kind: "deliver-ack",
+        octets: "0087FA557F000AE8329BFD4697D9EC37",
+    },
+    WholeReport {
+        kind: "deliver-ack",
+        octets: "00040AE8329BFD4697D9EC37",
+    },
+    WholeReport {
+        kind: "deliver-error",
+        octets: "00D3077F04030041FF",
+    },
+    WholeReport {
+        kind: "deliver-error",
+        octets: "00D387FA557F000AE8329BFD4697D9EC37",
+    },
+    WholeReport {
+        kind: "deliver-error",
+        octets: "00D3040AE8329BFD4697D9EC37",
+    },
 ];
 
 /// Kinds, octets that begin with the address of a service centre, the status, and the answer.

@@ -14,6 +14,13 @@ pub struct Referenced {
     pub lines: &'static str,
 }
 
+/// A character, how many of them have 255 segments, and what the last segment begins with.
+pub struct Greatest {
+    pub character: &'static str,
+    pub count: usize,
+    pub last: &'static str,
+}
+
 /// Texts of the 7-bit alphabet, and the answer.
 pub static SEPTETS: [Split; 40] = [
     Split {
@@ -372,10 +379,26 @@ pub static REFERENCES: [Referenced; 10] = [
     },
 ];
 
-/// Characters, how many of them have 255 segments, and what the last segment begins with.
-pub static TOO_MANY: [(&str, usize, &str); 4] = [
-    ("a", 39015, "\n255/255 gsm 160 05000300FFFFC"),
-    ("€", 19380, "\n255/255 gsm 159 05000300FFFF3"),
-    ("ж", 17085, "\n255/255 ucs2 140 05000300FFFF"),
-    ("😀", 8415, "\n255/255 ucs2 138 05000300FFFF"),
+/// The longest texts of one character.
+pub static TOO_MANY: [Greatest; 4] = [
+    Greatest {
+        character: "a",
+        count: 39015,
+        last: "\n255/255 gsm 160 05000300FFFFC",
+    },
+    Greatest {
+        character: "€",
+        count: 19380,
+        last: "\n255/255 gsm 159 05000300FFFF3",
+    },
+    Greatest {
+        character: "ж",
+        count: 17085,
+        last: "\n255/255 ucs2 140 05000300FFFF",
+    },
+    Greatest {
+        character: "😀",
+        count: 8415,
+        last: "\n255/255 ucs2 138 05000300FFFF",
+    },
 ];
