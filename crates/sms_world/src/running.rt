@@ -3,12 +3,13 @@
 ghost use Rattle.std.specs.Prelude.{◌≡◌, IfOk, length};
 ghost use Rattle.sms_script.specs.Meaning.Known.{ArePhones};
 ghost use Rattle.sms_script.specs.Script.Limits.{AreLimits};
+ghost use Rattle.sms_world.specs.Headline.Refused.{RefusedOnlyWhereFull};
 ghost use Rattle.sms_world.specs.World.Claims.{StoresAreWhole, AcceptsOnce};
 ghost use Rattle.sms_world.specs.World.Claims.{AcceptedWereAccepted, CopiesMayComeInTime};
 ghost use Rattle.sms_world.specs.World.Steps.{Runs};
 
 use crate::fault::WorldFault;
-use crate::laws::claims_hold;
+use crate::laws::{claims_hold, deliveries_are_refused_only_where_full};
 use crate::world::World;
 use sms_field::Address;
 use sms_party::Outcome;
@@ -29,11 +30,13 @@ pub fn run(
     ensures runs { IfOk result (λ r. Runs limits phones.now events.now r.1.items r.0) }
     ensures phones { IfOk result (λ r. length r.0.parties.phones ≡ length phones.now) }
     ensures whole { IfOk result (λ r. StoresAreWhole r.0) }
+    ensures refused { RefusedOnlyWhereFull }
     ensures once { IfOk result (λ r. AcceptsOnce r.0) }
     ensures accepted { IfOk result (λ r. AcceptedWereAccepted r.0) }
     ensures copies { IfOk result (λ r. CopiesMayComeInTime r.0) }
 {
     claims_hold();
+    deliveries_are_refused_only_where_full();
     let mut world = World::new(alloc, limits, phones)?;
     let mut answers = Vec::with_capacity(alloc, events.len())?;
     for event in events {

@@ -30,3 +30,6 @@ returns-clause-accepted c = c.claims_hold.ensures.accepted c.loop-event.world
 
 pub returns-clause-copies : goal.returns-clause-copies
 returns-clause-copies c = c.claims_hold.ensures.copies c.loop-event.world
+
+pub returns-clause-refused : goal.returns-clause-refused
+returns-clause-refused c = c.deliveries_are_refused_only_where_full.ensures
