@@ -5,6 +5,7 @@ ghost use Rattle.sms_field.specs.Times.{end_of};
 ghost use Rattle.sms_field.specs.Validity.{relative_seconds, EndIs};
 
 use crate::stamp::Stamp;
+use thiserror::Error;
 
 /// How long a service centre keeps a message that it cannot deliver.
 #[derive(Clone, Copy, Debug, PartialEq, Eq)]
@@ -20,11 +21,13 @@ pub enum Validity {
 }
 
 /// Why a validity period has no end.
-#[derive(Clone, Copy, Debug, PartialEq, Eq)]
+#[derive(Clone, Copy, Debug, PartialEq, Eq, Error)]
 pub enum ValidityFault {
     /// The enhanced format is not interpreted.
+    #[error("enhanced validity")]
     EnhancedValidity,
     /// The stamp of an absolute period has no moment.
+    #[error("no moment")]
     NoMoment,
 }
 

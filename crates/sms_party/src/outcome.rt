@@ -6,6 +6,7 @@ ghost use Rattle.sms_party.specs.Sender.Splitting.{dropped_of};
 
 use sms_join::SplitFault;
 use std::alloc::{AllocError, AllocFailed};
+use thiserror::Error;
 
 /// What a party did. Texts of a sender are numbered from 1, and so are the segments of a text.
 #[derive(Clone, Copy, Debug, PartialEq, Eq)]
@@ -73,17 +74,22 @@ pub enum Outcome {
 }
 
 /// Why nothing came of a call.
-#[derive(Clone, Copy, Debug, PartialEq, Eq)]
+#[derive(Clone, Copy, Debug, PartialEq, Eq, Error)]
 pub enum Dropped {
     /// The octets are no CP message.
+    #[error("drop not cp")]
     NotCp,
     /// No message of this kind is waited for.
+    #[error("drop unmatched")]
     Unmatched,
     /// As many texts wait as may.
+    #[error("drop busy")]
     Busy,
     /// Memory ran out.
+    #[error("drop memory")]
     Memory,
     /// The text has more than 255 segments.
+    #[error("drop too many segments")]
     TooManySegments,
 }
 

@@ -48,9 +48,11 @@ pub enum ScriptFault {
 }
 
 /// Why a line has no meaning: it is at fault, or memory ran out.
-#[derive(Clone, Copy, Debug, PartialEq, Eq)]
+#[derive(Clone, Copy, Debug, PartialEq, Eq, Error)]
 pub enum MeaningFault {
+    #[error("out of memory")]
     Memory,
+    #[error("{0}")]
     Script(ScriptFault),
 }
 

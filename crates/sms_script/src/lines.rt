@@ -7,6 +7,7 @@ ghost use Rattle.sms_script.specs.declared.lines.LineFault.TheVariants.{Memory};
 
 use crate::devices::{Source, next_octet};
 use std::alloc::AllocFailed;
+use thiserror::Error;
 
 /// The greatest length of a line in octets, without its line feed and the carriage return before
 /// it.
@@ -20,13 +21,16 @@ pub enum LineEnd {
 }
 
 /// Why a line could not be read.
-#[derive(Clone, Copy, Debug, PartialEq, Eq)]
+#[derive(Clone, Copy, Debug, PartialEq, Eq, Error)]
 pub enum LineFault {
     /// The source failed.
+    #[error("read failed")]
     Read,
     /// The line has more octets than a line may have.
+    #[error("line too long")]
     TooLong,
     /// Memory ran out.
+    #[error("out of memory")]
     Memory,
 }
 

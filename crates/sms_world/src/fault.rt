@@ -6,17 +6,22 @@ ghost use Rattle.sms_world.specs.declared.fault.WorldFault.TheVariants.{Party};
 
 use sms_party::Dropped;
 use std::alloc::AllocError;
+use thiserror::Error;
 
 /// Why nothing came of an event.
-#[derive(Clone, Copy, Debug, PartialEq, Eq)]
+#[derive(Clone, Copy, Debug, PartialEq, Eq, Error)]
 pub enum WorldFault {
     /// No packet of this number was put out.
+    #[error("fault no such packet")]
     NoSuchPacket,
     /// There is no phone of this number.
+    #[error("fault no such phone")]
     NoSuchPhone,
     /// The clock would reach the end of 2099.
+    #[error("fault clock end")]
     ClockEnd,
     /// A party dropped what came.
+    #[error("{0}")]
     Party(Dropped),
 }
 

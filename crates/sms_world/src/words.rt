@@ -100,3 +100,6 @@ pub fn status_text(status: Status) -> &'static str
         Status::Failed => "failed",
     }
 }
+
+#[cfg(test)]
+mod tests;
