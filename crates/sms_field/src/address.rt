@@ -39,7 +39,11 @@ impl Model for Address {
 
     ghost inverse = { λ v. record { type_of_number = v.kind; plan = v.plan; symbols = v.symbols } };
 
-    ghost invariant = { λ a. HasSpelling (record { kind = a.type_of_number; plan = a.plan; symbols = a.symbols }) };
+    ghost invariant = { λ a. HasSpelling (record {
+      kind = a.type_of_number;
+      plan = a.plan;
+      symbols = a.symbols;
+    }) };
 }
 
 /// The most octets of an address.

@@ -19,7 +19,8 @@ pub trait Join<A, B, W> {
     /// Both are lawful, the second for each value that the first can read.
     ghost first_lawful: { IsLawful short first };
 
-    ghost second_lawful: { (a : A) (octets rest : List ℕ) → first.reads a octets rest → IsLawful short (second a) };
+    ghost second_lawful: { (a : A) (octets rest : List ℕ)
+        → first.reads a octets rest → IsLawful short (second a) };
 }
 
 /// Does nothing: its contract is the law of joins.

@@ -49,11 +49,16 @@ impl Model for RpAddress {
 
     ghost inverse = { λ v. record { type_of_number = v.kind; plan = v.plan; digits = v.digits } };
 
-    ghost invariant = { λ a. HasRelaySpelling (record { kind = a.type_of_number; plan = a.plan; digits = a.digits }) };
+    ghost invariant = { λ a. HasRelaySpelling (record {
+      kind = a.type_of_number;
+      plan = a.plan;
+      digits = a.digits;
+    }) };
 }
 
 impl PartialEq for RpAddress {
-    ghost eq = { λ a b. nat_eq a.kind b.kind && (nat_eq a.plan b.plan && pointwise nat_eq a.digits b.digits) };
+    ghost eq = { λ a b.
+        nat_eq a.kind b.kind && (nat_eq a.plan b.plan && pointwise nat_eq a.digits b.digits) };
 
     ghost laws = { Prim.search (comparing, rules) };
 

@@ -31,8 +31,9 @@ pub fn arrival_joins_in_order()
     ensures { JoinsOne }
 {}
 
-/// After arrivals in order and agings the open sets are those of the texts that have arrived in part, the remembered keys are those
-/// of the last texts that have arrived whole, and each of these was delivered once, in order of completion.
+/// After arrivals in order and agings the open sets are those of the texts that have arrived in
+/// part, the remembered keys are those of the last texts that have arrived whole, and each of these
+/// was delivered once, in order of completion.
 pub fn arrivals_join_in_order()
     ensures { JoinsInOrder }
 {}

@@ -31,7 +31,8 @@ pub fn stamps_rise()
     ensures { StampsRise }
 {}
 
-/// Deliveries of different messages to one phone, each in one piece, have different keys, so that the phone stores both.
+/// Deliveries of different messages to one phone, each in one piece, have different keys, so that
+/// the phone stores both.
 pub fn deliveries_have_own_keys()
     ensures { DeliveriesHaveOwnKeys }
 {

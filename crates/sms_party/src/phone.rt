@@ -48,8 +48,9 @@ fn is_answer(message: &Message) -> bool
 }
 
 impl Phone {
-    /// A phone that has typed nothing, with an empty store: how many sets of segments may be open, how many finished ones
-    /// are remembered, and how many texts are stored. For the other two see `Sender::new`.
+    /// A phone that has typed nothing, with an empty store: how many sets of segments may be open,
+    /// how many finished ones are remembered, and how many texts are stored. For the other two see
+    /// `Sender::new`.
     pub fn new(
         alloc: Global,
         open_max: usize,

@@ -94,8 +94,8 @@ fn units_of(alloc: Global, alphabet: Alphabet, body: Body) -> Result<Option<Unit
 }
 
 impl Receiver {
-    /// A phone with an empty store: how many sets of segments may be open, how many finished ones are remembered, and how
-    /// many texts are stored.
+    /// A phone with an empty store: how many sets of segments may be open, how many finished ones
+    /// are remembered, and how many texts are stored.
     pub fn new(
         alloc: Global,
         open_max: usize,

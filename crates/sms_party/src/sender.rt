@@ -282,7 +282,8 @@ impl Sender {
         }
     }
 
-    /// Takes what comes to the phone in a transaction that it has opened. If it answers an error, the phone is as it was.
+    /// Takes what comes to the phone in a transaction that it has opened. If it answers an error,
+    /// the phone is as it was.
     pub fn receive(&mut self, octets: &[u8]) -> Result<Step, Dropped>
         ensures receives { Receives octets.now self.old result self.new }
         ensures refused { OnErr result (self.new ≡ self.old) }

@@ -43,7 +43,11 @@ impl Model for CpMessage {
 
     ghost view = { λ m. record { flag = m.flag; value = m.value; body = m.body } };
 
-    ghost invariant = { λ m. IsCpMessage (record { flag = m.flag; value = m.value; body = m.body }) };
+    ghost invariant = { λ m. IsCpMessage (record {
+      flag = m.flag;
+      value = m.value;
+      body = m.body;
+    }) };
 }
 
 /// The kind of a message with this body.

@@ -22,8 +22,8 @@ use std::marker::Model;
 /// What an RP message holds. User data are at most 233 octets.
 #[derive(Drop)]
 pub enum RpBody {
-    /// RP-DATA (3GPP TS 24.011, 7.3.1): the address of the service centre, which is RP-Destination Address from a phone and
-    /// RP-Originator Address to one, and RP-User Data, a transfer unit.
+    /// RP-DATA (3GPP TS 24.011, 7.3.1): the address of the service centre, which is RP-Destination
+    /// Address from a phone and RP-Originator Address to one, and RP-User Data, a transfer unit.
     Transfer {
         address: Option<RpAddress>,
         user: Octets,
@@ -57,7 +57,11 @@ impl Model for RpMessage {
 
     ghost view = { λ m. record { side = m.side; reference = m.reference; body = m.body } };
 
-    ghost invariant = { λ m. IsRpMessage (record { side = m.side; reference = m.reference; body = m.body }) };
+    ghost invariant = { λ m. IsRpMessage (record {
+      side = m.side;
+      reference = m.reference;
+      body = m.body;
+    }) };
 }
 
 /// The kind of a message with this body.

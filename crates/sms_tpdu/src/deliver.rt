@@ -44,9 +44,29 @@ impl Model for Deliver {
 
     ghost Value = { Delivery };
 
-    ghost view = { λ d. record { more = d.more; looped = d.looped; report = d.report; reply = d.reply; origin = d.origin; pid = d.pid; dcs = d.dcs; stamp = d.stamp; user = d.user } };
+    ghost view = { λ d. record {
+      more = d.more;
+      looped = d.looped;
+      report = d.report;
+      reply = d.reply;
+      origin = d.origin;
+      pid = d.pid;
+      dcs = d.dcs;
+      stamp = d.stamp;
+      user = d.user;
+    } };
 
-    ghost invariant = { λ d. IsDeliverable (record { more = d.more; looped = d.looped; report = d.report; reply = d.reply; origin = d.origin; pid = d.pid; dcs = d.dcs; stamp = d.stamp; user = d.user }) };
+    ghost invariant = { λ d. IsDeliverable (record {
+      more = d.more;
+      looped = d.looped;
+      report = d.report;
+      reply = d.reply;
+      origin = d.origin;
+      pid = d.pid;
+      dcs = d.dcs;
+      stamp = d.stamp;
+      user = d.user;
+    }) };
 }
 
 /// The most octets before the user data.

@@ -15,7 +15,8 @@ use std::alloc::{AllocError, Global};
 pub trait Unit: Sized + Drop {
     type Why: Reason;
 
-    /// Which octets are read as a value, and for which reason an octet is refused that cannot follow the ones before it.
+    /// Which octets are read as a value, and for which reason an octet is refused that cannot
+    /// follow the ones before it.
     ghost field: { Field Self Self.Why };
 
     /// By `spells value octets` these octets are written for the value.

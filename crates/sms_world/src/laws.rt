@@ -93,24 +93,24 @@ pub fn stores_stand()
     laws_below();
 }
 
-/// Does nothing: its contract says that these are just the texts typed to the phone of which every segment was taken, each
-/// once, and that they stand in the order in which they were completed.
+/// Does nothing: its contract says that these are just the texts typed to the phone of which every
+/// segment was taken, each once, and that they stand in the order in which they were completed.
 pub fn finished_texts_are_whole()
     ensures { FinishedTexts }
 {
     laws_below();
 }
 
-/// Does nothing: its contract says that a delivery that comes in an orderly run is refused only where a table is full or
-/// memory runs out.
+/// Does nothing: its contract says that a delivery that comes in an orderly run is refused only
+/// where a table is full or memory runs out.
 pub fn deliveries_are_refused_only_where_full()
     ensures { RefusedOnlyWhereFull }
 {
     laws_below();
 }
 
-/// Does nothing: its contract says that where nothing is injected and repeats ask for rejection in time, no two accepted
-/// submissions are of one segment.
+/// Does nothing: its contract says that where nothing is injected and repeats ask for rejection in
+/// time, no two accepted submissions are of one segment.
 pub fn segments_are_accepted_once()
     ensures { AcceptedAtMostOnce }
 {}
@@ -144,8 +144,8 @@ pub fn unread_octets_change_nothing()
     octets_are_read_as_one_message();
 }
 
-/// Does nothing: its contract says that a CP-DATA without a readable RP message, or whose RP-DATA holds no readable unit,
-/// changes no party.
+/// Does nothing: its contract says that a CP-DATA without a readable RP message, or whose RP-DATA
+/// holds no readable unit, changes no party.
 pub fn unread_units_change_no_party()
     ensures { NothingSaidChangesNoParty }
 {

@@ -36,11 +36,12 @@ impl Model for Lines {
 
     ghost view = { λ l. l.lines.items };
 
-    ghost invariant = { λ l. (l.phones.keys ≡ addresses l.lines.items) × AllEndFrom l.earliest l.lines.items };
+    ghost invariant = { λ l.
+        (l.phones.keys ≡ addresses l.lines.items) × AllEndFrom l.earliest l.lines.items };
 }
 
-/// Holds a message, and puts it into the queue of its recipient. All growths come before the first change; if memory runs
-/// out, nothing has changed.
+/// Holds a message, and puts it into the queue of its recipient. All growths come before the first
+/// change; if memory runs out, nothing has changed.
 fn hold(
     held: &mut HeldMessages,
     line: &mut Line,

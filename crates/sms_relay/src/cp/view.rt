@@ -48,7 +48,11 @@ impl<'a> Model for CpView<'a> {
 
     ghost view = { λ m. record { flag = m.flag; value = m.value; body = seen_cp_body m.body } };
 
-    ghost invariant = { λ m. IsCpMessage (record { flag = m.flag; value = m.value; body = seen_cp_body m.body }) };
+    ghost invariant = { λ m. IsCpMessage (record {
+      flag = m.flag;
+      value = m.value;
+      body = seen_cp_body m.body;
+    }) };
 }
 
 /// The body of a message of a kind.

@@ -27,8 +27,8 @@ const NO_ADDRESS: u8 = 0;
 /// What an RP message holds, where it lies. User data are at most 233 octets.
 #[derive(Drop)]
 pub enum RpBodyView<'a> {
-    /// RP-DATA (3GPP TS 24.011, 7.3.1): the address of the service centre, which is RP-Destination Address from a phone and
-    /// RP-Originator Address to one, and RP-User Data, a transfer unit.
+    /// RP-DATA (3GPP TS 24.011, 7.3.1): the address of the service centre, which is RP-Destination
+    /// Address from a phone and RP-Originator Address to one, and RP-User Data, a transfer unit.
     Transfer {
         address: Option<RpAddressView<'a>>,
         user: OctetsView<'a>,
@@ -61,9 +61,17 @@ impl<'a> Model for RpView<'a> {
 
     ghost Value = { RpValue };
 
-    ghost view = { λ m. record { side = m.side; reference = m.reference; body = seen_rp_body m.body } };
+    ghost view = { λ m. record {
+      side = m.side;
+      reference = m.reference;
+      body = seen_rp_body m.body;
+    } };
 
-    ghost invariant = { λ m. IsRpMessage (record { side = m.side; reference = m.reference; body = seen_rp_body m.body }) };
+    ghost invariant = { λ m. IsRpMessage (record {
+      side = m.side;
+      reference = m.reference;
+      body = seen_rp_body m.body;
+    }) };
 }
 
 /// The body of an RP-DATA.

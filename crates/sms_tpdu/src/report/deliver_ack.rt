@@ -32,9 +32,19 @@ impl Model for DeliverAck {
 
     ghost Value = { DeliverAckValue };
 
-    ghost view = { λ r. record { has_header = r.has_header; pid = r.pid; dcs = r.dcs; user = r.user } };
+    ghost view = { λ r. record {
+      has_header = r.has_header;
+      pid = r.pid;
+      dcs = r.dcs;
+      user = r.user;
+    } };
 
-    ghost invariant = { λ r. IsDeliverAck (record { has_header = r.has_header; pid = r.pid; dcs = r.dcs; user = r.user }) };
+    ghost invariant = { λ r. IsDeliverAck (record {
+      has_header = r.has_header;
+      pid = r.pid;
+      dcs = r.dcs;
+      user = r.user;
+    }) };
 }
 
 /// The octets before the parts that may be there.

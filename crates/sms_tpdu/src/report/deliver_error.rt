@@ -34,9 +34,21 @@ impl Model for DeliverError {
 
     ghost Value = { DeliverErrorValue };
 
-    ghost view = { λ r. record { has_header = r.has_header; cause = r.cause; pid = r.pid; dcs = r.dcs; user = r.user } };
+    ghost view = { λ r. record {
+      has_header = r.has_header;
+      cause = r.cause;
+      pid = r.pid;
+      dcs = r.dcs;
+      user = r.user;
+    } };
 
-    ghost invariant = { λ r. IsDeliverError (record { has_header = r.has_header; cause = r.cause; pid = r.pid; dcs = r.dcs; user = r.user }) };
+    ghost invariant = { λ r. IsDeliverError (record {
+      has_header = r.has_header;
+      cause = r.cause;
+      pid = r.pid;
+      dcs = r.dcs;
+      user = r.user;
+    }) };
 }
 
 /// The octets before the parts that may be there.

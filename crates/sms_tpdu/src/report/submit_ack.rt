@@ -34,9 +34,21 @@ impl Model for SubmitAck {
 
     ghost Value = { SubmitAckValue };
 
-    ghost view = { λ r. record { has_header = r.has_header; stamp = r.stamp; pid = r.pid; dcs = r.dcs; user = r.user } };
+    ghost view = { λ r. record {
+      has_header = r.has_header;
+      stamp = r.stamp;
+      pid = r.pid;
+      dcs = r.dcs;
+      user = r.user;
+    } };
 
-    ghost invariant = { λ r. IsSubmitAck (record { has_header = r.has_header; stamp = r.stamp; pid = r.pid; dcs = r.dcs; user = r.user }) };
+    ghost invariant = { λ r. IsSubmitAck (record {
+      has_header = r.has_header;
+      stamp = r.stamp;
+      pid = r.pid;
+      dcs = r.dcs;
+      user = r.user;
+    }) };
 }
 
 /// The octets before the parts that may be there.

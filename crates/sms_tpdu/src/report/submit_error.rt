@@ -36,9 +36,23 @@ impl Model for SubmitError {
 
     ghost Value = { SubmitErrorValue };
 
-    ghost view = { λ r. record { has_header = r.has_header; cause = r.cause; stamp = r.stamp; pid = r.pid; dcs = r.dcs; user = r.user } };
+    ghost view = { λ r. record {
+      has_header = r.has_header;
+      cause = r.cause;
+      stamp = r.stamp;
+      pid = r.pid;
+      dcs = r.dcs;
+      user = r.user;
+    } };
 
-    ghost invariant = { λ r. IsSubmitError (record { has_header = r.has_header; cause = r.cause; stamp = r.stamp; pid = r.pid; dcs = r.dcs; user = r.user }) };
+    ghost invariant = { λ r. IsSubmitError (record {
+      has_header = r.has_header;
+      cause = r.cause;
+      stamp = r.stamp;
+      pid = r.pid;
+      dcs = r.dcs;
+      user = r.user;
+    }) };
 }
 
 /// The octets before the parts that may be there.

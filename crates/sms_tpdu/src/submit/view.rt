@@ -45,9 +45,29 @@ impl<'a> Model for SubmitView<'a> {
 
     ghost Value = { Submission };
 
-    ghost view = { λ s. record { reject = s.reject; validity = s.validity; report = s.report; reply = s.reply; reference = s.reference; target = s.target; pid = s.pid; dcs = s.dcs; user = s.user } };
+    ghost view = { λ s. record {
+      reject = s.reject;
+      validity = s.validity;
+      report = s.report;
+      reply = s.reply;
+      reference = s.reference;
+      target = s.target;
+      pid = s.pid;
+      dcs = s.dcs;
+      user = s.user;
+    } };
 
-    ghost invariant = { λ s. IsSubmittable (record { reject = s.reject; validity = s.validity; report = s.report; reply = s.reply; reference = s.reference; target = s.target; pid = s.pid; dcs = s.dcs; user = s.user }) };
+    ghost invariant = { λ s. IsSubmittable (record {
+      reject = s.reject;
+      validity = s.validity;
+      report = s.report;
+      reply = s.reply;
+      reference = s.reference;
+      target = s.target;
+      pid = s.pid;
+      dcs = s.dcs;
+      user = s.user;
+    }) };
 }
 
 impl<'a> View<'a> for SubmitView<'a> {

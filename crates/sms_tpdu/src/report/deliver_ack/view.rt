@@ -34,9 +34,19 @@ impl<'a> Model for DeliverAckView<'a> {
 
     ghost Value = { DeliverAckValue };
 
-    ghost view = { λ r. record { has_header = r.has_header; pid = r.pid; dcs = r.dcs; user = r.user } };
+    ghost view = { λ r. record {
+      has_header = r.has_header;
+      pid = r.pid;
+      dcs = r.dcs;
+      user = r.user;
+    } };
 
-    ghost invariant = { λ r. IsDeliverAck (record { has_header = r.has_header; pid = r.pid; dcs = r.dcs; user = r.user }) };
+    ghost invariant = { λ r. IsDeliverAck (record {
+      has_header = r.has_header;
+      pid = r.pid;
+      dcs = r.dcs;
+      user = r.user;
+    }) };
 }
 
 impl<'a> View<'a> for DeliverAckView<'a> {

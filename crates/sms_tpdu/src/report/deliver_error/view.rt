@@ -36,9 +36,21 @@ impl<'a> Model for DeliverErrorView<'a> {
 
     ghost Value = { DeliverErrorValue };
 
-    ghost view = { λ r. record { has_header = r.has_header; cause = r.cause; pid = r.pid; dcs = r.dcs; user = r.user } };
+    ghost view = { λ r. record {
+      has_header = r.has_header;
+      cause = r.cause;
+      pid = r.pid;
+      dcs = r.dcs;
+      user = r.user;
+    } };
 
-    ghost invariant = { λ r. IsDeliverError (record { has_header = r.has_header; cause = r.cause; pid = r.pid; dcs = r.dcs; user = r.user }) };
+    ghost invariant = { λ r. IsDeliverError (record {
+      has_header = r.has_header;
+      cause = r.cause;
+      pid = r.pid;
+      dcs = r.dcs;
+      user = r.user;
+    }) };
 }
 
 impl<'a> View<'a> for DeliverErrorView<'a> {

@@ -36,9 +36,21 @@ impl<'a> Model for SubmitAckView<'a> {
 
     ghost Value = { SubmitAckValue };
 
-    ghost view = { λ r. record { has_header = r.has_header; stamp = r.stamp; pid = r.pid; dcs = r.dcs; user = r.user } };
+    ghost view = { λ r. record {
+      has_header = r.has_header;
+      stamp = r.stamp;
+      pid = r.pid;
+      dcs = r.dcs;
+      user = r.user;
+    } };
 
-    ghost invariant = { λ r. IsSubmitAck (record { has_header = r.has_header; stamp = r.stamp; pid = r.pid; dcs = r.dcs; user = r.user }) };
+    ghost invariant = { λ r. IsSubmitAck (record {
+      has_header = r.has_header;
+      stamp = r.stamp;
+      pid = r.pid;
+      dcs = r.dcs;
+      user = r.user;
+    }) };
 }
 
 impl<'a> View<'a> for SubmitAckView<'a> {

@@ -38,9 +38,23 @@ impl<'a> Model for SubmitErrorView<'a> {
 
     ghost Value = { SubmitErrorValue };
 
-    ghost view = { λ r. record { has_header = r.has_header; cause = r.cause; stamp = r.stamp; pid = r.pid; dcs = r.dcs; user = r.user } };
+    ghost view = { λ r. record {
+      has_header = r.has_header;
+      cause = r.cause;
+      stamp = r.stamp;
+      pid = r.pid;
+      dcs = r.dcs;
+      user = r.user;
+    } };
 
-    ghost invariant = { λ r. IsSubmitError (record { has_header = r.has_header; cause = r.cause; stamp = r.stamp; pid = r.pid; dcs = r.dcs; user = r.user }) };
+    ghost invariant = { λ r. IsSubmitError (record {
+      has_header = r.has_header;
+      cause = r.cause;
+      stamp = r.stamp;
+      pid = r.pid;
+      dcs = r.dcs;
+      user = r.user;
+    }) };
 }
 
 impl<'a> View<'a> for SubmitErrorView<'a> {
