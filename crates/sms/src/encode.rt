@@ -37,7 +37,7 @@ fn stamp_of(word: &str) -> Result<Stamp, Fault> {
 
 /// A text in one piece, and the data coding scheme that tells its alphabet.
 #[derive(Drop)]
-struct Piece {
+struct Content {
     dcs: u8,
     user: UserData,
 }
@@ -65,8 +65,8 @@ fn segments_of(alloc: Global, text: &str) -> Result<Vec<Segment>, Fault>
 }
 
 /// A text in one piece: in the 7-bit alphabet where that has all its characters, else in UCS-2.
-fn piece_of(alloc: Global, text: &str) -> Result<Piece, Fault>
-    ensures { IfOk result (λ piece. FitsAlphabet (alphabet_at piece.dcs) piece.user) }
+fn content_of(alloc: Global, text: &str) -> Result<Content, Fault>
+    ensures { IfOk result (λ content. FitsAlphabet (alphabet_at content.dcs) content.user) }
 {
     let segments = segments_of(alloc, text)?;
     let [segment] = segments.as_slice() else {
@@ -74,7 +74,7 @@ fn piece_of(alloc: Global, text: &str) -> Result<Piece, Fault>
     };
     let user = segment_user(alloc, segment, Width::Eight, 0)?;
     let dcs = coding_scheme(&segment.units);
-    Ok(Piece { dcs, user })
+    Ok(Content { dcs, user })
 }
 
 /// The octets of an SMS-DELIVER after which no more messages wait.
@@ -84,7 +84,7 @@ fn encode_deliver(alloc: Global, draft: &Draft<'_>) -> Result<Vec<u8>, Fault> {
         None => Stamp::new(FIRST_SECOND),
     };
     let origin = Address::from_text(alloc, draft.address)?;
-    let Piece { dcs, user } = piece_of(alloc, draft.text)?;
+    let Content { dcs, user } = content_of(alloc, draft.text)?;
     let deliver = Deliver {
         more: false,
         looped: false,
@@ -112,7 +112,7 @@ fn validity_of(octet: Option<u8>) -> Validity
 /// The octets of an SMS-SUBMIT.
 fn encode_submit(alloc: Global, draft: &Draft<'_>) -> Result<Vec<u8>, Fault> {
     let target = Address::from_text(alloc, draft.address)?;
-    let Piece { dcs, user } = piece_of(alloc, draft.text)?;
+    let Content { dcs, user } = content_of(alloc, draft.text)?;
     let submit = Submit {
         reject: draft.reject,
         validity: validity_of(draft.validity),

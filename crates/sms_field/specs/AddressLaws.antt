@@ -11,26 +11,26 @@ use Rattle.sms_field.specs.AddressValue.{AddressValue, alphanumeric}
 use Rattle.sms_field.specs.Name.{name}
 use Rattle.sms_field.specs.Address.{symbols_by, address}
 use Rattle.sms_field.specs.DigitLaws.{digits_self, digits_lawful}
-use Rattle.sms_field.specs.JoinLaws.{join_lawful, join_self_contained}
+use Rattle.sms_field.specs.ChainLaws.{chain_lawful, chain_self_contained}
 use Rattle.sms_field.specs.SingleLaws.{always_self, always_lawful, octet_self, octet_lawful, octet_by_self, octet_by_lawful, octets_of_self, octets_of_lawful, apart_else}
 
 name_self : (count : ℕ) → IsSelfContained (name count)
 unfolding name
-name_self count = join_self_contained _ _ (octets_of_self Short ((count + 1) / 2)) (λ octets. always_self FieldFault (unpacked 0 (4 * count / 7) octets))
+name_self count = chain_self_contained _ _ (octets_of_self Short ((count + 1) / 2)) (λ octets. always_self FieldFault (unpacked 0 (4 * count / 7) octets))
 
 name_lawful : (count : ℕ) → IsLawful Short (name count)
 unfolding name
-name_lawful count = join_lawful _ _ Short (octets_of_self Short ((count + 1) / 2)) (octets_of_lawful Short ((count + 1) / 2)) (λ octets _ _ _. always_lawful Short (unpacked 0 (4 * count / 7) octets))
+name_lawful count = chain_lawful _ _ Short (octets_of_self Short ((count + 1) / 2)) (octets_of_lawful Short ((count + 1) / 2)) (λ octets _ _ _. always_lawful Short (unpacked 0 (4 * count / 7) octets))
 
 symbols_self : (named : Bool) (count : ℕ) → IsSelfContained (symbols_by named count)
 unfolding symbols_by
-symbols_self true count = join_self_contained _ _ (name_self count) (λ septets. always_self FieldFault (Name septets))
-symbols_self false count = join_self_contained _ _ (digits_self count) (λ values. always_self FieldFault (Digits values))
+symbols_self true count = chain_self_contained _ _ (name_self count) (λ septets. always_self FieldFault (Name septets))
+symbols_self false count = chain_self_contained _ _ (digits_self count) (λ values. always_self FieldFault (Digits values))
 
 symbols_lawful : (named : Bool) (count : ℕ) → IsLawful Short (symbols_by named count)
 unfolding symbols_by
-symbols_lawful true count = join_lawful _ _ Short (name_self count) (name_lawful count) (λ septets _ _ _. always_lawful Short (Name septets))
-symbols_lawful false count = join_lawful _ _ Short (digits_self count) (digits_lawful count) (λ values _ _ _. always_lawful Short (Digits values))
+symbols_lawful true count = chain_lawful _ _ Short (name_self count) (name_lawful count) (λ septets _ _ _. always_lawful Short (Name septets))
+symbols_lawful false count = chain_lawful _ _ Short (digits_self count) (digits_lawful count) (λ values _ _ _. always_lawful Short (Digits values))
 
 count_apart : (o : ℕ) → up_to 20 AddressTooLong o ≡ Err Short → ⊥
 count_apart o = apart_else Short (leb o 20) o AddressTooLong (λ e. cc)
@@ -41,15 +41,15 @@ with_kind kind symbols = record { kind = kind / 16 % 8; plan = kind % 16; symbol
 pub address_self : IsSelfContained address
 unfolding address
 address_self =
-    join_self_contained _ _ (octet_by_self Short (up_to 20 AddressTooLong))
-    (λ count. join_self_contained _ _ (octet_self Short)
-    (λ kind. join_self_contained _ _ (symbols_self (kind / 16 % 8 == alphanumeric) count)
+    chain_self_contained _ _ (octet_by_self Short (up_to 20 AddressTooLong))
+    (λ count. chain_self_contained _ _ (octet_self Short)
+    (λ kind. chain_self_contained _ _ (symbols_self (kind / 16 % 8 == alphanumeric) count)
     (λ symbols. always_self FieldFault (with_kind kind symbols))))
 
 pub address_lawful : IsLawful Short address
 unfolding address
 address_lawful =
-    join_lawful _ _ Short (octet_by_self Short (up_to 20 AddressTooLong)) (octet_by_lawful Short (up_to 20 AddressTooLong) (0, lit< tt, 0, refl) count_apart)
-    (λ count _ _ _. join_lawful _ _ Short (octet_self Short) (octet_lawful Short)
-    (λ kind _ _ _. join_lawful _ _ Short (symbols_self (kind / 16 % 8 == alphanumeric) count) (symbols_lawful (kind / 16 % 8 == alphanumeric) count)
+    chain_lawful _ _ Short (octet_by_self Short (up_to 20 AddressTooLong)) (octet_by_lawful Short (up_to 20 AddressTooLong) (0, lit< tt, 0, refl) count_apart)
+    (λ count _ _ _. chain_lawful _ _ Short (octet_self Short) (octet_lawful Short)
+    (λ kind _ _ _. chain_lawful _ _ Short (symbols_self (kind / 16 % 8 == alphanumeric) count) (symbols_lawful (kind / 16 % 8 == alphanumeric) count)
     (λ symbols _ _ _. always_lawful Short (with_kind kind symbols))))

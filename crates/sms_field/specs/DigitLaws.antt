@@ -9,16 +9,16 @@ use Rattle.sms_field.specs.Field.{IsLawful, IsSelfContained, octet_by, always, �
 use Rattle.sms_field.specs.declared.fault.FieldFault.{FieldFault}
 use Rattle.sms_field.specs.declared.fault.FieldFault.TheVariants.{Short, BadDigit}
 use Rattle.sms_field.specs.DigitOctets.{low_digit, both_digits, digits, digit_octets}
-use Rattle.sms_field.specs.JoinLaws.{join_lawful, join_self_contained}
+use Rattle.sms_field.specs.ChainLaws.{chain_lawful, chain_self_contained}
 use Rattle.sms_field.specs.SingleLaws.{always_self, always_lawful, octet_by_self, octet_by_lawful, apart_else}
 
 pub digits_self : (n : ℕ) → IsSelfContained (digits n)
 unfolding digits
 digits_self zero = always_self FieldFault []
-digits_self (suc zero) = join_self_contained (octet_by Short low_digit) (λ digit. always (digit ∷ [])) (octet_by_self Short low_digit) (λ digit. always_self FieldFault (digit ∷ []))
+digits_self (suc zero) = chain_self_contained (octet_by Short low_digit) (λ digit. always (digit ∷ [])) (octet_by_self Short low_digit) (λ digit. always_self FieldFault (digit ∷ []))
 digits_self (suc (suc n)) =
-    join_self_contained (octet_by Short both_digits) (λ two. digits n >>= λ others. always (two.0 ∷ two.1 ∷ others)) (octet_by_self Short both_digits)
-    (λ two. join_self_contained (digits n) (λ others. always (two.0 ∷ two.1 ∷ others)) (digits_self n) (λ others. always_self FieldFault (two.0 ∷ two.1 ∷ others)))
+    chain_self_contained (octet_by Short both_digits) (λ two. digits n >>= λ others. always (two.0 ∷ two.1 ∷ others)) (octet_by_self Short both_digits)
+    (λ two. chain_self_contained (digits n) (λ others. always (two.0 ∷ two.1 ∷ others)) (digits_self n) (λ others. always_self FieldFault (two.0 ∷ two.1 ∷ others)))
 
 low_apart : (o : ℕ) → low_digit o ≡ Err Short → ⊥
 low_apart o = apart_else Short (ltb (o % 16) 15) (o % 16) BadDigit (λ e. cc)
@@ -29,10 +29,10 @@ both_apart o = apart_else Short (ltb (o % 16) 15 && ltb (o / 16) 15) (o % 16, o 
 pub digits_lawful : (n : ℕ) → IsLawful Short (digits n)
 unfolding digits
 digits_lawful zero = always_lawful Short []
-digits_lawful (suc zero) = join_lawful (octet_by Short low_digit) (λ digit. always (digit ∷ [])) Short (octet_by_self Short low_digit) (octet_by_lawful Short low_digit (0, lit< tt, 0, refl) low_apart) (λ digit _ _ _. always_lawful Short (digit ∷ []))
+digits_lawful (suc zero) = chain_lawful (octet_by Short low_digit) (λ digit. always (digit ∷ [])) Short (octet_by_self Short low_digit) (octet_by_lawful Short low_digit (0, lit< tt, 0, refl) low_apart) (λ digit _ _ _. always_lawful Short (digit ∷ []))
 digits_lawful (suc (suc n)) =
-    join_lawful (octet_by Short both_digits) (λ two. digits n >>= λ others. always (two.0 ∷ two.1 ∷ others)) Short (octet_by_self Short both_digits) (octet_by_lawful Short both_digits (0, lit< tt, (0, 0), refl) both_apart)
-    (λ two _ _ _. join_lawful (digits n) (λ others. always (two.0 ∷ two.1 ∷ others)) Short (digits_self n) (digits_lawful n) (λ others _ _ _. always_lawful Short (two.0 ∷ two.1 ∷ others)))
+    chain_lawful (octet_by Short both_digits) (λ two. digits n >>= λ others. always (two.0 ∷ two.1 ∷ others)) Short (octet_by_self Short both_digits) (octet_by_lawful Short both_digits (0, lit< tt, (0, 0), refl) both_apart)
+    (λ two _ _ _. chain_lawful (digits n) (λ others. always (two.0 ∷ two.1 ∷ others)) Short (digits_self n) (digits_lawful n) (λ others _ _ _. always_lawful Short (two.0 ∷ two.1 ∷ others)))
 
 -- ---- what is written is read
 

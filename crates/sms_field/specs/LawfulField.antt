@@ -52,7 +52,7 @@ pub record IsFault {V W : Type 0} (f : Field V W) (at : ℕ) (input : List ℕ) 
   pub parts : input ≡ front ++ octet ∷ rest
   pub place_is : place ≡ at + length front
   pub before : CanContinue f front
-  pub behind : ¬ CanContinue f (front ++ octet ∷ [])
+  pub none_after : ¬ CanContinue f (front ++ octet ∷ [])
   pub reason : f.reason front octet why
 
 -- what the plain reader may answer: the reading, or the place and the reason of a refusal

@@ -1,12 +1,12 @@
 pub mod Bit
 pub mod BitLaws
 pub mod LawfulField
-pub mod Join
+pub mod Chain
 pub mod SingleFields
 pub mod Field
 pub mod OctetLists
-pub mod JoinLaws
-pub mod JoinedReading
+pub mod ChainLaws
+pub mod ChainReading
 pub mod Mapped
 pub mod MappedLaws
 pub mod SingleLaws

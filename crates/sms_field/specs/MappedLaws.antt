@@ -37,7 +37,7 @@ module _ {V X W : Type 0} (short : W) (make : V → X) (f : Field V W) (law : Is
     parts = h.parts;
     place_is = h.place_is;
     before = mapped_goes_on h.front h.before;
-    behind = λ c. h.behind (goes_on_mapped (h.front ++ (h.octet ∷ [])) c);
+    none_after = λ c. h.none_after (goes_on_mapped (h.front ++ (h.octet ∷ [])) c);
     reason = h.reason;
   })
 

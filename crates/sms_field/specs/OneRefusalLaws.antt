@@ -6,7 +6,7 @@ use Rattle.std.proofs.lemmas.List.{take-append-drop, take-take, take_at}
 use Rattle.sms_text.specs.Octets.{IsOctets}
 use Rattle.sms_field.specs.OctetLists.{octets_back, octets_front}
 use Rattle.sms_field.specs.Field.{Field, ◌>>=◌, always, octet, octet_by, octets_of, map_reason, up_to}
-use Rattle.sms_field.specs.JoinLaws.{same_back}
+use Rattle.sms_field.specs.ChainLaws.{same_back}
 use Rattle.sms_field.specs.Mapped.{mapped}
 use Rattle.sms_field.specs.Optional.{tagged}
 use Rattle.sms_field.specs.Reading.{Reads, IsReadable, IsViable, BreaksAt}
@@ -54,14 +54,14 @@ one_way_octets short n v w xs ys rest left p q e =
 pub one_way_map_reason : {V W X : Type 0} (name : W → X) (f : Field V W) → ReadsOneWay f → ReadsOneWay (map_reason name f)
 one_way_map_reason name f one = one
 
-pub one_way_join : {A B W : Type 0} (first : Field A W) (second : A → Field B W) → ReadsOneWay first → ((a : A) → ReadsOneWay (second a)) → ReadsOneWay (first >>= second)
-one_way_join {A} {B} first second one others v w xs ys rest left p q e =
+pub one_way_chain : {A B W : Type 0} (first : Field A W) (second : A → Field B W) → ReadsOneWay first → ((a : A) → ReadsOneWay (second a)) → ReadsOneWay (first >>= second)
+one_way_chain {A} {B} first second one others v w xs ys rest left p q e =
     let here : xs ++ rest ≡ p.front ++ (p.back ++ rest) = ap (λ (l : List ℕ). l ++ rest) p.parts ∙ append_assoc p.front p.back rest in
     let there : ys ++ left ≡ q.front ++ (q.back ++ left) = ap (λ (l : List ℕ). l ++ left) q.parts ∙ append_assoc q.front q.back left in
     let whole : p.front ++ (p.back ++ rest) ≡ q.front ++ (q.back ++ left) = sym here ∙ e ∙ there in
     let h = one p.choice q.choice p.front q.front (p.back ++ rest) (q.back ++ left) p.of_first q.of_first whole in
-    let behind : p.back ++ rest ≡ q.back ++ left = same_back p.front (p.back ++ rest) (q.back ++ left) (whole ∙ ap (λ (l : List ℕ). l ++ (q.back ++ left)) h.1) in
-    let k = others p.choice v w p.back q.back rest left p.of_second (subst (λ (a : A). (second a).reads w q.back left) h.0 q.of_second) behind in
+    let what_follows : p.back ++ rest ≡ q.back ++ left = same_back p.front (p.back ++ rest) (q.back ++ left) (whole ∙ ap (λ (l : List ℕ). l ++ (q.back ++ left)) h.1) in
+    let k = others p.choice v w p.back q.back rest left p.of_second (subst (λ (a : A). (second a).reads w q.back left) h.0 q.of_second) what_follows in
     (k.0, q.parts ∙ ap (λ (l : List ℕ). l ++ q.back) h.1 ∙ ap (λ (l : List ℕ). p.front ++ l) k.1 ∙ sym p.parts)
 
 -- ---- one reason
@@ -90,24 +90,24 @@ one_reason_map_reason name f one front octet why because p q = q.2 ∙ ap name (
 pub one_reason_mapped : {V X W : Type 0} (make : V → X) (f : Field V W) → HasOneReason f → HasOneReason (mapped make f)
 one_reason_mapped make f one = one
 
-one_behind : {V W : Type 0} (tag : ℕ) (f : Field V W) → HasOneReason f → (front : List ℕ) (octet : ℕ) (why because : W) → (tagged tag f).reason front octet why → (tagged tag f).reason front octet because → because ≡ why
-one_behind tag f one [] octet why because p q = absurd p
-one_behind tag f one (first ∷ front) octet why because p q = one front octet why because p q
+one_after_tag : {V W : Type 0} (tag : ℕ) (f : Field V W) → HasOneReason f → (front : List ℕ) (octet : ℕ) (why because : W) → (tagged tag f).reason front octet why → (tagged tag f).reason front octet because → because ≡ why
+one_after_tag tag f one [] octet why because p q = absurd p
+one_after_tag tag f one (first ∷ front) octet why because p q = one front octet why because p q
 
 pub one_reason_tagged : {V W : Type 0} (tag : ℕ) (f : Field V W) → HasOneReason f → HasOneReason (tagged tag f)
-one_reason_tagged tag f one = one_behind tag f one
+one_reason_tagged tag f one = one_after_tag tag f one
 
-pub one_reason_join : {A B W : Type 0} (first : Field A W) (second : A → Field B W) → ReadsOneWay first → HasOneReason first → ((a : A) → HasOneReason (second a)) → HasOneReason (first >>= second)
-one_reason_join {A} {B} {W} first second way one others front octet why because (inl p) (inl q) = one front octet why because p.reason q.reason
-one_reason_join {A} {B} {W} first second way one others front octet why because (inl p) (inr q) = absurd (p.none q.reading)
-one_reason_join {A} {B} {W} first second way one others front octet why because (inr p) (inl q) = absurd (q.none p.reading)
-one_reason_join {A} {B} {W} first second way one others front octet why because (inr p) (inr q) =
+pub one_reason_chain : {A B W : Type 0} (first : Field A W) (second : A → Field B W) → ReadsOneWay first → HasOneReason first → ((a : A) → HasOneReason (second a)) → HasOneReason (first >>= second)
+one_reason_chain {A} {B} {W} first second way one others front octet why because (inl p) (inl q) = one front octet why because p.reason q.reason
+one_reason_chain {A} {B} {W} first second way one others front octet why because (inl p) (inr q) = absurd (p.none q.reading)
+one_reason_chain {A} {B} {W} first second way one others front octet why because (inr p) (inl q) = absurd (q.none p.reading)
+one_reason_chain {A} {B} {W} first second way one others front octet why because (inr p) (inr q) =
     let r = p.reading in
     let s = q.reading in
     let whole : r.octets ++ r.rest ≡ s.octets ++ s.rest = sym r.parts ∙ s.parts in
     let h = way r.value s.value r.octets s.octets r.rest s.rest r.read s.read whole in
-    let behind : s.rest ≡ r.rest = sym (same_back r.octets r.rest s.rest (whole ∙ ap (λ (l : List ℕ). l ++ s.rest) h.1)) in
-    let moved : (second r.value).reason r.rest octet because = subst (λ (l : List ℕ). (second r.value).reason l octet because) behind (subst (λ (a : A). (second a).reason s.rest octet because) h.0 q.reason) in
+    let what_follows : s.rest ≡ r.rest = sym (same_back r.octets r.rest s.rest (whole ∙ ap (λ (l : List ℕ). l ++ s.rest) h.1)) in
+    let moved : (second r.value).reason r.rest octet because = subst (λ (l : List ℕ). (second r.value).reason l octet because) what_follows (subst (λ (a : A). (second a).reason s.rest octet because) h.0 q.reason) in
     others r.value r.rest octet why because p.reason moved
 
 -- ---- one refusal
@@ -138,7 +138,7 @@ module _ {V W : Type 0} (reads : V → List ℕ → ℕ → Type 0) (reason : Li
       let all : take other input ++ drop other input ≡ input = take-append-drop other input in
       let front_are : IsOctets front = octets_front front (drop other input) (subst IsOctets (sym all) are) in
       let back_are : IsOctets (drop (place + 1) front) = octets_back (take (place + 1) front) (drop (place + 1) front) (subst IsOctets (sym whole) front_are) in
-      p.behind (subst (IsViable reads) shorter (viable_front reads (take (place + 1) front) (drop (place + 1) front) back_are (subst (IsViable reads) (sym whole) q.before)))
+      p.none_after (subst (IsViable reads) shorter (viable_front reads (take (place + 1) front) (drop (place + 1) front) back_are (subst (IsViable reads) (sym whole) q.before)))
 
   same_place : (place other : ℕ) (why because : W) → BreaksAt reads reason input place why → BreaksAt reads reason input other because → other ≡ place
   same_place place other why because p q =
@@ -156,7 +156,7 @@ pub one_refusal : {V W : Type 0} (short : W) (f : Field V W) → IsKnown short �
 one_refusal {V} {W} short f known one input place other why because are p q = go (known why) (known because)
   where
     apart : (n : ℕ) (w : W) → IsViable (Reads f) input → BreaksAt (Reads f) f.reason input n w → ⊥
-    apart n w v b = b.behind (viable_take (Reads f) f.reason input are (n + 1) v)
+    apart n w v b = b.none_after (viable_take (Reads f) f.reason input are (n + 1) v)
 
     go : (why ≡ short) ⊎ (why ≡ short → ⊥) → (because ≡ short) ⊎ (because ≡ short → ⊥) → (other ≡ place) × (because ≡ why)
     go (inl e) (inl g) = ((q.0 g).place_is ∙ sym (p.0 e).place_is, g ∙ sym e)
@@ -169,83 +169,83 @@ one_refusal {V} {W} short f known one input place other why because are p q = go
 one_way_digits : (n : ℕ) → ReadsOneWay (digits n)
 unfolding digits
 one_way_digits zero = one_way_always FieldFault []
-one_way_digits (suc zero) = one_way_join _ _ (one_way_by Short low_digit) (λ digit. one_way_always FieldFault _)
-one_way_digits (suc (suc n)) = one_way_join _ _ (one_way_by Short both_digits) (λ two. one_way_join _ _ (one_way_digits n) (λ others. one_way_always FieldFault _))
+one_way_digits (suc zero) = one_way_chain _ _ (one_way_by Short low_digit) (λ digit. one_way_always FieldFault _)
+one_way_digits (suc (suc n)) = one_way_chain _ _ (one_way_by Short both_digits) (λ two. one_way_chain _ _ (one_way_digits n) (λ others. one_way_always FieldFault _))
 
 one_reason_digits : (n : ℕ) → HasOneReason (digits n)
 unfolding digits
 one_reason_digits zero = λ f o w b p q. absurd p
-one_reason_digits (suc zero) = one_reason_join _ _ (one_way_by Short low_digit) (one_reason_by Short low_digit) (λ digit. λ f o w b p q. absurd p)
+one_reason_digits (suc zero) = one_reason_chain _ _ (one_way_by Short low_digit) (one_reason_by Short low_digit) (λ digit. λ f o w b p q. absurd p)
 one_reason_digits (suc (suc n)) =
-    one_reason_join _ _ (one_way_by Short both_digits) (one_reason_by Short both_digits) (λ two.
-    one_reason_join _ _ (one_way_digits n) (one_reason_digits n) (λ others. λ f o w b p q. absurd p))
+    one_reason_chain _ _ (one_way_by Short both_digits) (one_reason_by Short both_digits) (λ two.
+    one_reason_chain _ _ (one_way_digits n) (one_reason_digits n) (λ others. λ f o w b p q. absurd p))
 
 one_way_name : (count : ℕ) → ReadsOneWay (name count)
 unfolding name
-one_way_name count = one_way_join _ _ (one_way_octets Short ((count + 1) / 2)) (λ octets. one_way_always FieldFault _)
+one_way_name count = one_way_chain _ _ (one_way_octets Short ((count + 1) / 2)) (λ octets. one_way_always FieldFault _)
 
 one_reason_name : (count : ℕ) → HasOneReason (name count)
 unfolding name
-one_reason_name count = one_reason_join _ _ (one_way_octets Short ((count + 1) / 2)) (one_reason_octets Short ((count + 1) / 2)) (λ octets. λ f o w b p q. absurd p)
+one_reason_name count = one_reason_chain _ _ (one_way_octets Short ((count + 1) / 2)) (one_reason_octets Short ((count + 1) / 2)) (λ octets. λ f o w b p q. absurd p)
 
 one_way_symbols : (named : Bool) (count : ℕ) → ReadsOneWay (symbols_by named count)
 unfolding symbols_by
-one_way_symbols true count = one_way_join _ _ (one_way_name count) (λ septets. one_way_always FieldFault _)
-one_way_symbols false count = one_way_join _ _ (one_way_digits count) (λ values. one_way_always FieldFault _)
+one_way_symbols true count = one_way_chain _ _ (one_way_name count) (λ septets. one_way_always FieldFault _)
+one_way_symbols false count = one_way_chain _ _ (one_way_digits count) (λ values. one_way_always FieldFault _)
 
 one_reason_symbols : (named : Bool) (count : ℕ) → HasOneReason (symbols_by named count)
 unfolding symbols_by
-one_reason_symbols true count = one_reason_join _ _ (one_way_name count) (one_reason_name count) (λ septets. λ f o w b p q. absurd p)
-one_reason_symbols false count = one_reason_join _ _ (one_way_digits count) (one_reason_digits count) (λ values. λ f o w b p q. absurd p)
+one_reason_symbols true count = one_reason_chain _ _ (one_way_name count) (one_reason_name count) (λ septets. λ f o w b p q. absurd p)
+one_reason_symbols false count = one_reason_chain _ _ (one_way_digits count) (one_reason_digits count) (λ values. λ f o w b p q. absurd p)
 
 pub one_way_address : ReadsOneWay address
 unfolding address
 one_way_address =
-    one_way_join _ _ (one_way_by Short (up_to 20 AddressTooLong)) (λ count.
-    one_way_join _ _ (one_way_octet Short) (λ kind.
-    one_way_join _ _ (one_way_symbols (kind / 16 % 8 == alphanumeric) count) (λ symbols. one_way_always FieldFault _)))
+    one_way_chain _ _ (one_way_by Short (up_to 20 AddressTooLong)) (λ count.
+    one_way_chain _ _ (one_way_octet Short) (λ kind.
+    one_way_chain _ _ (one_way_symbols (kind / 16 % 8 == alphanumeric) count) (λ symbols. one_way_always FieldFault _)))
 
 pub one_reason_address : HasOneReason address
 unfolding address
 one_reason_address =
-    one_reason_join _ _ (one_way_by Short (up_to 20 AddressTooLong)) (one_reason_by Short (up_to 20 AddressTooLong)) (λ count.
-    one_reason_join _ _ (one_way_octet Short) (one_reason_octet Short) (λ kind.
-    one_reason_join _ _ (one_way_symbols (kind / 16 % 8 == alphanumeric) count) (one_reason_symbols (kind / 16 % 8 == alphanumeric) count) (λ symbols. λ f o w b p q. absurd p)))
+    one_reason_chain _ _ (one_way_by Short (up_to 20 AddressTooLong)) (one_reason_by Short (up_to 20 AddressTooLong)) (λ count.
+    one_reason_chain _ _ (one_way_octet Short) (one_reason_octet Short) (λ kind.
+    one_reason_chain _ _ (one_way_symbols (kind / 16 % 8 == alphanumeric) count) (one_reason_symbols (kind / 16 % 8 == alphanumeric) count) (λ symbols. λ f o w b p q. absurd p)))
 
 one_way_relay_digits : (n : ℕ) → ReadsOneWay (relay_digits n)
 unfolding relay_digits
 one_way_relay_digits zero = one_way_always FieldFault []
 one_way_relay_digits (suc zero) = one_way_by Short last_digits
-one_way_relay_digits (suc (suc n)) = one_way_join _ _ (one_way_by Short both_digits) (λ two. one_way_join _ _ (one_way_relay_digits (suc n)) (λ others. one_way_always FieldFault _))
+one_way_relay_digits (suc (suc n)) = one_way_chain _ _ (one_way_by Short both_digits) (λ two. one_way_chain _ _ (one_way_relay_digits (suc n)) (λ others. one_way_always FieldFault _))
 
 one_reason_relay_digits : (n : ℕ) → HasOneReason (relay_digits n)
 unfolding relay_digits
 one_reason_relay_digits zero = λ f o w b p q. absurd p
 one_reason_relay_digits (suc zero) = one_reason_by Short last_digits
 one_reason_relay_digits (suc (suc n)) =
-    one_reason_join _ _ (one_way_by Short both_digits) (one_reason_by Short both_digits) (λ two.
-    one_reason_join _ _ (one_way_relay_digits (suc n)) (one_reason_relay_digits (suc n)) (λ others. λ f o w b p q. absurd p))
+    one_reason_chain _ _ (one_way_by Short both_digits) (one_reason_by Short both_digits) (λ two.
+    one_reason_chain _ _ (one_way_relay_digits (suc n)) (one_reason_relay_digits (suc n)) (λ others. λ f o w b p q. absurd p))
 
 one_way_relay_part : (none : Bool) (count : ℕ) → ReadsOneWay (relay_part none count)
 unfolding relay_part
 one_way_relay_part true count = one_way_always FieldFault _
-one_way_relay_part false count = one_way_join _ _ (one_way_octet Short) (λ kind. one_way_join _ _ (one_way_relay_digits count) (λ values. one_way_always FieldFault _))
+one_way_relay_part false count = one_way_chain _ _ (one_way_octet Short) (λ kind. one_way_chain _ _ (one_way_relay_digits count) (λ values. one_way_always FieldFault _))
 
 one_reason_relay_part : (none : Bool) (count : ℕ) → HasOneReason (relay_part none count)
 unfolding relay_part
 one_reason_relay_part true count = λ f o w b p q. absurd p
 one_reason_relay_part false count =
-    one_reason_join _ _ (one_way_octet Short) (one_reason_octet Short) (λ kind.
-    one_reason_join _ _ (one_way_relay_digits count) (one_reason_relay_digits count) (λ values. λ f o w b p q. absurd p))
+    one_reason_chain _ _ (one_way_octet Short) (one_reason_octet Short) (λ kind.
+    one_reason_chain _ _ (one_way_relay_digits count) (one_reason_relay_digits count) (λ values. λ f o w b p q. absurd p))
 
 pub one_way_relay_address : ReadsOneWay relay_address
 unfolding relay_address
-one_way_relay_address = one_way_join _ _ (one_way_by Short (up_to 11 AddressTooLong)) (λ count. one_way_relay_part (count == 0) (count - 1))
+one_way_relay_address = one_way_chain _ _ (one_way_by Short (up_to 11 AddressTooLong)) (λ count. one_way_relay_part (count == 0) (count - 1))
 
 pub one_reason_relay_address : HasOneReason relay_address
 unfolding relay_address
 one_reason_relay_address =
-    one_reason_join _ _ (one_way_by Short (up_to 11 AddressTooLong)) (one_reason_by Short (up_to 11 AddressTooLong)) (λ count. one_reason_relay_part (count == 0) (count - 1))
+    one_reason_chain _ _ (one_way_by Short (up_to 11 AddressTooLong)) (one_reason_by Short (up_to 11 AddressTooLong)) (λ count. one_reason_relay_part (count == 0) (count - 1))
 
 is_short : IsKnown Short
 is_short Short = inl refl

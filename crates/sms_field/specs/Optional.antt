@@ -19,13 +19,13 @@ abbrev pub tagged_at : {V W : Type 0} → ℕ → Field V W → ℕ → List ℕ
 tagged_at tag part at [] = found None at []
 tagged_at tag part at (octet ∷ rest) = if octet == tag then some_found (part.read (at + 1) rest) else found None at (octet ∷ rest)
 
-abbrev pub behind_tag : {V W : Type 0} → ℕ → Field V W → List ℕ → ℕ → W → Type 0
-behind_tag tag part [] octet why = ⊥
-behind_tag tag part (first ∷ front) octet why = part.reason front octet why
+abbrev pub after_tag : {V W : Type 0} → ℕ → Field V W → List ℕ → ℕ → W → Type 0
+after_tag tag part [] octet why = ⊥
+after_tag tag part (first ∷ front) octet why = part.reason front octet why
 
 abbrev pub tagged : {V W : Type 0} → ℕ → Field V W → Field (Option V) W
 tagged tag part = record {
   reads = ReadsTagged tag part;
-  reason = behind_tag tag part;
+  reason = after_tag tag part;
   read = tagged_at tag part;
 }

@@ -4,15 +4,15 @@ use Rattle.std.specs.Prelude.{◌==◌}
 use Rattle.std.proofs.lemmas.Bool.{eqb-true, eqb-false}
 use Rattle.sms_text.specs.Octets.{IsOctets}
 use Rattle.sms_field.specs.Field.{Outcome, found, refused, Field, HasReading, CanContinue, IsReading, IsAnswer, IsLawful}
-use Rattle.sms_field.specs.Optional.{LacksTag, ReadsTagged, some_found, tagged_at, behind_tag, tagged}
+use Rattle.sms_field.specs.Optional.{LacksTag, ReadsTagged, some_found, tagged_at, after_tag, tagged}
 
 tag_stands : (tag : ℕ) (xs left : List ℕ) → tag ∷ xs ≡ left → LacksTag tag left → ⊥
 tag_stands tag xs [] e q = absurd cc
 tag_stands tag xs (y ∷ left) e q = q (let same : y ≡ tag = cc in same)
 
-only_behind : {V W : Type 0} (tag : ℕ) (part : Field V W) (at : ℕ) (xs : List ℕ) (v : V) (after : ℕ) (rest : List ℕ) (h : IsReading part at xs v after rest) (other : Option V) (others left : List ℕ) → tag ∷ xs ≡ others ++ left → ReadsTagged tag part other others left → (other ≡ Some v) × (others ≡ tag ∷ h.octets)
-only_behind tag part at xs v after rest h None others left e p = absurd (tag_stands tag xs left (e ∙ ap (λ (l : List ℕ). l ++ left) p.0) p.1)
-only_behind tag part at xs v after rest h (Some w) others left e p =
+only_after_tag : {V W : Type 0} (tag : ℕ) (part : Field V W) (at : ℕ) (xs : List ℕ) (v : V) (after : ℕ) (rest : List ℕ) (h : IsReading part at xs v after rest) (other : Option V) (others left : List ℕ) → tag ∷ xs ≡ others ++ left → ReadsTagged tag part other others left → (other ≡ Some v) × (others ≡ tag ∷ h.octets)
+only_after_tag tag part at xs v after rest h None others left e p = absurd (tag_stands tag xs left (e ∙ ap (λ (l : List ℕ). l ++ left) p.0) p.1)
+only_after_tag tag part at xs v after rest h (Some w) others left e p =
     let whole : tag ∷ xs ≡ tag ∷ (p.0 ++ left) = e ∙ ap (λ (l : List ℕ). l ++ left) p.1 in
     let split : xs ≡ p.0 ++ left = cc in
     let one = h.only w p.0 left split p.2 in
@@ -45,28 +45,28 @@ module _ {V W : Type 0} (short : W) (tag : ℕ) (small : tag < 256) (part : Fiel
   outer_goes_on : (front : List ℕ) → CanContinue part front → CanContinue (tagged tag part) (tag ∷ front)
   outer_goes_on front c = record { more = c.more; are_octets = c.are_octets; reading = outer (front ++ c.more) c.reading }
 
-  behind_answers : (at : ℕ) (xs : List ℕ) (o : Outcome V W) → IsAnswer short part (at + 1) xs o → IsAnswer short (tagged tag part) at (tag ∷ xs) (some_found o)
-  behind_answers at xs (found v after rest) h = record {
+  after_tag_answers : (at : ℕ) (xs : List ℕ) (o : Outcome V W) → IsAnswer short part (at + 1) xs o → IsAnswer short (tagged tag part) at (tag ∷ xs) (some_found o)
+  after_tag_answers at xs (found v after rest) h = record {
     octets = tag ∷ h.octets;
     parts = ap (λ (l : List ℕ). tag ∷ l) h.parts;
     after_is = omega (arith, h.after_is);
     read = (h.octets, refl, h.read);
-    only = only_behind tag part (at + 1) xs v after rest h;
+    only = only_after_tag tag part (at + 1) xs v after rest h;
   }
-  behind_answers at xs (refused place why) (inl h) = inl (record {
+  after_tag_answers at xs (refused place why) (inl h) = inl (record {
     why_is = h.why_is;
     place_is = omega (arith, h.place_is);
     none = λ r. h.none (inner xs r);
     some = outer_goes_on xs h.some;
   })
-  behind_answers at xs (refused place why) (inr h) = inr (record {
+  after_tag_answers at xs (refused place why) (inr h) = inr (record {
     front = tag ∷ h.front;
     octet = h.octet;
     rest = h.rest;
     parts = ap (λ (l : List ℕ). tag ∷ l) h.parts;
     place_is = omega (arith, h.place_is);
     before = outer_goes_on h.front h.before;
-    behind = λ c. h.behind (inner_goes_on (h.front ++ (h.octet ∷ [])) c);
+    none_after = λ c. h.none_after (inner_goes_on (h.front ++ (h.octet ∷ [])) c);
     reason = h.reason;
   })
 
@@ -78,12 +78,12 @@ module _ {V W : Type 0} (short : W) (tag : ℕ) (small : tag < 256) (part : Fiel
   tagged_answers at (o ∷ rest) fits = go (o == tag) refl
     where
       go : (b : Bool) → (o == tag) ≡ b → IsAnswer short (tagged tag part) at (o ∷ rest) (cond b (some_found (part.read (at + 1) rest)) (found None at (o ∷ rest)))
-      go true is = subst (λ (t : ℕ). IsAnswer short (tagged tag part) at (t ∷ rest) (some_found (part.read (at + 1) rest))) (sym (eqb-true o tag is)) (behind_answers at rest (part.read (at + 1) rest) (law.answers (at + 1) rest fits.1))
+      go true is = subst (λ (t : ℕ). IsAnswer short (tagged tag part) at (t ∷ rest) (some_found (part.read (at + 1) rest))) (sym (eqb-true o tag is)) (after_tag_answers at rest (part.read (at + 1) rest) (law.answers (at + 1) rest fits.1))
       go false is = none_answers at (o ∷ rest) (eqb-false o tag is)
 
   pub tagged_lawful : IsLawful short (tagged tag part)
   tagged_lawful = record { starts = tagged_starts; answers = tagged_answers; never_short = named }
     where
-      named : (front : List ℕ) (octet : ℕ) → behind_tag tag part front octet short → ⊥
+      named : (front : List ℕ) (octet : ℕ) → after_tag tag part front octet short → ⊥
       named [] octet r = r
       named (x ∷ front) octet r = law.never_short front octet r

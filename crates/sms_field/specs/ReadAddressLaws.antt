@@ -6,7 +6,7 @@ use Rattle.std.proofs.lemmas.Bool.{ltb-true, leb-true, eqb-true, eqb-false, and_
 use Rattle.sms_text.specs.Octets.{IsOctets}
 use Rattle.sms_field.specs.Field.{octet, octet_by, octets_of, up_to}
 use Rattle.sms_field.specs.ReadValues.{Has, Any}
-use Rattle.sms_field.specs.ReadValueLaws.{has_join}
+use Rattle.sms_field.specs.ReadValueLaws.{has_chain}
 use Rattle.sms_field.specs.Stamp.{IsStamp}
 use Rattle.sms_field.specs.DigitOctets.{low_digit, both_digits, digits}
 use Rattle.sms_field.specs.Name.{IsName, name}
@@ -66,31 +66,31 @@ has_both v octets rest are r =
 has_digits : (n : ℕ) → Has (AreSome n) (digits n)
 unfolding digits
 has_digits zero = λ v octets rest are r. subst (AreSome 0) (sym r.0) (refl, tt)
-has_digits (suc zero) = has_join (λ digit. digit < 15) (AreSome 1) _ _ has_low (λ digit h. λ v octets rest are r. subst (AreSome 1) (sym r.0) (refl, (h, tt)))
+has_digits (suc zero) = has_chain (λ digit. digit < 15) (AreSome 1) _ _ has_low (λ digit h. λ v octets rest are r. subst (AreSome 1) (sym r.0) (refl, (h, tt)))
 has_digits (suc (suc n)) =
-    has_join BothDigits (AreSome (suc (suc n))) _ _ has_both (λ two h.
-    has_join (AreSome n) (AreSome (suc (suc n))) _ _ (has_digits n) (λ others k.
+    has_chain BothDigits (AreSome (suc (suc n))) _ _ has_both (λ two h.
+    has_chain (AreSome n) (AreSome (suc (suc n))) _ _ (has_digits n) (λ others k.
     λ v octets rest are r. subst (AreSome (suc (suc n))) (sym r.0) (ap (λ (m : ℕ). suc (suc m)) k.0, (h.0, (h.1, k.1)))))
 
 -- ---- addresses of the transfer layer
 
 has_name : (count : ℕ) → count ≤ 20 → Has IsName (name count)
 unfolding name
-has_name count few = has_join Any IsName _ _ (λ v octets rest are r. tt) (λ octets h. λ v others rest are r. name_fits count (4 * count / 7) octets v few refl r.0)
+has_name count few = has_chain Any IsName _ _ (λ v octets rest are r. tt) (λ octets h. λ v others rest are r. name_fits count (4 * count / 7) octets v few refl r.0)
 
 has_symbols : (kind count : ℕ) (named : Bool) → eqb kind 5 ≡ named → count ≤ 20 → Has (AreSymbolsOf kind) (symbols_by named count)
 unfolding symbols_by
 has_symbols kind count true is few =
-    has_join IsName (AreSymbolsOf kind) _ _ (has_name count few) (λ septets h. λ v octets rest are r. subst (AreSymbolsOf kind) (sym r.0) (eqb-true kind 5 is, h))
+    has_chain IsName (AreSymbolsOf kind) _ _ (has_name count few) (λ septets h. λ v octets rest are r. subst (AreSymbolsOf kind) (sym r.0) (eqb-true kind 5 is, h))
 has_symbols kind count false is few =
-    has_join (AreSome count) (AreSymbolsOf kind) _ _ (has_digits count) (λ values h. λ v octets rest are r. subst (AreSymbolsOf kind) (sym r.0) (eqb-false kind 5 is, record { few = omega (arith, few, h.0); each = h.1 }))
+    has_chain (AreSome count) (AreSymbolsOf kind) _ _ (has_digits count) (λ values h. λ v octets rest are r. subst (AreSymbolsOf kind) (sym r.0) (eqb-false kind 5 is, record { few = omega (arith, few, h.0); each = h.1 }))
 
 pub has_address : Has HasSpelling address
 unfolding address
 has_address =
-    has_join (λ count. count ≤ 20) HasSpelling _ _ (has_up_to Short 20 AddressTooLong) (λ count few.
-    has_join (λ kind. kind < 256) HasSpelling _ _ (has_octet Short) (λ kind small.
-    has_join (AreSymbolsOf (kind / 16 % 8)) HasSpelling _ _ (has_symbols (kind / 16 % 8) count (kind / 16 % 8 == alphanumeric) refl few) (λ symbols are_symbols.
+    has_chain (λ count. count ≤ 20) HasSpelling _ _ (has_up_to Short 20 AddressTooLong) (λ count few.
+    has_chain (λ kind. kind < 256) HasSpelling _ _ (has_octet Short) (λ kind small.
+    has_chain (AreSymbolsOf (kind / 16 % 8)) HasSpelling _ _ (has_symbols (kind / 16 % 8) count (kind / 16 % 8 == alphanumeric) refl few) (λ symbols are_symbols.
     λ v octets rest are r. subst HasSpelling (sym r.0) (record { kind = omega arith; plan = omega arith; symbols = are_symbols }))))
 
 -- ---- addresses of the relay layer
@@ -113,18 +113,18 @@ unfolding relay_digits
 has_relay_digits zero = λ v octets rest are r. subst (AreFew 0) (sym r.0) (omega arith, tt)
 has_relay_digits (suc zero) = has_last
 has_relay_digits (suc (suc n)) =
-    has_join BothDigits (AreFew (suc (suc n))) _ _ has_both (λ two h.
-    has_join (AreFew (suc n)) (AreFew (suc (suc n))) _ _ (has_relay_digits (suc n)) (λ others k.
+    has_chain BothDigits (AreFew (suc (suc n))) _ _ has_both (λ two h.
+    has_chain (AreFew (suc n)) (AreFew (suc (suc n))) _ _ (has_relay_digits (suc n)) (λ others k.
     λ v octets rest are r. subst (AreFew (suc (suc n))) (sym r.0) (omega (arith, k.0), (h.0, (h.1, k.1)))))
 
 has_relay_part : (none : Bool) (count : ℕ) → count ≤ 10 → Has HasOptionalSpelling (relay_part none count)
 unfolding relay_part
 has_relay_part true count few = λ v octets rest are r. subst HasOptionalSpelling (sym r.0) tt
 has_relay_part false count few =
-    has_join Any HasOptionalSpelling _ _ (λ v octets rest are r. tt) (λ kind h.
-    has_join (AreFew count) HasOptionalSpelling _ _ (has_relay_digits count) (λ values k.
+    has_chain Any HasOptionalSpelling _ _ (λ v octets rest are r. tt) (λ kind h.
+    has_chain (AreFew count) HasOptionalSpelling _ _ (has_relay_digits count) (λ values k.
     λ v octets rest are r. subst HasOptionalSpelling (sym r.0) (record { kind = omega arith; plan = omega arith; digits = record { few = omega (arith, few, k.0); each = k.1 } })))
 
 pub has_relay_address : Has HasOptionalSpelling relay_address
 unfolding relay_address
-has_relay_address = has_join (λ count. count ≤ 11) HasOptionalSpelling _ _ (has_up_to Short 11 AddressTooLong) (λ count few. has_relay_part (count == 0) (count - 1) (omega (arith, few)))
+has_relay_address = has_chain (λ count. count ≤ 11) HasOptionalSpelling _ _ (has_up_to Short 11 AddressTooLong) (λ count few. has_relay_part (count == 0) (count - 1) (omega (arith, few)))

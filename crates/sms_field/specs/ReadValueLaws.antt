@@ -1,4 +1,4 @@
--- What is known of the values of joins and single fields.
+-- What is known of the values of chains and single fields.
 use Rattle.std.proofs.Common.{ℕ, List, ◌++◌, Option, Some, None, sym, subst}
 use Rattle.sms_text.specs.Octets.{IsOctets}
 use Rattle.sms_field.specs.OctetLists.{octets_back, octets_front}
@@ -8,8 +8,8 @@ use Rattle.sms_field.specs.Optional.{tagged}
 use Rattle.sms_field.specs.Reading.{Reads}
 use Rattle.sms_field.specs.ReadValues.{Has, Any, AreOptionalOctets}
 
-pub has_join : {A B W : Type 0} (Q : A → Type 0) (P : B → Type 0) (first : Field A W) (second : A → Field B W) → Has Q first → ((a : A) → Q a → Has P (second a)) → Has P (first >>= second)
-has_join Q P first second n m = λ v octets rest are r.
+pub has_chain : {A B W : Type 0} (Q : A → Type 0) (P : B → Type 0) (first : Field A W) (second : A → Field B W) → Has Q first → ((a : A) → Q a → Has P (second a)) → Has P (first >>= second)
+has_chain Q P first second n m = λ v octets rest are r.
     let parts : IsOctets (r.front ++ r.back) = subst IsOctets r.parts are in
     m r.choice (n r.choice r.front (r.back ++ rest) (octets_front r.front r.back parts) r.of_first) v r.back rest (octets_back r.front r.back parts) r.of_second
 

@@ -14,7 +14,7 @@ by_answer short f input are (refused place why) h =
     (λ s. s.none (record { value = r.value; octets = r.read.octets; rest = r.read.rest; parts = r.read.parts; read = r.read.read }))
     (λ b.
     let whole : (b.front ++ b.octet ∷ []) ++ b.rest ≡ input = append_assoc b.front (b.octet ∷ []) b.rest ∙ sym b.parts in
-    b.behind (record {
+    b.none_after (record {
       more = b.rest;
       are_octets = octets_back (b.front ++ b.octet ∷ []) b.rest (subst IsOctets (sym whole) are);
       reading = record { value = r.value; octets = r.read.octets; rest = r.read.rest; parts = whole ∙ r.read.parts; read = r.read.read };
@@ -37,4 +37,4 @@ viable_before reads input place are r =
 pub unread : {V W : Type 0} (reads : V → List ℕ → ℕ → Type 0) (reason : List ℕ → ℕ → W → Type 0) (short : W) → IsUnread reads reason short
 unread reads reason short input place why are h = λ r.
     let named : why ≡ short → ⊥ = λ is. (h.0 is).unread r in
-    (h.1 named).behind (viable_before reads input (place + 1) are r)
+    (h.1 named).none_after (viable_before reads input (place + 1) are r)

@@ -36,7 +36,7 @@ pub record EndsTooSoon {V : Type 0} (reads : V → List ℕ → ℕ → Type 0) 
 pub record BreaksAt {V W : Type 0} (reads : V → List ℕ → ℕ → Type 0) (reason : List ℕ → ℕ → W → Type 0) (input : List ℕ) (place : ℕ) (why : W) : Type 0 where
   pub inside : place < length input
   pub before : IsViable reads (take place input)
-  pub behind : ¬ IsViable reads (take (place + 1) input)
+  pub none_after : ¬ IsViable reads (take (place + 1) input)
   pub because : reason (take place input) (slice_index input place) why
 
 -- want of memory; or short, where octets are missing; or the reason at the place

@@ -9,7 +9,7 @@ use Rattle.sms_field.specs.Reading.{Reads, IsReadable, IsViable, IsRefused}
 use Rattle.sms_field.specs.Answer.{Refuses, Takes}
 use Rattle.sms_field.specs.Spot.{Spot}
 use Rattle.sms_field.specs.OctetLists.{octets_are, octets_back}
-use Rattle.sms_field.specs.JoinLaws.{agree}
+use Rattle.sms_field.specs.ChainLaws.{agree}
 
 get_or-append_here : (xs : List ℕ) (y : ℕ) (ys : List ℕ) → get_or (xs ++ (y ∷ ys)) (length xs) 0 ≡ y
 get_or-append_here [] y ys = refl
@@ -55,7 +55,7 @@ module _ {V W : Type 0} (f : Field V W) where
         (λ other. record {
           inside = omega (arith, at, ap length h.parts, length-append h.front (h.octet ∷ h.rest));
           before = subst (IsViable (Reads f)) (sym upto) (can_be h.front h.before);
-          behind = λ c. h.behind (goes_on (h.front ++ (h.octet ∷ [])) (subst (IsViable (Reads f)) past c));
+          none_after = λ c. h.none_after (goes_on (h.front ++ (h.octet ∷ [])) (subst (IsViable (Reads f)) past c));
           because = subst (λ (l : List ℕ). f.reason l (get_or input place 0) why) (sym upto) (subst (λ (o : ℕ). f.reason h.front o why) (sym octet_is) h.reason);
         }),
       )
@@ -89,7 +89,7 @@ module _ {V W : Type 0} (f : Field V W) (short : W) (law : IsLawful short f) (in
   refused_without v n r (At place why) e =
       let named : why ≡ short → ⊥ = λ is. ((read_refused (At place why) e).0 is).unread (record { value = v; used = n; read = r }) in
       let back : take (place + 1) input ++ drop (place + 1) input ≡ input = take-append-drop (place + 1) input in
-      absurd (((read_refused (At place why) e).1 named).behind (record {
+      absurd (((read_refused (At place why) e).1 named).none_after (record {
         more = drop (place + 1) input;
         are_octets = octets_back (take (place + 1) input) (drop (place + 1) input) (subst IsOctets (sym back) (octets_are input fits));
         readable = record { value = v; used = n; read = subst (λ (l : List ℕ). Reads f v l n) (sym back) r };

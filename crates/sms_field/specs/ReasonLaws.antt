@@ -1,4 +1,4 @@
--- Reasons that a join never has; and where a reason of the first octet alone is given.
+-- Reasons that a chain never has; and where a reason of the first octet alone is given.
 use Rattle.std.proofs.Common.{◌≡◌, ⊎_elim, ℕ, zero, suc, Bool, true, false, cond, List, [], ◌∷◌, ◌++◌, take, Result, Ok, Err, refl, sym, ap, ◌∙◌, arith}
 use Rattle.std.specs.Prelude.{nat_le}
 use Rattle.sms_field.specs.Field.{Field, ◌>>=◌, always, octet, octet_by, octets_of, map_reason, up_to}
@@ -10,8 +10,8 @@ use Rattle.sms_field.specs.declared.refusal.Refusal.TheVariants.{At}
 
 -- ---- a reason that a field never has
 
-pub never_join : {A B W : Type 0} (why : W) (first : Field A W) (second : A → Field B W) → Never why first → ((a : A) → Never why (second a)) → Never why (first >>= second)
-never_join why first second n m = λ front octet h. ⊎_elim (λ r. n front octet r.reason) (λ r. m r.reading.value r.reading.rest octet r.reason) h
+pub never_chain : {A B W : Type 0} (why : W) (first : Field A W) (second : A → Field B W) → Never why first → ((a : A) → Never why (second a)) → Never why (first >>= second)
+never_chain why first second n m = λ front octet h. ⊎_elim (λ r. n front octet r.reason) (λ r. m r.reading.value r.reading.rest octet r.reason) h
 
 pub never_by : {V W : Type 0} (why short : W) (meaning : ℕ → Result V W) → ((o : ℕ) → meaning o ≡ Err why → ⊥) → Never why (octet_by short meaning)
 never_by why short meaning n = λ front octet h. n octet h
@@ -31,12 +31,12 @@ never_map_reason why name f n = λ front octet h. n h.0 h.2
 pub never_mapped : {V X W : Type 0} (why : W) (make : V → X) (f : Field V W) → Never why f → Never why (mapped make f)
 never_mapped why make f n = n
 
-never_behind : {V W : Type 0} (why : W) (tag : ℕ) (f : Field V W) → Never why f → (front : List ℕ) (octet : ℕ) → (tagged tag f).reason front octet why → ⊥
-never_behind why tag f n [] octet h = h
-never_behind why tag f n (first ∷ front) octet h = n front octet h
+never_after_tag : {V W : Type 0} (why : W) (tag : ℕ) (f : Field V W) → Never why f → (front : List ℕ) (octet : ℕ) → (tagged tag f).reason front octet why → ⊥
+never_after_tag why tag f n [] octet h = h
+never_after_tag why tag f n (first ∷ front) octet h = n front octet h
 
 pub never_tagged : {V W : Type 0} (why : W) (tag : ℕ) (f : Field V W) → Never why f → Never why (tagged tag f)
-never_tagged why tag f n = never_behind why tag f n
+never_tagged why tag f n = never_after_tag why tag f n
 
 up_to_by : {W : Type 0} (why other : W) (b : Bool) (o : ℕ) → (other ≡ why → ⊥) → cond b (Ok o) (Err why) ≡ Err other → ⊥
 up_to_by why other true o n e = cc

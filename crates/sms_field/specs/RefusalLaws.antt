@@ -13,7 +13,7 @@ only_memory reads reason short octets input v used fits same read (At place why)
     let named : why ≡ short → ⊥ = λ is. (h.0 is).unread (record { value = v; used = used; read = subst (λ (l : List ℕ). reads v l used) (sym same) read }) in
     let whole : take (place + 1) input ++ drop (place + 1) input ≡ input = take-append-drop (place + 1) input in
     let are : IsOctets (take (place + 1) input ++ drop (place + 1) input) = subst IsOctets (sym (whole ∙ same)) fits in
-    absurd ((h.1 named).behind (record {
+    absurd ((h.1 named).none_after (record {
       more = drop (place + 1) input;
       are_octets = octets_back (take (place + 1) input) (drop (place + 1) input) are;
       readable = record { value = v; used = used; read = subst (λ (l : List ℕ). reads v l used) (sym (whole ∙ same)) read };

@@ -12,7 +12,7 @@ use Rattle.sms_field.specs.DigitOctets.{both_digits, digit_octets}
 use Rattle.sms_field.specs.DigitLaws.{both_apart, two_digits, digits_are_octets}
 use Rattle.sms_field.specs.RelayAddressValue.{RelayAddressValue, HasRelaySpelling, HasOptionalSpelling}
 use Rattle.sms_field.specs.RelayAddress.{last_digits, relay_digits, relay_part, relay_address, relay_address_octets, optional_address_octets}
-use Rattle.sms_field.specs.JoinLaws.{join_lawful, join_self_contained}
+use Rattle.sms_field.specs.ChainLaws.{chain_lawful, chain_self_contained}
 use Rattle.sms_field.specs.SingleLaws.{always_self, always_lawful, octet_self, octet_lawful, octet_by_self, octet_by_lawful, apart_else}
 
 last_apart : (o : ℕ) → last_digits o ≡ Err Short → ⊥
@@ -23,16 +23,16 @@ unfolding relay_digits
 relay_digits_self zero = always_self FieldFault []
 relay_digits_self (suc zero) = octet_by_self Short last_digits
 relay_digits_self (suc (suc n)) =
-    join_self_contained (octet_by Short both_digits) (λ two. relay_digits (suc n) >>= λ others. always (two.0 ∷ two.1 ∷ others)) (octet_by_self Short both_digits)
-    (λ two. join_self_contained (relay_digits (suc n)) (λ others. always (two.0 ∷ two.1 ∷ others)) (relay_digits_self (suc n)) (λ others. always_self FieldFault (two.0 ∷ two.1 ∷ others)))
+    chain_self_contained (octet_by Short both_digits) (λ two. relay_digits (suc n) >>= λ others. always (two.0 ∷ two.1 ∷ others)) (octet_by_self Short both_digits)
+    (λ two. chain_self_contained (relay_digits (suc n)) (λ others. always (two.0 ∷ two.1 ∷ others)) (relay_digits_self (suc n)) (λ others. always_self FieldFault (two.0 ∷ two.1 ∷ others)))
 
 relay_digits_lawful : (n : ℕ) → IsLawful Short (relay_digits n)
 unfolding relay_digits
 relay_digits_lawful zero = always_lawful Short []
 relay_digits_lawful (suc zero) = octet_by_lawful Short last_digits (0, lit< tt, (0 ∷ 0 ∷ []), refl) last_apart
 relay_digits_lawful (suc (suc n)) =
-    join_lawful (octet_by Short both_digits) (λ two. relay_digits (suc n) >>= λ others. always (two.0 ∷ two.1 ∷ others)) Short (octet_by_self Short both_digits) (octet_by_lawful Short both_digits (0, lit< tt, (0, 0), refl) both_apart)
-    (λ two _ _ _. join_lawful (relay_digits (suc n)) (λ others. always (two.0 ∷ two.1 ∷ others)) Short (relay_digits_self (suc n)) (relay_digits_lawful (suc n)) (λ others _ _ _. always_lawful Short (two.0 ∷ two.1 ∷ others)))
+    chain_lawful (octet_by Short both_digits) (λ two. relay_digits (suc n) >>= λ others. always (two.0 ∷ two.1 ∷ others)) Short (octet_by_self Short both_digits) (octet_by_lawful Short both_digits (0, lit< tt, (0, 0), refl) both_apart)
+    (λ two _ _ _. chain_lawful (relay_digits (suc n)) (λ others. always (two.0 ∷ two.1 ∷ others)) Short (relay_digits_self (suc n)) (relay_digits_lawful (suc n)) (λ others _ _ _. always_lawful Short (two.0 ∷ two.1 ∷ others)))
 
 abbrev with_kind : ℕ → List ℕ → Option RelayAddressValue
 with_kind kind values = Some (record { kind = kind / 16 % 8; plan = kind % 16; digits = values })
@@ -41,16 +41,16 @@ relay_part_self : (none : Bool) (count : ℕ) → IsSelfContained (relay_part no
 unfolding relay_part
 relay_part_self true count = always_self FieldFault None
 relay_part_self false count =
-    join_self_contained _ _ (octet_self Short)
-    (λ kind. join_self_contained _ _ (relay_digits_self count)
+    chain_self_contained _ _ (octet_self Short)
+    (λ kind. chain_self_contained _ _ (relay_digits_self count)
     (λ values. always_self FieldFault (with_kind kind values)))
 
 relay_part_lawful : (none : Bool) (count : ℕ) → IsLawful Short (relay_part none count)
 unfolding relay_part
 relay_part_lawful true count = always_lawful Short None
 relay_part_lawful false count =
-    join_lawful _ _ Short (octet_self Short) (octet_lawful Short)
-    (λ kind _ _ _. join_lawful _ _ Short (relay_digits_self count) (relay_digits_lawful count)
+    chain_lawful _ _ Short (octet_self Short) (octet_lawful Short)
+    (λ kind _ _ _. chain_lawful _ _ Short (relay_digits_self count) (relay_digits_lawful count)
     (λ values _ _ _. always_lawful Short (with_kind kind values)))
 
 count_apart : (o : ℕ) → up_to 11 AddressTooLong o ≡ Err Short → ⊥
@@ -58,12 +58,12 @@ count_apart o = apart_else Short (leb o 11) o AddressTooLong (λ e. cc)
 
 pub relay_address_self : IsSelfContained relay_address
 unfolding relay_address
-relay_address_self = join_self_contained _ _ (octet_by_self Short (up_to 11 AddressTooLong)) (λ count. relay_part_self (count == 0) (count - 1))
+relay_address_self = chain_self_contained _ _ (octet_by_self Short (up_to 11 AddressTooLong)) (λ count. relay_part_self (count == 0) (count - 1))
 
 pub relay_address_lawful : IsLawful Short relay_address
 unfolding relay_address
 relay_address_lawful =
-    join_lawful _ _ Short (octet_by_self Short (up_to 11 AddressTooLong)) (octet_by_lawful Short (up_to 11 AddressTooLong) (0, lit< tt, 0, refl) count_apart)
+    chain_lawful _ _ Short (octet_by_self Short (up_to 11 AddressTooLong)) (octet_by_lawful Short (up_to 11 AddressTooLong) (0, lit< tt, 0, refl) count_apart)
     (λ count _ _ _. relay_part_lawful (count == 0) (count - 1))
 
 -- ---- what is written is read

@@ -1,4 +1,4 @@
--- The fields that others are joined from.
+-- The fields of which others are chains.
 use Rattle.std.specs.Prelude.{◌≡◌, ℕ, ◌+◌, List, [], ◌∷◌, length, take, drop, Result, Ok, Err, nat_le, nat_lt, if◌then◌else◌}
 use Rattle.sms_field.specs.LawfulField.{Outcome, found, refused, Field}
 

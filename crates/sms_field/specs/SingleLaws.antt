@@ -59,7 +59,7 @@ module _ {V W : Type 0} (short : W) (meaning : ℕ → Result V W) (some : (o : 
     parts = refl;
     place_is = omega arith;
     before = octet_by_starts;
-    behind = λ c. absurd (
+    none_after = λ c. absurd (
         let r = c.reading in
         let e : o ∷ c.more ≡ r.read.0 ∷ r.rest = r.parts ∙ ap (λ (l : List ℕ). l ++ r.rest) r.read.1 in
         let same : o ≡ r.read.0 = cc in
@@ -157,7 +157,7 @@ module _ {V W X : Type 0} (short : W) (name : W → X) (apart : (why : W) → na
     parts = h.parts;
     place_is = h.place_is;
     before = goes_on_map_reason h.front h.before;
-    behind = λ c. h.behind (map_reason_goes_on (h.front ++ (h.octet ∷ [])) c);
+    none_after = λ c. h.none_after (map_reason_goes_on (h.front ++ (h.octet ∷ [])) c);
     reason = (why, h.reason, refl);
   })
 

@@ -5,7 +5,7 @@ ghost use Rattle.std.specs.Str.{chars};
 ghost use Rattle.std.specs.String.{string_bytes};
 ghost use Rattle.sms_text.specs.SeptetsOfText.{septets_of_text};
 ghost use Rattle.sms_field.specs.DigitText.{digits_of_text, text_of_digits};
-ghost use Rattle.sms_field.specs.AddressText.{plus, sign, address_text, few_digits, number as number_with, number_of, name_of, without_plus, address_of_text};
+ghost use Rattle.sms_field.specs.AddressText.{plus, prefix, address_text, few_digits, telephone as telephone_with, telephone_of, name_of, without_plus, address_of_text};
 ghost use Rattle.sms_field.specs.declared.fault.AddressFault.TheVariants.{Memory};
 
 use crate::address::Address;
@@ -25,7 +25,7 @@ pub fn international(text: &str) -> Option<&str>
 }
 
 /// The digits of a text, up to 20.
-pub fn digits_of_number(alloc: Global, text: &str) -> Result<Digits, AddressFault>
+pub fn digits_of_telephone(alloc: Global, text: &str) -> Result<Digits, AddressFault>
     ensures { result ≢ Err Memory → result ≡ few_digits (digits_of_text (chars text.now)) }
 {
     let Some(values) = digits_of(alloc, text)? else {
@@ -38,13 +38,13 @@ pub fn digits_of_number(alloc: Global, text: &str) -> Result<Digits, AddressFaul
 }
 
 /// The text of digits, after a `+` where the type of number is 1.
-pub fn text_of_number(
+pub fn text_of_telephone(
     alloc: Global,
     type_of_number: u8,
     digits: &Digits,
 ) -> Result<String, AllocError>
     ensures { IfOk result (λ text.
-        chars (string_bytes text) ≡ sign type_of_number ++ text_of_digits digits.now) }
+        chars (string_bytes text) ≡ prefix type_of_number ++ text_of_digits digits.now) }
 {
     let digits = digits.as_slice();
     let mut text = String::with_capacity(alloc, digits.len() + 1)?;
@@ -56,9 +56,9 @@ pub fn text_of_number(
 }
 
 /// A telephone number.
-fn number(type_of_number: u8, digits: Digits) -> Address
+fn telephone(type_of_number: u8, digits: Digits) -> Address
     requires { type_of_number < 2 }
-    ensures { result ≡ number_with type_of_number digits }
+    ensures { result ≡ telephone_with type_of_number digits }
 {
     Address {
         type_of_number,
@@ -67,12 +67,12 @@ fn number(type_of_number: u8, digits: Digits) -> Address
     }
 }
 
-/// An international number of these digits.
-fn international_number(digits: Result<Digits, AddressFault>) -> Result<Address, AddressFault>
-    ensures { result ≡ number_of 1 digits }
+/// An international telephone number of these digits.
+fn international_telephone(digits: Result<Digits, AddressFault>) -> Result<Address, AddressFault>
+    ensures { result ≡ telephone_of 1 digits }
 {
     match digits {
-        Ok(digits) => Ok(number(1, digits)),
+        Ok(digits) => Ok(telephone(1, digits)),
         Err(why) => Err(why),
     }
 }
@@ -94,12 +94,12 @@ fn name(alloc: Global, text: &str) -> Result<Address, AddressFault>
     })
 }
 
-/// A number of unknown type, or a name where the text has another character than digits.
-fn number_or_name(alloc: Global, text: &str) -> Result<Address, AddressFault>
+/// A telephone number of unknown type, or a name where the text has another character than digits.
+fn telephone_or_name(alloc: Global, text: &str) -> Result<Address, AddressFault>
     ensures { result ≢ Err Memory → result ≡ without_plus (chars text.now) }
 {
-    match digits_of_number(alloc, text) {
-        Ok(digits) => Ok(number(0, digits)),
+    match digits_of_telephone(alloc, text) {
+        Ok(digits) => Ok(telephone(0, digits)),
         Err(AddressFault::BadDigit) => name(alloc, text),
         Err(AddressFault::AddressTooLong) => Err(AddressFault::AddressTooLong),
         Err(AddressFault::Memory) => Err(AddressFault::Memory),
@@ -107,15 +107,15 @@ fn number_or_name(alloc: Global, text: &str) -> Result<Address, AddressFault>
 }
 
 impl Address {
-    /// The address that a text says: `+` and digits are a number of type 1, digits alone one of type 0,
+    /// The address that a text says: `+` and digits are a telephone number of type 1, digits alone one of type 0,
     /// both in plan 1; another text that does not begin with `+` is a name, of type 5 in plan 0.
     /// Digits are `0` to `9`, `*`, `#`, `a`, `b` and `c`. A bad character is found before too many.
     pub fn from_text(alloc: Global, text: &str) -> Result<Address, AddressFault>
         ensures { result ≢ Err Memory → result ≡ address_of_text (chars text.now) }
     {
         match international(text) {
-            Some(digits) => international_number(digits_of_number(alloc, digits)),
-            None => number_or_name(alloc, text),
+            Some(digits) => international_telephone(digits_of_telephone(alloc, digits)),
+            None => telephone_or_name(alloc, text),
         }
     }
 
@@ -125,7 +125,7 @@ impl Address {
         ensures { IfOk result (λ text. chars (string_bytes text) ≡ address_text self.now) }
     {
         match &self.symbols {
-            Symbols::Digits(digits) => text_of_number(alloc, self.type_of_number, digits),
+            Symbols::Digits(digits) => text_of_telephone(alloc, self.type_of_number, digits),
             Symbols::Name(name) => text_of_gsm(alloc, name.as_slice()),
         }
     }

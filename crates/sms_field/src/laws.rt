@@ -9,12 +9,12 @@ ghost use Rattle.sms_field.specs.RelayAddressValue.{HasOptionalSpelling};
 ghost use Rattle.sms_field.specs.declared.fault.FieldFault.TheVariants.{Short};
 ghost use Rattle.sms_field.specs.Readable.{HasOneReading, IsDecided, IsUnread};
 ghost use Rattle.sms_field.specs.Reading.{Reads};
-ghost use Rattle.sms_field.specs.ReadValues.{Has, JoinHas};
-ghost use Rattle.sms_field.specs.Reasons.{JoinNever};
+ghost use Rattle.sms_field.specs.ReadValues.{Has, ChainHas};
+ghost use Rattle.sms_field.specs.Reasons.{ChainNever};
 ghost use Rattle.sms_field.specs.SameAddress.{SameIsEqual, SameIsReflexive, SameIsSymmetric, SameIsTransitive};
 ghost use Rattle.sms_field.specs.Times.{StampIsOne, StampIsThere, MomentIsOne, MomentIsThere, EndIsOne, MomentComesBack, MomentComesBackOfZone0};
 
-use crate::join::Join;
+use crate::chain::Chain;
 
 /// A lawful field.
 pub trait Lawful<V, W> {
@@ -28,7 +28,7 @@ pub trait Lawful<V, W> {
 }
 
 /// What is known of the values of two fields, of which the second follows the first.
-pub trait Known<A, B, W>: Join<A, B, W> {
+pub trait Known<A, B, W>: Chain<A, B, W> {
     ghost of_first: { A → Type 0 };
 
     ghost of_second: { B → Type 0 };
@@ -41,14 +41,14 @@ pub fn law_of_readings<V, W, F: Lawful<V, W>>()
     ensures unread { IsUnread (Reads F.field) F.field.reason F.short }
 {}
 
-/// What neither of two fields is refused for, their join is not.
-pub fn law_of_reasons<A, B, W, J: Join<A, B, W>>()
-    ensures { JoinNever J.first J.second }
+/// What neither of two fields is refused for, their chain is not.
+pub fn law_of_reasons<A, B, W, J: Chain<A, B, W>>()
+    ensures { ChainNever J.first J.second }
 {}
 
-/// What is known of the values of two fields is known of those of their join.
+/// What is known of the values of two fields is known of those of their chain.
 pub fn law_of_values<A, B, W, K: Known<A, B, W>>()
-    ensures { JoinHas K.of_first K.of_second K.first K.second }
+    ensures { ChainHas K.of_first K.of_second K.first K.second }
 {}
 
 /// An input is refused as an address at one place and for one reason.

@@ -6,7 +6,7 @@ ghost use Rattle.std.specs.String.{string_bytes};
 ghost use Rattle.sms_field.specs.Field.{IsLawful, IsSelfContained};
 ghost use Rattle.sms_field.specs.RelayAddressValue.{HasOptionalSpelling};
 ghost use Rattle.sms_field.specs.RelayAddress.{relay_address, relay_address_octets, optional_address_octets};
-ghost use Rattle.sms_field.specs.RelayAddressText.{relay_address_text, relay_number_of, relay_address_of_text};
+ghost use Rattle.sms_field.specs.RelayAddressText.{relay_address_text, relay_telephone_of, relay_address_of_text};
 ghost use Rattle.sms_field.specs.Written.{AreAtMost, AreOctetsOf, AreReadBack};
 ghost use Rattle.sms_field.specs.declared.fault.FieldFault.TheVariants.{Short};
 ghost use Rattle.sms_field.specs.declared.fault.AddressFault.TheVariants.{Memory};
@@ -20,7 +20,7 @@ ghost use Rattle.std.proofs.Common.{rules};
 ghost use Rattle.sms_field.specs.Answer.{Takes};
 
 use crate::address::OCTETS_MAX;
-use crate::address_text::{digits_of_number, international, text_of_number};
+use crate::address_text::{digits_of_telephone, international, text_of_telephone};
 use crate::cursor::Cursor;
 use crate::digits::{Digits, put_number};
 use crate::fault::{AddressFault, FieldFault};
@@ -86,12 +86,12 @@ impl Hash for RpAddress {
 }
 
 /// A telephone number.
-fn number(
+fn telephone(
     type_of_number: u8,
     digits: Result<Digits, AddressFault>,
 ) -> Result<RpAddress, AddressFault>
     requires { type_of_number < 2 }
-    ensures { result ≡ relay_number_of type_of_number digits }
+    ensures { result ≡ relay_telephone_of type_of_number digits }
 {
     match digits {
         Ok(digits) => Ok(RpAddress {
@@ -115,14 +115,14 @@ pub fn relay_address_laws()
 {}
 
 impl RpAddress {
-    /// The number that a text says, in plan 1: `+` and digits are of type 1, digits alone of type 0.
+    /// The telephone number that a text says, in plan 1: `+` and digits are of type 1, digits alone of type 0.
     /// Digits are `0` to `9`, `*`, `#`, `a`, `b` and `c`. A bad digit is found before too many.
     pub fn from_text(alloc: Global, text: &str) -> Result<RpAddress, AddressFault>
         ensures { result ≢ Err Memory → result ≡ relay_address_of_text (chars text.now) }
     {
         match international(text) {
-            Some(digits) => number(1, digits_of_number(alloc, digits)),
-            None => number(0, digits_of_number(alloc, text)),
+            Some(digits) => telephone(1, digits_of_telephone(alloc, digits)),
+            None => telephone(0, digits_of_telephone(alloc, text)),
         }
     }
 
@@ -131,7 +131,7 @@ impl RpAddress {
     pub fn to_text(&self, alloc: Global) -> Result<String, AllocError>
         ensures { IfOk result (λ text. chars (string_bytes text) ≡ relay_address_text self.now) }
     {
-        text_of_number(alloc, self.type_of_number, &self.digits)
+        text_of_telephone(alloc, self.type_of_number, &self.digits)
     }
 
     /// The same address.

@@ -8,7 +8,7 @@ use Rattle.std.specs.List.{flat_map, AllByRecursion}
 use Rattle.std.specs.Char.{IsScalar}
 use Rattle.std.specs.Char.Utf16.{is_high_surrogate}
 use Rattle.sms_text.specs.Tables.{main, extension, escape, code_of}
-use Rattle.sms_text.specs.SeptetsOfText.{code_or_escaped, septets_of_character, septets_of_text, joined}
+use Rattle.sms_text.specs.SeptetsOfText.{code_or_escaped, septets_of_character, septets_of_text, appended}
 use Rattle.sms_join.specs.UnitsOfText.{begins_pair, Default, Wide, alphabet_by, alphabet_of, units_of_character}
 use Rattle.sms_join.proofs.CutLaws.{IsShort}
 
@@ -23,7 +23,7 @@ group_short opens l (Pair u v e f) = (omega arith, omega arith)
 
 -- ---- the default alphabet
 
-pub joined_parts : (a b : Option (List ℕ)) (s : List ℕ) → joined a b ≡ Some s → (x : List ℕ) × (y : List ℕ) × (a ≡ Some x) × (b ≡ Some y) × (x ++ y ≡ s)
+pub joined_parts : (a b : Option (List ℕ)) (s : List ℕ) → appended a b ≡ Some s → (x : List ℕ) × (y : List ℕ) × (a ≡ Some x) × (b ≡ Some y) × (x ++ y ≡ s)
 joined_parts (Some x) (Some y) s e = (x, y, refl, refl, cc)
 joined_parts (Some x) None s e = absurd cc
 joined_parts None b s e = absurd cc
@@ -31,7 +31,7 @@ joined_parts None b s e = absurd cc
 -- no code of the table is the escape
 abbrev are_plain : List (ℕ × ℕ) → Bool
 are_plain [] = true
-are_plain (sign ∷ others) = not (sign.0 == escape) && are_plain others
+are_plain (entry ∷ others) = not (entry.0 == escape) && are_plain others
 
 pub both : (a b : Bool) → (a && b) ≡ true → (a ≡ true) × (b ≡ true)
 both true true e = (refl, refl)
@@ -51,9 +51,9 @@ plain_one at code rest false plain others f = others f
 plain_code : (table : List (ℕ × ℕ)) (c code : ℕ) → are_plain table ≡ true → code_of table c ≡ Some code → (code == escape) ≡ false
 unfolding code_of
 plain_code [] c code plain e = absurd cc
-plain_code (sign ∷ others) c code plain e =
-    let h = both (not (sign.0 == escape)) (are_plain others) plain in
-    plain_one sign.0 code (code_of others c) (sign.1 == c) h.0 (plain_code others c code h.1) e
+plain_code (entry ∷ others) c code plain e =
+    let h = both (not (entry.0 == escape)) (are_plain others) plain in
+    plain_one entry.0 code (code_of others c) (entry.1 == c) h.0 (plain_code others c code h.1) e
 
 group_by : (c : ℕ) (m e : Option ℕ) (l : List ℕ) → code_of main c ≡ m → code_of extension c ≡ e → code_or_escaped m e ≡ Some l → IsGroup (begins_pair Default) l
 group_by c (Some code) e l in_main in_extension is =

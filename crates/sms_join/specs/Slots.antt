@@ -33,7 +33,7 @@ filled (Some u ∷ ps) = u ∷ filled ps
 abbrev pub filled_with : Units → List (Option Units) → List Units
 filled_with u ps = map (λ p. unwrap_or p u) ps
 
--- places of so many pieces, of which one has come
+-- as many places as the set has pieces, of which one has come
 abbrev pub first_places : ℕ → ℕ → Units → List (Option Units)
 first_places maximum n u = set (replicate maximum None) (n - 1) (Some u)
 

@@ -88,7 +88,7 @@ fn count_pieces(units: &Units, width: Width) -> usize
     count_parts(units, units.room_beside(width))
 }
 
-/// The pieces of a text's units by a room. They are so many, for which room is made at once.
+/// The pieces of a text's units by a room. There are `many`, and room is made for all at once.
 fn parts(alloc: Global, units: &Units, room: usize, many: u8) -> Result<Vec<Units>, AllocError>
     requires { 2 ≤ room }
     ensures { (text : List ℕ) → IsText text → units.now ≡ units_of_text text
@@ -105,7 +105,7 @@ fn parts(alloc: Global, units: &Units, room: usize, many: u8) -> Result<Vec<Unit
     Ok(pieces)
 }
 
-/// The pieces in which a text's units are sent. They are so many.
+/// The pieces in which a text's units are sent. There are `many`.
 fn pieces(alloc: Global, units: Units, width: Width, many: u8) -> Result<Vec<Units>, AllocError>
     ensures { (text : List ℕ) → IsText text → units ≡ units_of_text text
         → IfOk result (λ pieces. IsCut width text pieces.items) }
@@ -117,7 +117,7 @@ fn pieces(alloc: Global, units: Units, width: Width, many: u8) -> Result<Vec<Uni
     parts(alloc, &units, room, many)
 }
 
-/// The segments of these pieces, which are so many.
+/// The segments of these pieces, `maximum` of them.
 fn numbered(alloc: Global, pieces: Vec<Units>, maximum: u8) -> Result<Vec<Segment>, AllocError>
     requires { length pieces.items ≡ maximum }
     ensures { IfOk result (λ segments. AreNumbered pieces.items segments.items) }

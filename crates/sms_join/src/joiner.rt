@@ -1,7 +1,7 @@
 //! A joiner of segments.
 
 ghost use Rattle.std.specs.Prelude.{◌≡◌, ℕ, ◌<◌, false, IfOk, OnOk, OnErr};
-ghost use Rattle.sms_join.specs.declared.units.Units.{Units as Pieces};
+ghost use Rattle.sms_join.specs.declared.units.Units.{Units as TheUnits};
 ghost use Rattle.sms_join.specs.Aging.{aged};
 ghost use Rattle.sms_join.specs.Finishing.{would_finish};
 ghost use Rattle.sms_join.specs.Piece.{piece_of, key_of, sequence_of, size_of};
@@ -71,7 +71,7 @@ fn size_of(concat: Option<Concat>) -> u8
 }
 
 impl Joiner {
-    /// A joiner that holds nothing, for at most so many open sets and remembered keys. It makes the room for the keys.
+    /// A joiner that holds nothing, for at most `open_max` open sets and `remembered` keys. It makes the room for the keys.
     #[tactic(auto, unfolding(crate::specs::Joiner::new_joiner))]
     pub fn new(alloc: Global, open_max: usize, remembered: usize) -> Result<Joiner, AllocError>
         requires sets { 0 < open_max }
@@ -132,7 +132,7 @@ impl Joiner {
     /// Whether such a message or segment would finish its set. It takes no memory.
     pub fn would_finish(&self, origin: &Address, stamp: Stamp, concat: Option<Concat>) -> bool
         requires { IsPlace concat }
-        ensures { (now : ℕ) (units : Pieces)
+        ensures { (now : ℕ) (units : TheUnits)
             → result
             ≡ would_finish self.now.holds (piece_of now origin.now stamp concat units) }
     {

@@ -64,7 +64,7 @@ fn header_of_place(
     Ok(Some(Header::of(alloc, place)?))
 }
 
-/// The user data of a segment: its units behind a header with its place, or its units alone where it is the only one
+/// The user data of a segment: its units after a header with its place, or its units alone where it is the only one
 /// (3GPP TS 23.040, 9.2.3.24.1 and 9.2.3.24.8).
 ///
 /// All segments of a message have one reference, which is below 256 with `Width::Eight`.

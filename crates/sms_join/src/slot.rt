@@ -37,7 +37,7 @@ impl Model for Slot {
     ghost invariant = { λ s. s.filled ≡ length (come s.places.items) };
 }
 
-/// So many places, all empty.
+/// As many places as `count` says, all empty.
 fn empty_places(alloc: Global, count: usize) -> Result<Vec<Option<Units>>, AllocError>
     ensures { IfOk result (λ places. places.items ≡ replicate count None) }
 {

@@ -5,11 +5,11 @@ use sms_tpdu::{Body, Septets, Width};
 use std::alloc::{AllocError, Global};
 use std::test::Fail;
 
-/// A text: a sign a number of times, another text, and the sign a number of times; and how many units its segments have
+/// A text: a letter a number of times, another text, and the letter a number of times; and how many units its segments have
 /// with references of eight bits, and of sixteen.
 #[derive(Clone, Copy)]
 struct Cut {
-    sign: &'static str,
+    letter: &'static str,
     times: usize,
     then: &'static str,
     again: usize,
@@ -17,9 +17,9 @@ struct Cut {
     sixteen: &'static [usize],
 }
 
-/// The cut of a sign a number of times, another text, and the sign a number of times.
+/// The cut of a letter a number of times, another text, and the letter a number of times.
 fn row(
-    sign: &'static str,
+    letter: &'static str,
     times: usize,
     then: &'static str,
     again: usize,
@@ -27,7 +27,7 @@ fn row(
     sixteen: &'static [usize],
 ) -> Cut {
     Cut {
-        sign,
+        letter,
         times,
         then,
         again,
@@ -64,10 +64,10 @@ fn cuts() -> [Cut; 15] {
     ]
 }
 
-/// A sign a number of times and another text, and the header and the body of its last segment under reference 7.
+/// A letter a number of times and another text, and the header and the body of its last segment under reference 7.
 #[derive(Clone, Copy)]
 struct LastSegment {
-    sign: &'static str,
+    letter: &'static str,
     times: usize,
     then: &'static str,
     width: Width,
@@ -76,42 +76,42 @@ struct LastSegment {
 
 static LAST_SEGMENTS: [LastSegment; 6] = [
     LastSegment {
-        sign: "a",
+        letter: "a",
         times: 1,
         then: "€",
         width: Width::Eight,
         octets: &[97, 27, 101],
     },
     LastSegment {
-        sign: "a",
+        letter: "a",
         times: 159,
         then: "€",
         width: Width::Eight,
         octets: &[0, 3, 7, 2, 2, 97, 97, 97, 97, 97, 97, 27, 101],
     },
     LastSegment {
-        sign: "a",
+        letter: "a",
         times: 159,
         then: "€",
         width: Width::Sixteen,
         octets: &[8, 4, 0, 7, 2, 2, 97, 97, 97, 97, 97, 97, 97, 27, 101],
     },
     LastSegment {
-        sign: "ж",
+        letter: "ж",
         times: 1,
         then: "a",
         width: Width::Eight,
         octets: &[4, 0x36, 0, 97],
     },
     LastSegment {
-        sign: "ж",
+        letter: "ж",
         times: 66,
         then: "😀aaa",
         width: Width::Eight,
         octets: &[0, 3, 7, 2, 2, 0xD8, 0x3D, 0xDE, 0, 0, 97, 0, 97, 0, 97],
     },
     LastSegment {
-        sign: "ж",
+        letter: "ж",
         times: 66,
         then: "😀aaa",
         width: Width::Sixteen,
@@ -119,11 +119,11 @@ static LAST_SEGMENTS: [LastSegment; 6] = [
     },
 ];
 
-/// A sign a number of times, and another text.
-fn repeated(alloc: Global, sign: &str, count: usize, more: &str) -> Result<String, AllocError> {
+/// A letter a number of times, and another text.
+fn repeated(alloc: Global, letter: &str, count: usize, more: &str) -> Result<String, AllocError> {
     let mut text = String::new(alloc);
     for _ in 0..count {
-        text.push_str(sign)?;
+        text.push_str(letter)?;
     }
     text.push_str(more)?;
     Ok(text)
@@ -161,8 +161,8 @@ fn last_octets(alloc: Global, text: &str, width: Width) -> Result<Vec<u8>, Fail>
 fn cuts_texts(rt: HostRuntime) -> Result<(), Fail> {
     let alloc = rt.alloc();
     for row in cuts().as_slice() {
-        let front = repeated(alloc, row.sign, row.times, row.then)?;
-        let text = repeated(alloc, row.sign, row.again, "")?;
+        let front = repeated(alloc, row.letter, row.times, row.then)?;
+        let text = repeated(alloc, row.letter, row.again, "")?;
         let text = repeated(alloc, &front, 1, &text)?;
         let eight = is_cut(alloc, &text, Width::Eight, row.eight)?;
         let sixteen = is_cut(alloc, &text, Width::Sixteen, row.sixteen)?;
@@ -182,7 +182,7 @@ fn cuts_texts(rt: HostRuntime) -> Result<(), Fail> {
 fn gives_user_data(rt: HostRuntime) -> Result<(), Fail> {
     let alloc = rt.alloc();
     for row in LAST_SEGMENTS.as_slice() {
-        let text = repeated(alloc, row.sign, row.times, row.then)?;
+        let text = repeated(alloc, row.letter, row.times, row.then)?;
         let found = last_octets(alloc, &text, row.width)?;
         assert_eq!(rt; found.as_slice(), row.octets, "{text}");
     }
@@ -195,10 +195,10 @@ fn reads_segments(rt: HostRuntime) -> Result<(), Fail> {
     let alloc = rt.alloc();
     let letter = Units::Gsm(Septets::new(vec![in alloc; 97]?));
     let escape = Units::Gsm(Septets::new(vec![in alloc; 27]?));
-    let behind = Units::Gsm(Septets::new(vec![in alloc; 101]?));
+    let last = Units::Gsm(Septets::new(vec![in alloc; 101]?));
     let high = Units::Ucs2(Ucs2Units::new(vec![in alloc; 0xD83D]?));
     let low = Units::Ucs2(Ucs2Units::new(vec![in alloc; 0xDE00]?));
-    let mut segments = vec![in alloc; letter, escape, behind]?;
+    let mut segments = vec![in alloc; letter, escape, last]?;
     assert_eq!(rt; read_units(alloc, &segments)?.as_str(), "a€");
     segments.push(high)?;
     segments.push(low)?;

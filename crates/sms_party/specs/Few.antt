@@ -20,7 +20,7 @@ pub record AreFewTo (place : Place) (put : List Sent) : Type 0 where
   pub two : length put ≤ 2
   pub there : AllByRecursion (λ x. x.to ≡ place) put
 
--- A sender puts out two packets at most, to the centre; and so many do the centre and a receiver.
+-- Two packets at most are put out: by a sender, to the centre; by the centre; and by a receiver.
 pub record FewArePutOut : Type 0 where
   pub when_typed : (x : SenderState) (phone : ℕ) (target : AddressValue) (characters : List ℕ) (pieces : List Units)
       → AreFewTo (Centre phone) (composes x phone target characters pieces).put

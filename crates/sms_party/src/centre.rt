@@ -53,7 +53,7 @@ impl Model for Centre {
 
 impl Centre {
     /// A centre that holds nothing, for phones of these addresses, which are different, and for at
-    /// most so many messages: 1 to 1,000. There are at most 100 phones; a phone is its number among
+    /// most `held` messages, 1 to 1,000. There are at most 100 phones; a phone is its number among
     /// them, from 0.
     pub fn new(alloc: Global, held: usize, phones: &[Address]) -> Result<Centre, AllocError>
         requires distinct { IsTrue (are_distinct phones.now) }

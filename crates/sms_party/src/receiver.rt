@@ -2,7 +2,7 @@
 
 ghost use Rattle.std.specs.Prelude.{◌≡◌, ◌<◌, ◌≤◌, nat_le, length, ◌&&◌, ℕ, IfOk, IfErr, OnErr};
 ghost use Rattle.sms_field.specs.Coding.{alphabet_at};
-ghost use Rattle.sms_join.specs.declared.units.Units.{Units as Pieces};
+ghost use Rattle.sms_join.specs.declared.units.Units.{Units as TheUnits};
 ghost use Rattle.sms_join.specs.Piece.{piece_of};
 ghost use Rattle.sms_tpdu.specs.UserData.ConcatenationFound.{IsPlace, concat_of_header};
 ghost use Rattle.sms_join.specs.Finishing.{would_finish};
@@ -221,7 +221,7 @@ impl Receiver {
     /// Whether the store is full, and such a message or segment would finish its set.
     fn is_full_for(&self, origin: &Address, stamp: Stamp, concat: Option<Concat>) -> bool
         requires { IsPlace concat }
-        ensures { (now : ℕ) (units : Pieces)
+        ensures { (now : ℕ) (units : TheUnits)
             → result ≡ (nat_le self.now.limit (length self.now.store)
             && would_finish self.now.joiner.holds (piece_of now origin.now stamp concat units)) }
     {

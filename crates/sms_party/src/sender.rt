@@ -105,7 +105,7 @@ fn following(tag: Tag) -> Tag
     }
 }
 
-/// The concatenation reference after a text of so many segments.
+/// The concatenation reference after a text of `size` segments.
 fn next_set(width: Width, size: usize, reference: u16) -> u16
     ensures { result ≡ next_set width size reference }
 {

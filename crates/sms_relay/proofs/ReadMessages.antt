@@ -7,7 +7,7 @@ use Rattle.sms_field.specs.Field.{octet, octet_by, octets_of}
 use Rattle.sms_field.specs.Optional.{tagged}
 use Rattle.sms_field.specs.ReadAddressLaws.{has_octet, has_up_to, has_relay_address}
 use Rattle.sms_field.specs.ReadValues.{Has, Any}
-use Rattle.sms_field.specs.ReadValueLaws.{has_join, has_mapped}
+use Rattle.sms_field.specs.ReadValueLaws.{has_chain, has_mapped}
 use Rattle.sms_field.specs.RelayAddressValue.{HasOptionalSpelling}
 use Rattle.sms_relay.specs.Transaction.{transaction}
 use Rattle.sms_relay.specs.CpValue.{IsCpBody, IsCpMessage}
@@ -53,25 +53,25 @@ has_counted short n v octets rest are r = (r.1, subst IsOctets r.0 are)
 has_cp_body : (k : CpKind) → Has IsCpBody (cp_body k)
 unfolding cp_body
 has_cp_body connection.Data =
-    has_join (λ octet. octet < 256) IsCpBody _ _ (has_octet Short) (λ count small.
-    has_join (AreCounted count) IsCpBody _ _ (has_counted Short count) (λ octets h.
+    has_chain (λ octet. octet < 256) IsCpBody _ _ (has_octet Short) (λ count small.
+    has_chain (AreCounted count) IsCpBody _ _ (has_counted Short count) (λ octets h.
     λ v others rest are r. subst IsCpBody (sym r.0) (omega (arith, small, h.0), h.1)))
 has_cp_body connection.Ack = λ v octets rest are r. subst IsCpBody (sym r.0) tt
-has_cp_body connection.Error = has_join (λ octet. octet < 256) IsCpBody _ _ (has_octet Short) (λ cause small. λ v octets rest are r. subst IsCpBody (sym r.0) small)
+has_cp_body connection.Error = has_chain (λ octet. octet < 256) IsCpBody _ _ (has_octet Short) (λ cause small. λ v octets rest are r. subst IsCpBody (sym r.0) small)
 
 pub has_cp : Has IsCpMessage cp_message
 unfolding cp_message
 has_cp =
-    has_join IsTransaction IsCpMessage _ _ has_transaction (λ named small.
-    has_join Any IsCpMessage _ _ (λ v octets rest are r. tt) (λ k _.
-    has_join IsCpBody IsCpMessage _ _ (has_cp_body k) (λ content fits.
+    has_chain IsTransaction IsCpMessage _ _ has_transaction (λ named small.
+    has_chain Any IsCpMessage _ _ (λ v octets rest are r. tt) (λ k _.
+    has_chain IsCpBody IsCpMessage _ _ (has_cp_body k) (λ content fits.
     λ v octets rest are r. subst IsCpMessage (sym r.0) (record { value = small; body = fits }))))
 
 -- ---- the relay
 
 has_user : Has IsUserData user_data
 unfolding user_data
-has_user = has_join (λ count. count ≤ 233) IsUserData _ _ (has_up_to Short 233 DataTooLong) (λ count few. λ v octets rest are r. (subst (λ (n : ℕ). n ≤ 233) (sym r.1) few, subst IsOctets r.0 are))
+has_user = has_chain (λ count. count ≤ 233) IsUserData _ _ (has_up_to Short 233 DataTooLong) (λ count few. λ v octets rest are r. (subst (λ (n : ℕ). n ≤ 233) (sym r.1) few, subst IsOctets r.0 are))
 
 optional_by : (o : Option (List ℕ)) (octets rest : List ℕ) → IsOctets octets → (tagged user_data_tag user_data).reads o octets rest → IsOptionalUserData o
 optional_by None octets rest are r = tt
@@ -83,18 +83,18 @@ has_optional = optional_by
 has_data : (side : Side) → Has IsRpBody (rp_data side)
 unfolding rp_data
 has_data FromPhone =
-    has_join Any IsRpBody _ _ (λ v octets rest are r. tt) (λ originator _.
-    has_join HasOptionalSpelling IsRpBody _ _ has_relay_address (λ destination spelled.
-    has_join IsUserData IsRpBody _ _ has_user (λ user fits. λ v octets rest are r. subst IsRpBody (sym r.0) (spelled, fits))))
+    has_chain Any IsRpBody _ _ (λ v octets rest are r. tt) (λ originator _.
+    has_chain HasOptionalSpelling IsRpBody _ _ has_relay_address (λ destination spelled.
+    has_chain IsUserData IsRpBody _ _ has_user (λ user fits. λ v octets rest are r. subst IsRpBody (sym r.0) (spelled, fits))))
 has_data ToPhone =
-    has_join HasOptionalSpelling IsRpBody _ _ has_relay_address (λ originator spelled.
-    has_join Any IsRpBody _ _ (λ v octets rest are r. tt) (λ destination _.
-    has_join IsUserData IsRpBody _ _ has_user (λ user fits. λ v octets rest are r. subst IsRpBody (sym r.0) (spelled, fits))))
+    has_chain HasOptionalSpelling IsRpBody _ _ has_relay_address (λ originator spelled.
+    has_chain Any IsRpBody _ _ (λ v octets rest are r. tt) (λ destination _.
+    has_chain IsUserData IsRpBody _ _ has_user (λ user fits. λ v octets rest are r. subst IsRpBody (sym r.0) (spelled, fits))))
 
 has_added : (more : Bool) → Has IsDiagnostic (diagnostic more)
 unfolding diagnostic
 has_added false = λ v octets rest are r. subst IsDiagnostic (sym r.0) tt
-has_added true = has_join (λ octet. octet < 256) IsDiagnostic _ _ (has_octet Short) (λ octet small. λ v octets rest are r. subst IsDiagnostic (sym r.0) small)
+has_added true = has_chain (λ octet. octet < 256) IsDiagnostic _ _ (has_octet Short) (λ octet small. λ v octets rest are r. subst IsDiagnostic (sym r.0) small)
 
 abbrev IsReason : ℕ × Option ℕ → Type 0
 IsReason reason = IsCause reason.0 reason.1
@@ -102,19 +102,19 @@ IsReason reason = IsCause reason.0 reason.1
 has_cause : Has IsReason rp_cause
 unfolding rp_cause
 has_cause =
-    has_join Any IsReason _ _ (λ v octets rest are r. tt) (λ more _.
-    has_join Any IsReason _ _ (λ v octets rest are r. tt) (λ cause _.
-    has_join IsDiagnostic IsReason _ _ (has_added more) (λ added h. λ v octets rest are r. subst IsReason (sym r.0) (omega arith, h))))
+    has_chain Any IsReason _ _ (λ v octets rest are r. tt) (λ more _.
+    has_chain Any IsReason _ _ (λ v octets rest are r. tt) (λ cause _.
+    has_chain IsDiagnostic IsReason _ _ (has_added more) (λ added h. λ v octets rest are r. subst IsReason (sym r.0) (omega arith, h))))
 
 has_body : (k : RpKind) (side : Side) → Has IsRpBody (rp_body k side)
 unfolding rp_body rp_error
 has_body kind.Data side = has_data side
 has_body kind.Ack side = has_mapped IsOptionalUserData IsRpBody rp.Ack (tagged user_data_tag user_data) has_optional (λ v h. h)
-has_body kind.Error side = has_join IsReason IsRpBody _ _ has_cause (λ reason h. has_mapped IsOptionalUserData IsRpBody (rp.Fail reason.0 reason.1) (tagged user_data_tag user_data) has_optional (λ v k. (h, k)))
+has_body kind.Error side = has_chain IsReason IsRpBody _ _ has_cause (λ reason h. has_mapped IsOptionalUserData IsRpBody (rp.Fail reason.0 reason.1) (tagged user_data_tag user_data) has_optional (λ v k. (h, k)))
 
 pub has_rp : Has IsRpMessage rp_message
 unfolding rp_message
 has_rp =
-    has_join Any IsRpMessage _ _ (λ v octets rest are r. tt) (λ named _.
-    has_join (λ octet. octet < 256) IsRpMessage _ _ (has_octet Short) (λ reference small.
+    has_chain Any IsRpMessage _ _ (λ v octets rest are r. tt) (λ named _.
+    has_chain (λ octet. octet < 256) IsRpMessage _ _ (has_octet Short) (λ reference small.
     has_mapped IsRpBody IsRpMessage (rp_value named.side reference) (rp_body named.kind named.side) (has_body named.kind named.side) (λ v h. record { reference = small; body = h })))

@@ -4,8 +4,8 @@ use Rattle.std.proofs.lemmas.Bool.{ne_eqb}
 use Rattle.sms_text.specs.Octets.{IsOctets}
 use Rattle.sms_field.specs.Bit.{bit}
 use Rattle.sms_field.specs.Field.{octet, IsLawful}
-use Rattle.sms_field.specs.JoinedReading.{joined, ended}
-use Rattle.sms_field.specs.JoinLaws.{join_lawful, join_self_contained}
+use Rattle.sms_field.specs.ChainReading.{chained, ended}
+use Rattle.sms_field.specs.ChainLaws.{chain_lawful, chain_self_contained}
 use Rattle.sms_field.specs.SingleLaws.{always_self, always_lawful, octet_self, octet_lawful, octet_by_self, octet_by_lawful, octets_of_self, octets_of_lawful}
 use Rattle.sms_tpdu.specs.UnitLaws.{AreUnitLaws, laws_by}
 use Rattle.sms_relay.specs.Transaction.{transaction, transaction_octet}
@@ -40,22 +40,22 @@ kind_apart o e = kind_apart_by (o == 1) (o == 4) (o == 16) e
 
 cp_body_self : (k : CpKind) → IsSelfContained (cp_body k)
 unfolding cp_body
-cp_body_self kind.Data = join_self_contained _ _ (octet_self Short) (λ count. join_self_contained _ _ (octets_of_self Short count) (λ octets. always_self RelayFault _))
+cp_body_self kind.Data = chain_self_contained _ _ (octet_self Short) (λ count. chain_self_contained _ _ (octets_of_self Short count) (λ octets. always_self RelayFault _))
 cp_body_self kind.Ack = always_self RelayFault _
-cp_body_self kind.Error = join_self_contained _ _ (octet_self Short) (λ cause. always_self RelayFault _)
+cp_body_self kind.Error = chain_self_contained _ _ (octet_self Short) (λ cause. always_self RelayFault _)
 
 cp_body_lawful : (k : CpKind) → IsLawful Short (cp_body k)
 unfolding cp_body
-cp_body_lawful kind.Data = join_lawful _ _ Short (octet_self Short) (octet_lawful Short) (λ count _ _ _. join_lawful _ _ Short (octets_of_self Short count) (octets_of_lawful Short count) (λ octets _ _ _. always_lawful Short _))
+cp_body_lawful kind.Data = chain_lawful _ _ Short (octet_self Short) (octet_lawful Short) (λ count _ _ _. chain_lawful _ _ Short (octets_of_self Short count) (octets_of_lawful Short count) (λ octets _ _ _. always_lawful Short _))
 cp_body_lawful kind.Ack = always_lawful Short _
-cp_body_lawful kind.Error = join_lawful _ _ Short (octet_self Short) (octet_lawful Short) (λ cause _ _ _. always_lawful Short _)
+cp_body_lawful kind.Error = chain_lawful _ _ Short (octet_self Short) (octet_lawful Short) (λ cause _ _ _. always_lawful Short _)
 
 cp_lawful : IsLawful Short cp_message
 unfolding cp_message
 cp_lawful =
-    join_lawful _ _ Short (octet_by_self Short transaction) (octet_by_lawful Short transaction (9, lit< tt, _, refl) transaction_apart) (λ named _ _ _.
-    join_lawful _ _ Short (octet_by_self Short cp_kind) (octet_by_lawful Short cp_kind (1, lit< tt, _, refl) kind_apart) (λ k _ _ _.
-    join_lawful _ _ Short (cp_body_self k) (cp_body_lawful k) (λ content _ _ _.
+    chain_lawful _ _ Short (octet_by_self Short transaction) (octet_by_lawful Short transaction (9, lit< tt, _, refl) transaction_apart) (λ named _ _ _.
+    chain_lawful _ _ Short (octet_by_self Short cp_kind) (octet_by_lawful Short cp_kind (1, lit< tt, _, refl) kind_apart) (λ k _ _ _.
+    chain_lawful _ _ Short (cp_body_self k) (cp_body_lawful k) (λ content _ _ _.
     always_lawful Short _)))
 
 -- ---- what is written
@@ -86,7 +86,7 @@ kind_again kind.Error = refl
 cp_body_again : (b : CpBody) (rest : List ℕ) → IsCpBody b → (cp_body (kind_of b)).reads b (cp_body_octets b) rest
 unfolding cp_body
 cp_body_again (body.Transfer octets) rest fits =
-    joined _ _ (length octets) (body.Transfer octets) (length octets ∷ []) octets rest refl (
+    chained _ _ (length octets) (body.Transfer octets) (length octets ∷ []) octets rest refl (
     ended _ _ octets (body.Transfer octets) octets rest (refl, refl)
     (refl, refl))
 cp_body_again body.Ack rest fits = (refl, refl)
@@ -97,8 +97,8 @@ unfolding cp_message
 cp_again m rest fits =
     let t : Transaction = record { flag = m.flag; value = m.value } in
     let k = kind_of m.body in
-    joined _ _ t m (transaction_octet t ∷ []) _ rest (transaction_octet t, refl, (transaction_again m.flag m.value fits.value).again) (
-    joined _ _ k m (kind_octet k ∷ []) _ rest (kind_octet k, refl, kind_again k) (
+    chained _ _ t m (transaction_octet t ∷ []) _ rest (transaction_octet t, refl, (transaction_again m.flag m.value fits.value).again) (
+    chained _ _ k m (kind_octet k ∷ []) _ rest (kind_octet k, refl, kind_again k) (
     ended _ _ m.body m (cp_body_octets m.body) rest (cp_body_again m.body rest fits.body)
     (refl, refl)))
 

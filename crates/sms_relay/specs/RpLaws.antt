@@ -6,8 +6,8 @@ use Rattle.sms_field.specs.Bit.{bit}
 use Rattle.sms_field.specs.Field.{octet_by, map_reason, up_to, IsLawful, IsSelfContained}
 use Rattle.sms_field.specs.OptionalLaws.{tagged_lawful}
 use Rattle.sms_field.specs.OctetLists.{octets-append}
-use Rattle.sms_field.specs.JoinedReading.{joined, ended}
-use Rattle.sms_field.specs.JoinLaws.{join_lawful, join_self_contained}
+use Rattle.sms_field.specs.ChainReading.{chained, ended}
+use Rattle.sms_field.specs.ChainLaws.{chain_lawful, chain_self_contained}
 use Rattle.sms_field.specs.SingleLaws.{always_self, always_lawful, octet_self, octet_lawful, octet_by_self, octet_by_lawful, octets_of_self, octets_of_lawful, map_reason_lawful, apart_else}
 use Rattle.sms_field.specs.RelayAddressValue.{RelayAddressValue, HasOptionalSpelling}
 use Rattle.sms_field.specs.RelayAddress.{relay_address, optional_address_octets}
@@ -36,12 +36,12 @@ use Rattle.sms_relay.specs.declared.fault.RelayFault.TheVariants.{Short, BadAddr
 
 user_data_self : IsSelfContained user_data
 unfolding user_data
-user_data_self = join_self_contained _ _ (octet_by_self Short (up_to 233 DataTooLong)) (λ count. octets_of_self Short count)
+user_data_self = chain_self_contained _ _ (octet_by_self Short (up_to 233 DataTooLong)) (λ count. octets_of_self Short count)
 
 user_data_lawful : IsLawful Short user_data
 unfolding user_data
 user_data_lawful =
-    join_lawful _ _ Short (octet_by_self Short (up_to 233 DataTooLong)) (octet_by_lawful Short (up_to 233 DataTooLong) (0, lit< tt, 0, refl) (λ o. apart_else Short (leb o 233) o DataTooLong (λ e. cc))) (λ count _ _ _.
+    chain_lawful _ _ Short (octet_by_self Short (up_to 233 DataTooLong)) (octet_by_lawful Short (up_to 233 DataTooLong) (0, lit< tt, 0, refl) (λ o. apart_else Short (leb o 233) o DataTooLong (λ e. cc))) (λ count _ _ _.
     octets_of_lawful Short count)
 
 optional_lawful : IsLawful Short optional_user_data
@@ -52,7 +52,7 @@ few_octets n h = rw (le-leb n 233 h) refl
 
 user_data_again : (user rest : List ℕ) → IsUserData user → user_data.reads user (user_octets user) rest
 unfolding user_data
-user_data_again user rest fits = joined _ _ (length user) user (length user ∷ []) user rest (length user, refl, few_octets (length user) fits.0) (refl, refl)
+user_data_again user rest fits = chained _ _ (length user) user (length user ∷ []) user rest (length user, refl, few_octets (length user) fits.0) (refl, refl)
 
 optional_again : (user : Option (List ℕ)) (rest : List ℕ) → IsOptionalUserData user → LacksUserData user rest → optional_user_data.reads user (optional_user_octets user) rest
 optional_again None rest fits follows = (refl, follows)
@@ -78,26 +78,26 @@ cause_apart o e = cause_apart_by (o == 1) (o == 2) e
 diagnostic_self : (more : Bool) → IsSelfContained (diagnostic more)
 unfolding diagnostic
 diagnostic_self false = always_self RelayFault _
-diagnostic_self true = join_self_contained _ _ (octet_self Short) (λ o. always_self RelayFault _)
+diagnostic_self true = chain_self_contained _ _ (octet_self Short) (λ o. always_self RelayFault _)
 
 diagnostic_lawful : (more : Bool) → IsLawful Short (diagnostic more)
 unfolding diagnostic
 diagnostic_lawful false = always_lawful Short _
-diagnostic_lawful true = join_lawful _ _ Short (octet_self Short) (octet_lawful Short) (λ o _ _ _. always_lawful Short _)
+diagnostic_lawful true = chain_lawful _ _ Short (octet_self Short) (octet_lawful Short) (λ o _ _ _. always_lawful Short _)
 
 cause_self : IsSelfContained rp_cause
 unfolding rp_cause
 cause_self =
-    join_self_contained _ _ (octet_by_self Short has_diagnostic) (λ more.
-    join_self_contained _ _ (octet_self Short) (λ cause.
-    join_self_contained _ _ (diagnostic_self more) (λ added. always_self RelayFault _)))
+    chain_self_contained _ _ (octet_by_self Short has_diagnostic) (λ more.
+    chain_self_contained _ _ (octet_self Short) (λ cause.
+    chain_self_contained _ _ (diagnostic_self more) (λ added. always_self RelayFault _)))
 
 cause_lawful : IsLawful Short rp_cause
 unfolding rp_cause
 cause_lawful =
-    join_lawful _ _ Short (octet_by_self Short has_diagnostic) (octet_by_lawful Short has_diagnostic (1, lit< tt, _, refl) cause_apart) (λ more _ _ _.
-    join_lawful _ _ Short (octet_self Short) (octet_lawful Short) (λ cause _ _ _.
-    join_lawful _ _ Short (diagnostic_self more) (diagnostic_lawful more) (λ added _ _ _. always_lawful Short _)))
+    chain_lawful _ _ Short (octet_by_self Short has_diagnostic) (octet_by_lawful Short has_diagnostic (1, lit< tt, _, refl) cause_apart) (λ more _ _ _.
+    chain_lawful _ _ Short (octet_self Short) (octet_lawful Short) (λ cause _ _ _.
+    chain_lawful _ _ Short (diagnostic_self more) (diagnostic_lawful more) (λ added _ _ _. always_lawful Short _)))
 
 cause_is : (cause : ℕ) → cause < 128 → cause ≡ cause % 128
 cause_is cause fits = omega arith
@@ -106,14 +106,14 @@ cause_again : (cause : ℕ) (added : Option ℕ) (rest : List ℕ) → IsCause c
 unfolding rp_cause diagnostic
 cause_again cause None rest fits =
     let value : ℕ × Option ℕ = (cause, None) in
-    joined _ _ false value (1 ∷ []) (cause ∷ []) rest (1, refl, refl) (
+    chained _ _ false value (1 ∷ []) (cause ∷ []) rest (1, refl, refl) (
     ended _ _ cause value (cause ∷ []) rest refl (
     ended _ _ None value [] rest (refl, refl)
     (ap (λ (n : ℕ). let p : ℕ × Option ℕ = (n, None) in p) (cause_is cause fits.0), refl)))
 cause_again cause (Some added) rest fits =
     let value : ℕ × Option ℕ = (cause, Some added) in
-    joined _ _ true value (2 ∷ []) (cause ∷ added ∷ []) rest (2, refl, refl) (
-    joined _ _ cause value (cause ∷ []) (added ∷ []) rest refl (
+    chained _ _ true value (2 ∷ []) (cause ∷ added ∷ []) rest (2, refl, refl) (
+    chained _ _ cause value (cause ∷ []) (added ∷ []) rest refl (
     ended _ _ (Some added) value (added ∷ []) rest (ended _ _ added (Some added) (added ∷ []) rest refl (refl, refl))
     (ap (λ (n : ℕ). let p : ℕ × Option ℕ = (n, Some added) in p) (cause_is cause fits.0), refl)))
 
@@ -144,19 +144,19 @@ address_lawful = map_reason_lawful fields.Short relay_fault fault_apart relay_ad
 rp_data_lawful : (side : Side) → IsLawful Short (rp_data side)
 unfolding rp_data
 rp_data_lawful FromPhone =
-    join_lawful _ _ Short (octet_by_self Short (up_to 0 BadAddress)) absent_lawful (λ originator _ _ _.
-    join_lawful _ _ Short relay_address_self address_lawful (λ destination _ _ _.
-    join_lawful _ _ Short user_data_self user_data_lawful (λ user _ _ _.
+    chain_lawful _ _ Short (octet_by_self Short (up_to 0 BadAddress)) absent_lawful (λ originator _ _ _.
+    chain_lawful _ _ Short relay_address_self address_lawful (λ destination _ _ _.
+    chain_lawful _ _ Short user_data_self user_data_lawful (λ user _ _ _.
     always_lawful Short _)))
 rp_data_lawful ToPhone =
-    join_lawful _ _ Short relay_address_self address_lawful (λ originator _ _ _.
-    join_lawful _ _ Short (octet_by_self Short (up_to 0 BadAddress)) absent_lawful (λ destination _ _ _.
-    join_lawful _ _ Short user_data_self user_data_lawful (λ user _ _ _.
+    chain_lawful _ _ Short relay_address_self address_lawful (λ originator _ _ _.
+    chain_lawful _ _ Short (octet_by_self Short (up_to 0 BadAddress)) absent_lawful (λ destination _ _ _.
+    chain_lawful _ _ Short user_data_self user_data_lawful (λ user _ _ _.
     always_lawful Short _)))
 
 rp_error_lawful : IsLawful Short rp_error
 unfolding rp_error
-rp_error_lawful = join_lawful _ _ Short cause_self cause_lawful (λ reason _ _ _. mapped_lawful Short _ optional_user_data optional_lawful)
+rp_error_lawful = chain_lawful _ _ Short cause_self cause_lawful (λ reason _ _ _. mapped_lawful Short _ optional_user_data optional_lawful)
 
 rp_body_lawful : (k : RpKind) (side : Side) → IsLawful Short (rp_body k side)
 unfolding rp_body
@@ -167,8 +167,8 @@ rp_body_lawful kind.Error side = rp_error_lawful
 rp_lawful : IsLawful Short rp_message
 unfolding rp_message
 rp_lawful =
-    join_lawful _ _ Short (octet_by_self Short rp_type) (octet_by_lawful Short rp_type (0, lit< tt, _, refl) type_apart) (λ named _ _ _.
-    join_lawful _ _ Short (octet_self Short) (octet_lawful Short) (λ reference _ _ _.
+    chain_lawful _ _ Short (octet_by_self Short rp_type) (octet_by_lawful Short rp_type (0, lit< tt, _, refl) type_apart) (λ named _ _ _.
+    chain_lawful _ _ Short (octet_self Short) (octet_lawful Short) (λ reference _ _ _.
     mapped_lawful Short _ (rp_body named.kind named.side) (rp_body_lawful named.kind named.side)))
 
 -- ---- what is written
@@ -188,19 +188,19 @@ type_again kind.Error ToPhone = record { again = refl; small = lit< tt }
 data_again : (side : Side) (address : Option RelayAddressValue) (user rest : List ℕ) → HasOptionalSpelling address → IsUserData user → (rp_data side).reads (body.Transfer address user) (rp_data_octets side (optional_address_octets address) (user_octets user)) rest
 unfolding rp_data
 data_again FromPhone address user rest fits few =
-    joined _ _ 0 (body.Transfer address user) (0 ∷ []) _ rest (0, refl, refl) (
-    joined _ _ address (body.Transfer address user) (optional_address_octets address) _ rest (relay_address_again address _ fits) (
+    chained _ _ 0 (body.Transfer address user) (0 ∷ []) _ rest (0, refl, refl) (
+    chained _ _ address (body.Transfer address user) (optional_address_octets address) _ rest (relay_address_again address _ fits) (
     ended _ _ user (body.Transfer address user) (user_octets user) rest (user_data_again user rest few)
     (refl, refl)))
 data_again ToPhone address user rest fits few =
-    joined _ _ address (body.Transfer address user) (optional_address_octets address) _ rest (relay_address_again address _ fits) (
-    joined _ _ 0 (body.Transfer address user) (0 ∷ []) _ rest (0, refl, refl) (
+    chained _ _ address (body.Transfer address user) (optional_address_octets address) _ rest (relay_address_again address _ fits) (
+    chained _ _ 0 (body.Transfer address user) (0 ∷ []) _ rest (0, refl, refl) (
     ended _ _ user (body.Transfer address user) (user_octets user) rest (user_data_again user rest few)
     (refl, refl)))
 
 error_again : (cause : ℕ) (added : Option ℕ) (user : Option (List ℕ)) (rest : List ℕ) → IsCause cause added → IsOptionalUserData user → LacksUserData user rest → rp_error.reads (body.Fail cause added user) (cause_octets cause added ++ optional_user_octets user) rest
 unfolding rp_error
-error_again cause added user rest fits few follows = joined _ _ (cause, added) (body.Fail cause added user) (cause_octets cause added) _ rest (cause_again cause added _ fits) (user, optional_again user rest few follows, refl)
+error_again cause added user rest fits few follows = chained _ _ (cause, added) (body.Fail cause added user) (cause_octets cause added) _ rest (cause_again cause added _ fits) (user, optional_again user rest few follows, refl)
 
 rp_body_again : (side : Side) (b : RpBody) (rest : List ℕ) → IsRpBody b → MayFollowBody b rest → (rp_body (kind_of b) side).reads b (rp_body_octets side b) rest
 unfolding rp_body
@@ -212,8 +212,8 @@ rp_again : (m : RpValue) (rest : List ℕ) → IsRpMessage m → MayFollow m res
 unfolding rp_message
 rp_again m rest fits follows =
     let t : RpType = record { kind = kind_of m.body; side = m.side } in
-    joined _ _ t m (type_octet t ∷ []) _ rest (type_octet t, refl, (type_again (kind_of m.body) m.side).again) (
-    joined _ _ m.reference m (m.reference ∷ []) _ rest refl
+    chained _ _ t m (type_octet t ∷ []) _ rest (type_octet t, refl, (type_again (kind_of m.body) m.side).again) (
+    chained _ _ m.reference m (m.reference ∷ []) _ rest refl
     (m.body, rp_body_again m.side m.body rest fits.body follows, refl))
 
 data_are_octets : (side : Side) (address user : List ℕ) → IsOctets address → IsOctets user → IsOctets (rp_data_octets side address user)

@@ -3,7 +3,7 @@ use Rattle.std.proofs.Common.{◌≡◌, ℕ, Bool, true, false, cond, List, ◌
 use Rattle.sms_field.specs.Field.{octet_by, up_to}
 use Rattle.sms_field.specs.ReadableLaws.{unread}
 use Rattle.sms_field.specs.Reasons.{Never}
-use Rattle.sms_field.specs.ReasonLaws.{never_join, never_by, never_map_reason, never_tagged, up_to_apart, starts_as, no_other, starts_apart}
+use Rattle.sms_field.specs.ReasonLaws.{never_chain, never_by, never_map_reason, never_tagged, up_to_apart, starts_as, no_other, starts_apart}
 use Rattle.sms_field.specs.RelayAddress.{relay_address}
 use Rattle.sms_field.specs.declared.fault.FieldFault.{FieldFault}
 use Rattle.sms_field.specs.declared.fault.FieldFault.TheVariants as fields
@@ -32,12 +32,12 @@ never_none = never_by _ Short _ (λ o e. up_to_apart BadAddress UnknownType 0 o 
 
 never_user : Never UnknownType user_data
 unfolding user_data
-never_user = never_join _ _ _ (never_by _ Short _ (λ o e. up_to_apart DataTooLong UnknownType 233 o (λ s. cc) e)) (λ count. λ f o h. h)
+never_user = never_chain _ _ _ (never_by _ Short _ (λ o e. up_to_apart DataTooLong UnknownType 233 o (λ s. cc) e)) (λ count. λ f o h. h)
 
 never_data : (side : Side) → Never UnknownType (rp_data side)
 unfolding rp_data
-never_data FromPhone = never_join _ _ _ never_none (λ a. never_join _ _ _ (never_map_reason _ relay_fault relay_address field_apart) (λ b. never_join _ _ _ never_user (λ u. λ f o h. h)))
-never_data ToPhone = never_join _ _ _ (never_map_reason _ relay_fault relay_address field_apart) (λ a. never_join _ _ _ never_none (λ b. never_join _ _ _ never_user (λ u. λ f o h. h)))
+never_data FromPhone = never_chain _ _ _ never_none (λ a. never_chain _ _ _ (never_map_reason _ relay_fault relay_address field_apart) (λ b. never_chain _ _ _ never_user (λ u. λ f o h. h)))
+never_data ToPhone = never_chain _ _ _ (never_map_reason _ relay_fault relay_address field_apart) (λ a. never_chain _ _ _ never_none (λ b. never_chain _ _ _ never_user (λ u. λ f o h. h)))
 
 cause_apart : (a b : Bool) → cond a (Ok false) (cond b (Ok true) (Err BadCause)) ≡ Err UnknownType → ⊥
 cause_apart true b e = cc
@@ -47,22 +47,22 @@ cause_apart false false e = cc
 never_diagnostic : (more : Bool) → Never UnknownType (diagnostic more)
 unfolding diagnostic
 never_diagnostic false = λ f o h. h
-never_diagnostic true = never_join _ _ _ (λ f o h. h) (λ o. λ f o h. h)
+never_diagnostic true = never_chain _ _ _ (λ f o h. h) (λ o. λ f o h. h)
 
 never_cause : Never UnknownType rp_cause
 unfolding rp_cause
-never_cause = never_join _ _ _ (never_by _ Short has_diagnostic (λ o e. cause_apart _ _ e)) (λ more. never_join _ _ _ (λ f o h. h) (λ cause. never_join _ _ _ (never_diagnostic more) (λ added. λ f o h. h)))
+never_cause = never_chain _ _ _ (never_by _ Short has_diagnostic (λ o e. cause_apart _ _ e)) (λ more. never_chain _ _ _ (λ f o h. h) (λ cause. never_chain _ _ _ (never_diagnostic more) (λ added. λ f o h. h)))
 
 never_body : (k : RpKind) (side : Side) → Never UnknownType (rp_body k side)
 unfolding rp_body rp_error
 never_body kind.Data side = never_data side
 never_body kind.Ack side = never_tagged UnknownType user_data_tag user_data never_user
-never_body kind.Error side = never_join _ _ _ never_cause (λ reason. never_tagged UnknownType user_data_tag user_data never_user)
+never_body kind.Error side = never_chain _ _ _ never_cause (λ reason. never_tagged UnknownType user_data_tag user_data never_user)
 
 pub tells_unknown_types : TellsUnknownTypes
 unfolding rp_message
 tells_unknown_types = record {
-  unknown = λ octets place h. starts_as Short UnknownType rp_type _ octets place (λ e. cc) (λ named. never_join _ _ _ (λ f o h. h) (λ reference. never_body named.kind named.side)) h;
+  unknown = λ octets place h. starts_as Short UnknownType rp_type _ octets place (λ e. cc) (λ named. never_chain _ _ _ (λ f o h. h) (λ reference. never_body named.kind named.side)) h;
   bad = λ octets place why are n h. (unread _ _ Short octets place why are h, no_other Short UnknownType why rp_type _ octets place n h);
   unread = λ octets s. starts_apart Short UnknownType rp_type _ octets s;
 }

@@ -1,5 +1,5 @@
 -- The transcript of a script: what its events answered and put out, and what stands at the phones in the end.
-pub mod Joined
+pub mod Appended
 pub mod Escapes
 pub mod Lines
 pub mod Shown

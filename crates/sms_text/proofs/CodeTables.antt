@@ -102,18 +102,18 @@ code_is c small = agree (code_or_none (get_or codes c 0)) (code_of main c) (each
 
 abbrev high : List (ℕ × ℕ) → List (ℕ × ℕ)
 high [] = []
-high (sign ∷ others) = cond (ltb sign.1 256) (high others) (sign ∷ high others)
+high (entry ∷ others) = cond (ltb entry.1 256) (high others) (entry ∷ high others)
 
-high_one : (sign : ℕ × ℕ) (others : List (ℕ × ℕ)) (c : ℕ) (b : Bool) → ltb sign.1 256 ≡ b → 256 ≤ c → code_of others c ≡ code_of (high others) c → code_of (sign ∷ others) c ≡ code_of (cond b (high others) (sign ∷ high others)) c
+high_one : (entry : ℕ × ℕ) (others : List (ℕ × ℕ)) (c : ℕ) (b : Bool) → ltb entry.1 256 ≡ b → 256 ≤ c → code_of others c ≡ code_of (high others) c → code_of (entry ∷ others) c ≡ code_of (cond b (high others) (entry ∷ high others)) c
 unfolding code_of
-high_one sign others c true low big rest =
-    let other : (sign.1 == c) ≡ false = ne_eqb sign.1 c (λ same_one. omega (arith, ltb-true sign.1 256 low, same_one)) in
+high_one entry others c true low big rest =
+    let other : (entry.1 == c) ≡ false = ne_eqb entry.1 c (λ same_one. omega (arith, ltb-true entry.1 256 low, same_one)) in
     rw other rest
-high_one sign others c false low big rest = ap (cond (sign.1 == c) (Some sign.0)) rest
+high_one entry others c false low big rest = ap (cond (entry.1 == c) (Some entry.0)) rest
 
 high_enough : (table : List (ℕ × ℕ)) (c : ℕ) → 256 ≤ c → code_of table c ≡ code_of (high table) c
 high_enough [] c big = refl
-high_enough (sign ∷ others) c big = high_one sign others c (ltb sign.1 256) refl big (high_enough others c big)
+high_enough (entry ∷ others) c big = high_one entry others c (ltb entry.1 256) refl big (high_enough others c big)
 
 pub greek_is : (c : ℕ) → 256 ≤ c → code_of greek c ≡ code_of main c
 greek_is c big = sym (high_enough main c big)

@@ -8,7 +8,7 @@ use Rattle.std.specs.Str.{chars, IsUtf8, IsCharBoundary}
 use Rattle.sms_text.specs.Bits.{AreSeptets}
 use Rattle.sms_text.specs.Same.{AreSame}
 use Rattle.sms_text.specs.Tables.{main, extension, escape, space, code_of, character_of}
-use Rattle.sms_text.specs.SeptetsOfText.{code_or_escaped, septets_of_character, septets_of_text, joined}
+use Rattle.sms_text.specs.SeptetsOfText.{code_or_escaped, septets_of_character, septets_of_text, appended}
 use Rattle.sms_text.specs.TextOfSeptets.{plain_character, escaped_character, text_of_septets}
 use Rattle.sms_text.specs.FrontLaws.{text_from_plain}
 use Rattle.sms_text.proofs.CodeTables.{each_passes}
@@ -81,25 +81,25 @@ whole_text items septets are e =
 
 -- ---- text to septets
 
-joined_assoc : (a b c : Option (List ℕ)) → joined (joined a b) c ≡ joined a (joined b c)
-joined_assoc (Some x) (Some y) (Some z) = ap (λ (l : List ℕ). let r : Option (List ℕ) = Some l in r) (append_assoc x y z)
-joined_assoc (Some x) (Some y) None = refl
-joined_assoc (Some x) None c = refl
-joined_assoc None b c = refl
+appended_assoc : (a b c : Option (List ℕ)) → appended (appended a b) c ≡ appended a (appended b c)
+appended_assoc (Some x) (Some y) (Some z) = ap (λ (l : List ℕ). let r : Option (List ℕ) = Some l in r) (append_assoc x y z)
+appended_assoc (Some x) (Some y) None = refl
+appended_assoc (Some x) None c = refl
+appended_assoc None b c = refl
 
-joined_none : (r : Option (List ℕ)) → r ≡ joined (Some []) r
-joined_none None = refl
-joined_none (Some l) = refl
+appended_none : (r : Option (List ℕ)) → r ≡ appended (Some []) r
+appended_none None = refl
+appended_none (Some l) = refl
 
 some_pair : (m e : Option ℕ) (c : ℕ) → m ≡ Some c → code_or_escaped m e ≡ Some (c ∷ [])
 some_pair None e c is = absurd cc
 some_pair (Some n) e c is = ap (λ (o : Option ℕ). code_or_escaped o e) is
 
-same_septets : (front cs : List ℕ) → AreSame front → septets_of_text (front ++ cs) ≡ joined (Some front) (septets_of_text cs)
+same_septets : (front cs : List ℕ) → AreSame front → septets_of_text (front ++ cs) ≡ appended (Some front) (septets_of_text cs)
 unfolding septets_of_text septets_of_character
-same_septets [] cs are = joined_none (septets_of_text cs)
+same_septets [] cs are = appended_none (septets_of_text cs)
 same_septets (c ∷ front) cs are =
-    ap (λ (o : Option (List ℕ)). joined o (septets_of_text (front ++ cs))) (some_pair (code_of main c) (code_of extension c) c are.0.coded) ∙ ap (joined (Some (c ∷ []))) (same_septets front cs are.1) ∙ sym (joined_assoc (Some (c ∷ [])) (Some front) (septets_of_text cs))
+    ap (λ (o : Option (List ℕ)). appended o (septets_of_text (front ++ cs))) (some_pair (code_of main c) (code_of extension c) c are.0.coded) ∙ ap (appended (Some (c ∷ []))) (same_septets front cs are.1) ∙ sym (appended_assoc (Some (c ∷ [])) (Some front) (septets_of_text cs))
 
 same_utf8 : (front : List ℕ) → AreSame front → IsUtf8 front
 same_utf8 front are = (front, (same_scalars front are, same_spelled front are))
@@ -114,28 +114,28 @@ same_utf8 front are = (front, (same_scalars front are, same_spelled front are))
 same_chars : (front others : List ℕ) → AreSame front → chars (front ++ others) ≡ front ++ chars others
 same_chars front others are = chars-append front others (same_utf8 front are) ∙ ap (λ (l : List ℕ). l ++ chars others) (sym (chars_from_encodes front front (same_utf8 front are) (same_spelled front are)))
 
-pub septets_block : (old new block others rest : List ℕ) (total : Option (List ℕ)) → rest ≡ block ++ others → AreSame block → new ≡ old ++ block → joined (Some old) (septets_of_text (chars rest)) ≡ total → joined (Some new) (septets_of_text (chars others)) ≡ total
+pub septets_block : (old new block others rest : List ℕ) (total : Option (List ℕ)) → rest ≡ block ++ others → AreSame block → new ≡ old ++ block → appended (Some old) (septets_of_text (chars rest)) ≡ total → appended (Some new) (septets_of_text (chars others)) ≡ total
 septets_block old new block others rest total parts are e so_far =
     let more : Option (List ℕ) = septets_of_text (chars others) in
-    let whole : septets_of_text (chars rest) ≡ joined (Some block) more = ap (λ (l : List ℕ). septets_of_text (chars l)) parts ∙ ap septets_of_text (same_chars block others are) ∙ same_septets block (chars others) are in
-    ap (λ (l : List ℕ). joined (Some l) more) e ∙ joined_assoc (Some old) (Some block) more ∙ ap (joined (Some old)) (sym whole) ∙ so_far
+    let whole : septets_of_text (chars rest) ≡ appended (Some block) more = ap (λ (l : List ℕ). septets_of_text (chars l)) parts ∙ ap septets_of_text (same_chars block others are) ∙ same_septets block (chars others) are in
+    ap (λ (l : List ℕ). appended (Some l) more) e ∙ appended_assoc (Some old) (Some block) more ∙ ap (appended (Some old)) (sym whole) ∙ so_far
 
-step : (old : List ℕ) (new total : Option (List ℕ)) (c : ℕ) (cs ds : List ℕ) → cs ≡ c ∷ ds → joined (Some old) (septets_of_character c) ≡ new → joined (Some old) (septets_of_text cs) ≡ total → joined new (septets_of_text ds) ≡ total
+step : (old : List ℕ) (new total : Option (List ℕ)) (c : ℕ) (cs ds : List ℕ) → cs ≡ c ∷ ds → appended (Some old) (septets_of_character c) ≡ new → appended (Some old) (septets_of_text cs) ≡ total → appended new (septets_of_text ds) ≡ total
 unfolding septets_of_text
 step old new total c cs ds first h so_far =
-    ap (λ (o : Option (List ℕ)). joined o (septets_of_text ds)) (sym h) ∙ joined_assoc (Some old) (septets_of_character c) (septets_of_text ds) ∙ ap (λ (l : List ℕ). joined (Some old) (septets_of_text l)) (sym first) ∙ so_far
+    ap (λ (o : Option (List ℕ)). appended o (septets_of_text ds)) (sym h) ∙ appended_assoc (Some old) (septets_of_character c) (septets_of_text ds) ∙ ap (λ (l : List ℕ). appended (Some old) (septets_of_text l)) (sym first) ∙ so_far
 
-pub one_character : (old new cs ds : List ℕ) (total : Option (List ℕ)) (c : ℕ) (b : Bool) → cs ≡ c ∷ ds → b ≡ true → joined (Some old) (septets_of_character c) ≡ cond b (Some new) None → joined (Some old) (septets_of_text cs) ≡ total → joined (Some new) (septets_of_text ds) ≡ total
+pub one_character : (old new cs ds : List ℕ) (total : Option (List ℕ)) (c : ℕ) (b : Bool) → cs ≡ c ∷ ds → b ≡ true → appended (Some old) (septets_of_character c) ≡ cond b (Some new) None → appended (Some old) (septets_of_text cs) ≡ total → appended (Some new) (septets_of_text ds) ≡ total
 one_character old new cs ds total c true first is h so_far = step old (Some new) total c cs ds first h so_far
 one_character old new cs ds total c false first is h so_far = absurd cc
 
-pub no_septets_for : (old new cs ds : List ℕ) (total : Option (List ℕ)) (c : ℕ) (b : Bool) → cs ≡ c ∷ ds → b ≡ false → joined (Some old) (septets_of_character c) ≡ cond b (Some new) None → joined (Some old) (septets_of_text cs) ≡ total → total ≡ None
+pub no_septets_for : (old new cs ds : List ℕ) (total : Option (List ℕ)) (c : ℕ) (b : Bool) → cs ≡ c ∷ ds → b ≡ false → appended (Some old) (septets_of_character c) ≡ cond b (Some new) None → appended (Some old) (septets_of_text cs) ≡ total → total ≡ None
 no_septets_for old new cs ds total c true first is h so_far = absurd cc
 no_septets_for old new cs ds total c false first is h so_far = sym (step old None total c cs ds first h so_far)
 
-pub no_character_left : (old cs : List ℕ) (total : Option (List ℕ)) → cs ≡ [] → joined (Some old) (septets_of_text cs) ≡ total → total ≡ Some old
+pub no_character_left : (old cs : List ℕ) (total : Option (List ℕ)) → cs ≡ [] → appended (Some old) (septets_of_text cs) ≡ total → total ≡ Some old
 unfolding septets_of_text
-no_character_left old cs total none so_far = sym so_far ∙ ap (λ (l : List ℕ). joined (Some old) (septets_of_text l)) none ∙ ap (λ (l : List ℕ). let r : Option (List ℕ) = Some l in r) (append-nil old)
+no_character_left old cs total none so_far = sym so_far ∙ ap (λ (l : List ℕ). appended (Some old) (septets_of_text l)) none ∙ ap (λ (l : List ℕ). let r : Option (List ℕ) = Some l in r) (append-nil old)
 
 pub cut_after : (bs block others : List ℕ) → bs ≡ block ++ others → AreSame block → length block ≡ 8 → IsUtf8 bs → IsCharBoundary bs 8
 cut_after bs block others e are len text = go block others e are len

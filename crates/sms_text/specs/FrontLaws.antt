@@ -6,9 +6,9 @@ use Rattle.std.proofs.lemmas.List.{take_all, length-take}
 use Rattle.sms_text.specs.Tables.{escape, space}
 use Rattle.sms_text.specs.TextOfSeptets.{plain_character, escaped_character, text_of_septets}
 
-pub text_behind_escape : (code : ℕ) (others : List ℕ) → text_of_septets (escape ∷ code ∷ others) ≡ escaped_character code ∷ text_of_septets others
+pub text_after_escape : (code : ℕ) (others : List ℕ) → text_of_septets (escape ∷ code ∷ others) ≡ escaped_character code ∷ text_of_septets others
 unfolding text_of_septets
-text_behind_escape code others = refl
+text_after_escape code others = refl
 
 pub text_from_plain : (code : ℕ) (others : List ℕ) → (code == escape) ≡ false → text_of_septets (code ∷ others) ≡ plain_character code ∷ text_of_septets others
 unfolding text_of_septets
@@ -25,7 +25,7 @@ pub escape_first : (septets : List ℕ) → 2 ≤ length septets → get_or sept
 escape_first [] many is = absurd (omega arith)
 escape_first (code ∷ []) many is = absurd (omega arith)
 escape_first (code ∷ next ∷ others) many is =
-    ap (λ (n : ℕ). text_of_septets (n ∷ next ∷ others)) is ∙ text_behind_escape next others ∙ ap (λ (l : List ℕ). escaped_character next ∷ text_of_septets l) (sym (take_all _ others (omega arith)))
+    ap (λ (n : ℕ). text_of_septets (n ∷ next ∷ others)) is ∙ text_after_escape next others ∙ ap (λ (l : List ℕ). escaped_character next ∷ text_of_septets l) (sym (take_all _ others (omega arith)))
 
 pub plain_first : (septets : List ℕ) → 1 ≤ length septets → get_or septets 0 0 ≢ escape → text_of_septets septets ≡ plain_character (get_or septets 0 0) ∷ text_of_septets (take (length septets - 1) (drop 1 septets))
 plain_first [] some other = absurd (omega arith)

@@ -3,10 +3,10 @@ use Rattle.std.proofs.Common.{◌≡◌, ℕ, cond, List, [], ◌∷◌, ◌++�
 use Rattle.std.specs.Prelude.{◌==◌, unwrap_or}
 use Rattle.sms_text.specs.Bits.{AreSeptets}
 use Rattle.sms_text.specs.Tables.{main, extension, escape, space, code_of}
-use Rattle.sms_text.specs.SeptetsOfText.{code_or_escaped, septets_of_character, joined, septets_of_text}
+use Rattle.sms_text.specs.SeptetsOfText.{code_or_escaped, septets_of_character, appended, septets_of_text}
 use Rattle.sms_text.specs.TextOfSeptets.{plain_character, text_of_septets}
 use Rattle.sms_text.specs.TableLaws.{main_again, extension_again, main_septet, extension_septet, not_escape}
-use Rattle.sms_text.specs.FrontLaws.{text_behind_escape, text_from_plain}
+use Rattle.sms_text.specs.FrontLaws.{text_after_escape, text_from_plain}
 
 abbrev some_list : List ℕ → Option (List ℕ)
 some_list l = Some l
@@ -20,19 +20,19 @@ one_again c front rest (Some code) e is also s =
     ap (λ (l : List ℕ). text_of_septets (l ++ rest)) (sym front_is) ∙ text_from_plain code rest (not_escape code c is) ∙ ap (λ (o : Option ℕ). unwrap_or o space ∷ text_of_septets rest) (main_again c code is)
 one_again c front rest None (Some code) is also s =
     let front_is : escape ∷ code ∷ [] ≡ front = same_list (escape ∷ code ∷ []) front s in
-    ap (λ (l : List ℕ). text_of_septets (l ++ rest)) (sym front_is) ∙ text_behind_escape code rest ∙ ap (λ (o : Option ℕ). unwrap_or o (cond (code == escape) space (plain_character code)) ∷ text_of_septets rest) (extension_again c code also)
+    ap (λ (l : List ℕ). text_of_septets (l ++ rest)) (sym front_is) ∙ text_after_escape code rest ∙ ap (λ (o : Option ℕ). unwrap_or o (cond (code == escape) space (plain_character code)) ∷ text_of_septets rest) (extension_again c code also)
 one_again c front rest None None is also s = absurd cc
 
-joined_parts : (a b : Option (List ℕ)) (s : List ℕ) → joined a b ≡ Some s → (x : List ℕ) × (y : List ℕ) × (a ≡ Some x) × (b ≡ Some y) × (x ++ y ≡ s)
-joined_parts (Some x) (Some y) s e = (x, y, refl, refl, same_list (x ++ y) s e)
-joined_parts (Some x) None s e = absurd cc
-joined_parts None b s e = absurd cc
+appended_parts : (a b : Option (List ℕ)) (s : List ℕ) → appended a b ≡ Some s → (x : List ℕ) × (y : List ℕ) × (a ≡ Some x) × (b ≡ Some y) × (x ++ y ≡ s)
+appended_parts (Some x) (Some y) s e = (x, y, refl, refl, same_list (x ++ y) s e)
+appended_parts (Some x) None s e = absurd cc
+appended_parts None b s e = absurd cc
 
 pub text_again : (text septets : List ℕ) → septets_of_text text ≡ Some septets → text_of_septets septets ≡ text
 unfolding septets_of_text septets_of_character text_of_septets
 text_again [] septets e = ap text_of_septets (sym (same_list [] septets e))
 text_again (c ∷ text) septets e =
-    let p = joined_parts (septets_of_character c) (septets_of_text text) septets e in
+    let p = appended_parts (septets_of_character c) (septets_of_text text) septets e in
     ap text_of_septets (sym p.4) ∙ one_again c p.0 p.1 (code_of main c) (code_of extension c) refl refl p.2 ∙ ap (λ (l : List ℕ). c ∷ l) (text_again text p.1 p.3)
 
 -- ---- the septets of a text are septets
@@ -50,5 +50,5 @@ pub text_septets : (text septets : List ℕ) → septets_of_text text ≡ Some s
 unfolding septets_of_text septets_of_character
 text_septets [] septets e = subst AreSeptets (same_list [] septets e) tt
 text_septets (c ∷ text) septets e =
-    let p = joined_parts (septets_of_character c) (septets_of_text text) septets e in
+    let p = appended_parts (septets_of_character c) (septets_of_text text) septets e in
     subst AreSeptets p.4 (septets-append p.0 p.1 (one_septets c p.0 (code_of main c) (code_of extension c) refl refl p.2) (text_septets text p.1 p.3))

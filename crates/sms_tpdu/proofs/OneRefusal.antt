@@ -5,7 +5,7 @@ use Rattle.sms_field.specs.Bit.{bit}
 use Rattle.sms_field.specs.Coding.{alphabet_at}
 use Rattle.sms_field.specs.Field.{Field, octet, octet_by, map_reason, up_to}
 use Rattle.sms_field.specs.OneRefusal.{HasOneReason, ReadsOneWay, IsKnown}
-use Rattle.sms_field.specs.OneRefusalLaws.{one_way_always, one_way_octet, one_way_by, one_way_octets, one_way_join, one_way_address, one_reason_by, one_reason_octet, one_reason_octets, one_reason_map_reason, one_reason_join, one_reason_address, one_refusal}
+use Rattle.sms_field.specs.OneRefusalLaws.{one_way_always, one_way_octet, one_way_by, one_way_octets, one_way_chain, one_way_address, one_reason_by, one_reason_octet, one_reason_octets, one_reason_map_reason, one_reason_chain, one_reason_address, one_refusal}
 use Rattle.sms_field.specs.declared.coding.Alphabet.{Alphabet}
 use Rattle.sms_tpdu.specs.Refusals.{IsRefusedOnce}
 use Rattle.sms_tpdu.specs.Fault.{unit_fault}
@@ -43,40 +43,40 @@ is_short HeaderTooLong = inr (λ e. cc)
 one_way_user : (with_header : Bool) (alphabet : Alphabet) → ReadsOneWay (user_data with_header alphabet)
 unfolding user_data
 one_way_user false alphabet =
-    one_way_join _ _ (one_way_by Short (up_to (greatest_length alphabet) DataTooLong)) (λ count.
-    one_way_join _ _ (one_way_octets Short (octets_of_length alphabet count)) (λ octets. one_way_always UnitFault _))
+    one_way_chain _ _ (one_way_by Short (up_to (greatest_length alphabet) DataTooLong)) (λ count.
+    one_way_chain _ _ (one_way_octets Short (octets_of_length alphabet count)) (λ octets. one_way_always UnitFault _))
 one_way_user true alphabet =
-    one_way_join _ _ (one_way_by Short (length_with_header alphabet)) (λ count.
-    one_way_join _ _ (one_way_by Short (header_length alphabet count)) (λ size.
-    one_way_join _ _ (one_way_octets Short size) (λ octets.
-    one_way_join _ _ (one_way_octets Short (octets_of_length alphabet count - (size + 1))) (λ written. one_way_always UnitFault _))))
+    one_way_chain _ _ (one_way_by Short (length_with_header alphabet)) (λ count.
+    one_way_chain _ _ (one_way_by Short (header_length alphabet count)) (λ size.
+    one_way_chain _ _ (one_way_octets Short size) (λ octets.
+    one_way_chain _ _ (one_way_octets Short (octets_of_length alphabet count - (size + 1))) (λ written. one_way_always UnitFault _))))
 
 one_reason_user : (with_header : Bool) (alphabet : Alphabet) → HasOneReason (user_data with_header alphabet)
 unfolding user_data
 one_reason_user false alphabet =
-    one_reason_join _ _ (one_way_by Short (up_to (greatest_length alphabet) DataTooLong)) (one_reason_by Short (up_to (greatest_length alphabet) DataTooLong)) (λ count.
-    one_reason_join _ _ (one_way_octets Short (octets_of_length alphabet count)) (one_reason_octets Short (octets_of_length alphabet count)) (λ octets. λ f o w b p q. absurd p))
+    one_reason_chain _ _ (one_way_by Short (up_to (greatest_length alphabet) DataTooLong)) (one_reason_by Short (up_to (greatest_length alphabet) DataTooLong)) (λ count.
+    one_reason_chain _ _ (one_way_octets Short (octets_of_length alphabet count)) (one_reason_octets Short (octets_of_length alphabet count)) (λ octets. λ f o w b p q. absurd p))
 one_reason_user true alphabet =
-    one_reason_join _ _ (one_way_by Short (length_with_header alphabet)) (one_reason_by Short (length_with_header alphabet)) (λ count.
-    one_reason_join _ _ (one_way_by Short (header_length alphabet count)) (one_reason_by Short (header_length alphabet count)) (λ size.
-    one_reason_join _ _ (one_way_octets Short size) (one_reason_octets Short size) (λ octets.
-    one_reason_join _ _ (one_way_octets Short (octets_of_length alphabet count - (size + 1))) (one_reason_octets Short (octets_of_length alphabet count - (size + 1))) (λ written. λ f o w b p q. absurd p))))
+    one_reason_chain _ _ (one_way_by Short (length_with_header alphabet)) (one_reason_by Short (length_with_header alphabet)) (λ count.
+    one_reason_chain _ _ (one_way_by Short (header_length alphabet count)) (one_reason_by Short (header_length alphabet count)) (λ size.
+    one_reason_chain _ _ (one_way_octets Short size) (one_reason_octets Short size) (λ octets.
+    one_reason_chain _ _ (one_way_octets Short (octets_of_length alphabet count - (size + 1))) (one_reason_octets Short (octets_of_length alphabet count - (size + 1))) (λ written. λ f o w b p q. absurd p))))
 
 -- ---- messages
 
 one_way_validity : (format : ValidityFormat) → ReadsOneWay (validity format)
 unfolding validity
 one_way_validity Absent = one_way_always UnitFault _
-one_way_validity Relative = one_way_join _ _ (one_way_octet Short) (λ value. one_way_always UnitFault _)
-one_way_validity Enhanced = one_way_join _ _ (one_way_octets Short 7) (λ values. one_way_always UnitFault _)
-one_way_validity Absolute = one_way_join _ _ (one_way_octets Short 7) (λ end. one_way_always UnitFault _)
+one_way_validity Relative = one_way_chain _ _ (one_way_octet Short) (λ value. one_way_always UnitFault _)
+one_way_validity Enhanced = one_way_chain _ _ (one_way_octets Short 7) (λ values. one_way_always UnitFault _)
+one_way_validity Absolute = one_way_chain _ _ (one_way_octets Short 7) (λ end. one_way_always UnitFault _)
 
 one_reason_validity : (format : ValidityFormat) → HasOneReason (validity format)
 unfolding validity
 one_reason_validity Absent = λ f o w b p q. absurd p
-one_reason_validity Relative = one_reason_join _ _ (one_way_octet Short) (one_reason_octet Short) (λ value. λ f o w b p q. absurd p)
-one_reason_validity Enhanced = one_reason_join _ _ (one_way_octets Short 7) (one_reason_octets Short 7) (λ values. λ f o w b p q. absurd p)
-one_reason_validity Absolute = one_reason_join _ _ (one_way_octets Short 7) (one_reason_octets Short 7) (λ end. λ f o w b p q. absurd p)
+one_reason_validity Relative = one_reason_chain _ _ (one_way_octet Short) (one_reason_octet Short) (λ value. λ f o w b p q. absurd p)
+one_reason_validity Enhanced = one_reason_chain _ _ (one_way_octets Short 7) (one_reason_octets Short 7) (λ values. λ f o w b p q. absurd p)
+one_reason_validity Absolute = one_reason_chain _ _ (one_way_octets Short 7) (one_reason_octets Short 7) (λ end. λ f o w b p q. absurd p)
 
 one_reason_named_address : HasOneReason (map_reason unit_fault address)
 one_reason_named_address = one_reason_map_reason unit_fault address one_reason_address
@@ -84,23 +84,23 @@ one_reason_named_address = one_reason_map_reason unit_fault address one_reason_a
 one_reason_submit : HasOneReason submit
 unfolding submit
 one_reason_submit =
-    one_reason_join _ _ (one_way_by Short submit_flags) (one_reason_by Short submit_flags) (λ flags.
-    one_reason_join _ _ (one_way_octet Short) (one_reason_octet Short) (λ reference.
-    one_reason_join _ _ one_way_address one_reason_named_address (λ target.
-    one_reason_join _ _ (one_way_octet Short) (one_reason_octet Short) (λ pid.
-    one_reason_join _ _ (one_way_octet Short) (one_reason_octet Short) (λ dcs.
-    one_reason_join _ _ (one_way_validity flags.format) (one_reason_validity flags.format) (λ period.
-    one_reason_join _ _ (one_way_user flags.header (alphabet_at dcs)) (one_reason_user flags.header (alphabet_at dcs)) (λ user. λ f o w b p q. absurd p)))))))
+    one_reason_chain _ _ (one_way_by Short submit_flags) (one_reason_by Short submit_flags) (λ flags.
+    one_reason_chain _ _ (one_way_octet Short) (one_reason_octet Short) (λ reference.
+    one_reason_chain _ _ one_way_address one_reason_named_address (λ target.
+    one_reason_chain _ _ (one_way_octet Short) (one_reason_octet Short) (λ pid.
+    one_reason_chain _ _ (one_way_octet Short) (one_reason_octet Short) (λ dcs.
+    one_reason_chain _ _ (one_way_validity flags.format) (one_reason_validity flags.format) (λ period.
+    one_reason_chain _ _ (one_way_user flags.header (alphabet_at dcs)) (one_reason_user flags.header (alphabet_at dcs)) (λ user. λ f o w b p q. absurd p)))))))
 
 one_reason_deliver : HasOneReason deliver
 unfolding deliver
 one_reason_deliver =
-    one_reason_join _ _ (one_way_by Short deliver_flags) (one_reason_by Short deliver_flags) (λ flags.
-    one_reason_join _ _ one_way_address one_reason_named_address (λ origin.
-    one_reason_join _ _ (one_way_octet Short) (one_reason_octet Short) (λ pid.
-    one_reason_join _ _ (one_way_octet Short) (one_reason_octet Short) (λ dcs.
-    one_reason_join _ _ (one_way_octets Short 7) (one_reason_octets Short 7) (λ stamp.
-    one_reason_join _ _ (one_way_user flags.header (alphabet_at dcs)) (one_reason_user flags.header (alphabet_at dcs)) (λ user. λ f o w b p q. absurd p))))))
+    one_reason_chain _ _ (one_way_by Short deliver_flags) (one_reason_by Short deliver_flags) (λ flags.
+    one_reason_chain _ _ one_way_address one_reason_named_address (λ origin.
+    one_reason_chain _ _ (one_way_octet Short) (one_reason_octet Short) (λ pid.
+    one_reason_chain _ _ (one_way_octet Short) (one_reason_octet Short) (λ dcs.
+    one_reason_chain _ _ (one_way_octets Short 7) (one_reason_octets Short 7) (λ stamp.
+    one_reason_chain _ _ (one_way_user flags.header (alphabet_at dcs)) (one_reason_user flags.header (alphabet_at dcs)) (λ user. λ f o w b p q. absurd p))))))
 
 -- ---- reports
 
@@ -119,80 +119,80 @@ one_way_further more v w xs ys rest left p q e = (refl, one_further more xs ys r
 
 one_way_indicator : ReadsOneWay indicator
 unfolding indicator
-one_way_indicator = one_way_join _ _ (one_way_octet Short) (λ first. one_way_join _ _ (one_way_further (bit 7 first)) (λ skipped. one_way_always UnitFault _))
+one_way_indicator = one_way_chain _ _ (one_way_octet Short) (λ first. one_way_chain _ _ (one_way_further (bit 7 first)) (λ skipped. one_way_always UnitFault _))
 
 one_reason_indicator : HasOneReason indicator
 unfolding indicator
-one_reason_indicator = one_reason_join _ _ (one_way_octet Short) (one_reason_octet Short) (λ first. one_reason_join _ _ (one_way_further (bit 7 first)) (λ f o w b p q. absurd p) (λ skipped. λ f o w b p q. absurd p))
+one_reason_indicator = one_reason_chain _ _ (one_way_octet Short) (one_reason_octet Short) (λ first. one_reason_chain _ _ (one_way_further (bit 7 first)) (λ f o w b p q. absurd p) (λ skipped. λ f o w b p q. absurd p))
 
 one_way_data : (alphabet : Alphabet) → ReadsOneWay (report_data alphabet)
 unfolding report_data
-one_way_data alphabet = one_way_join _ _ (one_way_by Short (report_length alphabet)) (λ count. one_way_join _ _ (one_way_octets Short (octets_of_length alphabet count)) (λ octets. one_way_always UnitFault _))
+one_way_data alphabet = one_way_chain _ _ (one_way_by Short (report_length alphabet)) (λ count. one_way_chain _ _ (one_way_octets Short (octets_of_length alphabet count)) (λ octets. one_way_always UnitFault _))
 
 one_reason_data : (alphabet : Alphabet) → HasOneReason (report_data alphabet)
 unfolding report_data
 one_reason_data alphabet =
-    one_reason_join _ _ (one_way_by Short (report_length alphabet)) (one_reason_by Short (report_length alphabet)) (λ count.
-    one_reason_join _ _ (one_way_octets Short (octets_of_length alphabet count)) (one_reason_octets Short (octets_of_length alphabet count)) (λ octets. λ f o w b p q. absurd p))
+    one_reason_chain _ _ (one_way_by Short (report_length alphabet)) (one_reason_by Short (report_length alphabet)) (λ count.
+    one_reason_chain _ _ (one_way_octets Short (octets_of_length alphabet count)) (one_reason_octets Short (octets_of_length alphabet count)) (λ octets. λ f o w b p q. absurd p))
 
 one_way_part : {V : Type 0} (there : Bool) (part : Field V UnitFault) → ReadsOneWay part → ReadsOneWay (part_if there part)
 one_way_part false part one = one_way_always UnitFault _
-one_way_part true part one = one_way_join _ _ one (λ value. one_way_always UnitFault _)
+one_way_part true part one = one_way_chain _ _ one (λ value. one_way_always UnitFault _)
 
 one_reason_part : {V : Type 0} (there : Bool) (part : Field V UnitFault) → ReadsOneWay part → HasOneReason part → HasOneReason (part_if there part)
 one_reason_part false part way one = λ f o w b p q. absurd p
-one_reason_part true part way one = one_reason_join _ _ way one (λ value. λ f o w b p q. absurd p)
+one_reason_part true part way one = one_reason_chain _ _ way one (λ value. λ f o w b p q. absurd p)
 
 one_way_parts : (there : Indicator) → ReadsOneWay (parts there)
 unfolding parts
 one_way_parts there =
-    one_way_join _ _ (one_way_part there.pid (octet Short) (one_way_octet Short)) (λ pid.
-    one_way_join _ _ (one_way_part there.dcs (octet Short) (one_way_octet Short)) (λ dcs.
-    one_way_join _ _ (one_way_part there.user (report_data (report_alphabet dcs)) (one_way_data (report_alphabet dcs))) (λ user. one_way_always UnitFault _)))
+    one_way_chain _ _ (one_way_part there.pid (octet Short) (one_way_octet Short)) (λ pid.
+    one_way_chain _ _ (one_way_part there.dcs (octet Short) (one_way_octet Short)) (λ dcs.
+    one_way_chain _ _ (one_way_part there.user (report_data (report_alphabet dcs)) (one_way_data (report_alphabet dcs))) (λ user. one_way_always UnitFault _)))
 
 one_reason_parts : (there : Indicator) → HasOneReason (parts there)
 unfolding parts
 one_reason_parts there =
-    one_reason_join _ _ (one_way_part there.pid (octet Short) (one_way_octet Short)) (one_reason_part there.pid (octet Short) (one_way_octet Short) (one_reason_octet Short)) (λ pid.
-    one_reason_join _ _ (one_way_part there.dcs (octet Short) (one_way_octet Short)) (one_reason_part there.dcs (octet Short) (one_way_octet Short) (one_reason_octet Short)) (λ dcs.
-    one_reason_join _ _ (one_way_part there.user (report_data (report_alphabet dcs)) (one_way_data (report_alphabet dcs))) (one_reason_part there.user (report_data (report_alphabet dcs)) (one_way_data (report_alphabet dcs)) (one_reason_data (report_alphabet dcs))) (λ user.
+    one_reason_chain _ _ (one_way_part there.pid (octet Short) (one_way_octet Short)) (one_reason_part there.pid (octet Short) (one_way_octet Short) (one_reason_octet Short)) (λ pid.
+    one_reason_chain _ _ (one_way_part there.dcs (octet Short) (one_way_octet Short)) (one_reason_part there.dcs (octet Short) (one_way_octet Short) (one_reason_octet Short)) (λ dcs.
+    one_reason_chain _ _ (one_way_part there.user (report_data (report_alphabet dcs)) (one_way_data (report_alphabet dcs))) (one_reason_part there.user (report_data (report_alphabet dcs)) (one_way_data (report_alphabet dcs)) (one_reason_data (report_alphabet dcs))) (λ user.
     λ f o w b p q. absurd p)))
 
 one_reason_submit_ack : HasOneReason submit_ack
 unfolding submit_ack
 one_reason_submit_ack =
-    one_reason_join _ _ (one_way_by Short submit_report) (one_reason_by Short submit_report) (λ with_header.
-    one_reason_join _ _ one_way_indicator one_reason_indicator (λ there.
-    one_reason_join _ _ (one_way_octets Short 7) (one_reason_octets Short 7) (λ stamp.
-    one_reason_join _ _ (one_way_parts there) (one_reason_parts there) (λ those. λ f o w b p q. absurd p))))
+    one_reason_chain _ _ (one_way_by Short submit_report) (one_reason_by Short submit_report) (λ with_header.
+    one_reason_chain _ _ one_way_indicator one_reason_indicator (λ there.
+    one_reason_chain _ _ (one_way_octets Short 7) (one_reason_octets Short 7) (λ stamp.
+    one_reason_chain _ _ (one_way_parts there) (one_reason_parts there) (λ those. λ f o w b p q. absurd p))))
 
 one_reason_submit_error : HasOneReason submit_error
 unfolding submit_error
 one_reason_submit_error =
-    one_reason_join _ _ (one_way_by Short submit_report) (one_reason_by Short submit_report) (λ with_header.
-    one_reason_join _ _ (one_way_octet Short) (one_reason_octet Short) (λ cause.
-    one_reason_join _ _ one_way_indicator one_reason_indicator (λ there.
-    one_reason_join _ _ (one_way_octets Short 7) (one_reason_octets Short 7) (λ stamp.
-    one_reason_join _ _ (one_way_parts there) (one_reason_parts there) (λ those. λ f o w b p q. absurd p)))))
+    one_reason_chain _ _ (one_way_by Short submit_report) (one_reason_by Short submit_report) (λ with_header.
+    one_reason_chain _ _ (one_way_octet Short) (one_reason_octet Short) (λ cause.
+    one_reason_chain _ _ one_way_indicator one_reason_indicator (λ there.
+    one_reason_chain _ _ (one_way_octets Short 7) (one_reason_octets Short 7) (λ stamp.
+    one_reason_chain _ _ (one_way_parts there) (one_reason_parts there) (λ those. λ f o w b p q. absurd p)))))
 
 one_reason_deliver_ack : HasOneReason deliver_ack
 unfolding deliver_ack
 one_reason_deliver_ack =
-    one_reason_join _ _ (one_way_by Short deliver_report) (one_reason_by Short deliver_report) (λ with_header.
-    one_reason_join _ _ one_way_indicator one_reason_indicator (λ there.
-    one_reason_join _ _ (one_way_parts there) (one_reason_parts there) (λ those. λ f o w b p q. absurd p)))
+    one_reason_chain _ _ (one_way_by Short deliver_report) (one_reason_by Short deliver_report) (λ with_header.
+    one_reason_chain _ _ one_way_indicator one_reason_indicator (λ there.
+    one_reason_chain _ _ (one_way_parts there) (one_reason_parts there) (λ those. λ f o w b p q. absurd p)))
 
 one_reason_deliver_error : HasOneReason deliver_error
 unfolding deliver_error
 one_reason_deliver_error =
-    one_reason_join _ _ (one_way_by Short deliver_report) (one_reason_by Short deliver_report) (λ with_header.
-    one_reason_join _ _ (one_way_octet Short) (one_reason_octet Short) (λ cause.
-    one_reason_join _ _ one_way_indicator one_reason_indicator (λ there.
-    one_reason_join _ _ (one_way_parts there) (one_reason_parts there) (λ those. λ f o w b p q. absurd p))))
+    one_reason_chain _ _ (one_way_by Short deliver_report) (one_reason_by Short deliver_report) (λ with_header.
+    one_reason_chain _ _ (one_way_octet Short) (one_reason_octet Short) (λ cause.
+    one_reason_chain _ _ one_way_indicator one_reason_indicator (λ there.
+    one_reason_chain _ _ (one_way_parts there) (one_reason_parts there) (λ those. λ f o w b p q. absurd p))))
 
 one_reason_header : HasOneReason header
 unfolding header
-one_reason_header = one_reason_join _ _ (one_way_by Short (up_to 139 HeaderTooLong)) (one_reason_by Short (up_to 139 HeaderTooLong)) (λ size. one_reason_octets Short size)
+one_reason_header = one_reason_chain _ _ (one_way_by Short (up_to 139 HeaderTooLong)) (one_reason_by Short (up_to 139 HeaderTooLong)) (λ size. one_reason_octets Short size)
 
 -- ---- one refusal
 

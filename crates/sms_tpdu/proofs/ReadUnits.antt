@@ -9,7 +9,7 @@ use Rattle.sms_field.specs.AddressValue.{HasSpelling}
 use Rattle.sms_field.specs.Coding.{alphabet_at}
 use Rattle.sms_field.specs.ReadAddressLaws.{has_octet, has_stamp, has_up_to, has_address}
 use Rattle.sms_field.specs.ReadValues.{Has, Any}
-use Rattle.sms_field.specs.ReadValueLaws.{has_join}
+use Rattle.sms_field.specs.ReadValueLaws.{has_chain}
 use Rattle.sms_field.specs.Stamp.{IsStamp}
 use Rattle.sms_field.specs.declared.coding.Alphabet.{Alphabet}
 use Rattle.sms_field.specs.declared.coding.Alphabet.TheVariants.{Gsm7, EightBit, Ucs2, Compressed}
@@ -71,14 +71,14 @@ has_size alphabet count v octets rest are r =
 has_user : (headed : Bool) (alphabet : Alphabet) → Has (FitsAlphabet alphabet) (user_data headed alphabet)
 unfolding user_data
 has_user false alphabet =
-    has_join (IsLength alphabet) (FitsAlphabet alphabet) _ _ (has_up_to Short (greatest_length alphabet) DataTooLong) (λ count few.
-    has_join (AreCounted (octets_of_length alphabet count)) (FitsAlphabet alphabet) _ _ (has_counted Short (octets_of_length alphabet count)) (λ octets h.
+    has_chain (IsLength alphabet) (FitsAlphabet alphabet) _ _ (has_up_to Short (greatest_length alphabet) DataTooLong) (λ count few.
+    has_chain (AreCounted (octets_of_length alphabet count)) (FitsAlphabet alphabet) _ _ (has_counted Short (octets_of_length alphabet count)) (λ octets h.
     λ v others rest are r. subst (FitsAlphabet alphabet) (sym r.0) (tt, body_fits alphabet 0 count octets few (no_room alphabet count) (omega (arith, h.0)) h.1)))
 has_user true alphabet =
-    has_join (IsLength alphabet) (FitsAlphabet alphabet) _ _ (has_length alphabet) (λ count few.
-    has_join (HasRoom alphabet count) (FitsAlphabet alphabet) _ _ (has_size alphabet count) (λ size room.
-    has_join (AreCounted size) (FitsAlphabet alphabet) _ _ (has_counted Short size) (λ octets h.
-    has_join (AreCounted (octets_of_length alphabet count - (size + 1))) (FitsAlphabet alphabet) _ _ (has_counted Short (octets_of_length alphabet count - (size + 1))) (λ written k.
+    has_chain (IsLength alphabet) (FitsAlphabet alphabet) _ _ (has_length alphabet) (λ count few.
+    has_chain (HasRoom alphabet count) (FitsAlphabet alphabet) _ _ (has_size alphabet count) (λ size room.
+    has_chain (AreCounted size) (FitsAlphabet alphabet) _ _ (has_counted Short size) (λ octets h.
+    has_chain (AreCounted (octets_of_length alphabet count - (size + 1))) (FitsAlphabet alphabet) _ _ (has_counted Short (octets_of_length alphabet count - (size + 1))) (λ written k.
     λ v others rest are r.
     let small : length octets < 256 = subst (λ (n : ℕ). n < 256) (sym h.0) (header_small alphabet size count few room) in
     let taken : size + 1 ≡ suc (length octets) = omega (arith, h.0) in
@@ -90,31 +90,31 @@ has_user true alphabet =
 has_validity : (format : ValidityFormat) → Has IsInRange (validity format)
 unfolding validity
 has_validity Absent = λ v octets rest are r. subst IsInRange (sym r.0) tt
-has_validity Relative = has_join (λ octet. octet < 256) IsInRange _ _ (has_octet Short) (λ value h. λ v octets rest are r. subst IsInRange (sym r.0) h)
-has_validity Enhanced = has_join IsStamp IsInRange _ _ (has_stamp Short) (λ values h. λ v octets rest are r. subst IsInRange (sym r.0) h)
-has_validity Absolute = has_join IsStamp IsInRange _ _ (has_stamp Short) (λ end h. λ v octets rest are r. subst IsInRange (sym r.0) h)
+has_validity Relative = has_chain (λ octet. octet < 256) IsInRange _ _ (has_octet Short) (λ value h. λ v octets rest are r. subst IsInRange (sym r.0) h)
+has_validity Enhanced = has_chain IsStamp IsInRange _ _ (has_stamp Short) (λ values h. λ v octets rest are r. subst IsInRange (sym r.0) h)
+has_validity Absolute = has_chain IsStamp IsInRange _ _ (has_stamp Short) (λ end h. λ v octets rest are r. subst IsInRange (sym r.0) h)
 
 pub has_submit : Has IsSubmittable submit
 unfolding submit
 has_submit =
-    has_join Any IsSubmittable _ _ (λ v octets rest are r. tt) (λ flags _.
-    has_join (λ octet. octet < 256) IsSubmittable _ _ (has_octet Short) (λ reference small.
-    has_join HasSpelling IsSubmittable _ _ has_address (λ target spelled.
-    has_join (λ octet. octet < 256) IsSubmittable _ _ (has_octet Short) (λ pid pid_small.
-    has_join (λ octet. octet < 256) IsSubmittable _ _ (has_octet Short) (λ dcs dcs_small.
-    has_join IsInRange IsSubmittable _ _ (has_validity flags.format) (λ period in_range.
-    has_join (FitsAlphabet (alphabet_at dcs)) IsSubmittable _ _ (has_user flags.header (alphabet_at dcs)) (λ user fits.
+    has_chain Any IsSubmittable _ _ (λ v octets rest are r. tt) (λ flags _.
+    has_chain (λ octet. octet < 256) IsSubmittable _ _ (has_octet Short) (λ reference small.
+    has_chain HasSpelling IsSubmittable _ _ has_address (λ target spelled.
+    has_chain (λ octet. octet < 256) IsSubmittable _ _ (has_octet Short) (λ pid pid_small.
+    has_chain (λ octet. octet < 256) IsSubmittable _ _ (has_octet Short) (λ dcs dcs_small.
+    has_chain IsInRange IsSubmittable _ _ (has_validity flags.format) (λ period in_range.
+    has_chain (FitsAlphabet (alphabet_at dcs)) IsSubmittable _ _ (has_user flags.header (alphabet_at dcs)) (λ user fits.
     λ v octets rest are r. subst IsSubmittable (sym r.0) (record { validity = in_range; reference = small; target = spelled; pid = pid_small; dcs = dcs_small; user = fits }))))))))
 
 pub has_deliver : Has IsDeliverable deliver
 unfolding deliver
 has_deliver =
-    has_join Any IsDeliverable _ _ (λ v octets rest are r. tt) (λ flags _.
-    has_join HasSpelling IsDeliverable _ _ has_address (λ origin spelled.
-    has_join (λ octet. octet < 256) IsDeliverable _ _ (has_octet Short) (λ pid pid_small.
-    has_join (λ octet. octet < 256) IsDeliverable _ _ (has_octet Short) (λ dcs dcs_small.
-    has_join IsStamp IsDeliverable _ _ (has_stamp Short) (λ stamp is_stamp.
-    has_join (FitsAlphabet (alphabet_at dcs)) IsDeliverable _ _ (has_user flags.header (alphabet_at dcs)) (λ user fits.
+    has_chain Any IsDeliverable _ _ (λ v octets rest are r. tt) (λ flags _.
+    has_chain HasSpelling IsDeliverable _ _ has_address (λ origin spelled.
+    has_chain (λ octet. octet < 256) IsDeliverable _ _ (has_octet Short) (λ pid pid_small.
+    has_chain (λ octet. octet < 256) IsDeliverable _ _ (has_octet Short) (λ dcs dcs_small.
+    has_chain IsStamp IsDeliverable _ _ (has_stamp Short) (λ stamp is_stamp.
+    has_chain (FitsAlphabet (alphabet_at dcs)) IsDeliverable _ _ (has_user flags.header (alphabet_at dcs)) (λ user fits.
     λ v octets rest are r. subst IsDeliverable (sym r.0) (record { origin = spelled; pid = pid_small; dcs = dcs_small; stamp = is_stamp; user = fits })))))))
 
 -- ---- reports
@@ -137,13 +137,13 @@ has_report_length alphabet v octets rest are r =
 has_report_data : (alphabet : Alphabet) → Has (IsReportData alphabet) (report_data alphabet)
 unfolding report_data
 has_report_data alphabet =
-    has_join (AreFew alphabet) (IsReportData alphabet) _ _ (has_report_length alphabet) (λ count few.
-    has_join (AreCounted (octets_of_length alphabet count)) (IsReportData alphabet) _ _ (has_counted Short (octets_of_length alphabet count)) (λ octets h.
+    has_chain (AreFew alphabet) (IsReportData alphabet) _ _ (has_report_length alphabet) (λ count few.
+    has_chain (AreCounted (octets_of_length alphabet count)) (IsReportData alphabet) _ _ (has_counted Short (octets_of_length alphabet count)) (λ octets h.
     λ v others rest are r. subst (IsReportData alphabet) (sym r.0) (record { small = few_counted alphabet count few; counted = h.0; few = subst (λ (n : ℕ). n ≤ 159) (sym h.0) few; octets = h.1 })))
 
 has_part : {V W : Type 0} (P : V → Type 0) (there : Bool) (part : Field V W) → Has P part → Has (λ (o : Option V). IfSome o P) (part_if there part)
 has_part P false part h = λ v octets rest are r. subst (λ o. IfSome o P) (sym r.0) tt
-has_part P true part h = has_join P (λ o. IfSome o P) _ _ h (λ value p. λ v octets rest are r. subst (λ o. IfSome o P) (sym r.0) p)
+has_part P true part h = has_chain P (λ o. IfSome o P) _ _ h (λ value p. λ v octets rest are r. subst (λ o. IfSome o P) (sym r.0) p)
 
 abbrev IsSmall : Option ℕ → Type 0
 IsSmall o = IfSome o (λ n. n < 256)
@@ -151,47 +151,47 @@ IsSmall o = IfSome o (λ n. n < 256)
 has_parts : (there : Indicator) → Has AreParts (parts there)
 unfolding parts
 has_parts there =
-    has_join IsSmall AreParts _ _ (has_part (λ n. n < 256) there.pid (octet Short) (has_octet Short)) (λ pid p.
-    has_join IsSmall AreParts _ _ (has_part (λ n. n < 256) there.dcs (octet Short) (has_octet Short)) (λ dcs d.
-    has_join (λ o. IfSome o (IsReportData (report_alphabet dcs))) AreParts _ _ (has_part (IsReportData (report_alphabet dcs)) there.user (report_data (report_alphabet dcs)) (has_report_data (report_alphabet dcs))) (λ user u.
+    has_chain IsSmall AreParts _ _ (has_part (λ n. n < 256) there.pid (octet Short) (has_octet Short)) (λ pid p.
+    has_chain IsSmall AreParts _ _ (has_part (λ n. n < 256) there.dcs (octet Short) (has_octet Short)) (λ dcs d.
+    has_chain (λ o. IfSome o (IsReportData (report_alphabet dcs))) AreParts _ _ (has_part (IsReportData (report_alphabet dcs)) there.user (report_data (report_alphabet dcs)) (has_report_data (report_alphabet dcs))) (λ user u.
     λ v octets rest are r. subst AreParts (sym r.0) (record { pid = p; dcs = d; user = u }))))
 
 pub has_submit_ack : Has IsSubmitAck submit_ack
 unfolding submit_ack
 has_submit_ack =
-    has_join Any IsSubmitAck _ _ (λ v octets rest are r. tt) (λ headed _.
-    has_join Any IsSubmitAck _ _ (λ v octets rest are r. tt) (λ there _.
-    has_join IsStamp IsSubmitAck _ _ (has_stamp Short) (λ stamp is_stamp.
-    has_join AreParts IsSubmitAck _ _ (has_parts there) (λ those fits.
+    has_chain Any IsSubmitAck _ _ (λ v octets rest are r. tt) (λ headed _.
+    has_chain Any IsSubmitAck _ _ (λ v octets rest are r. tt) (λ there _.
+    has_chain IsStamp IsSubmitAck _ _ (has_stamp Short) (λ stamp is_stamp.
+    has_chain AreParts IsSubmitAck _ _ (has_parts there) (λ those fits.
     λ v octets rest are r. subst IsSubmitAck (sym r.0) (record { stamp = is_stamp; parts = fits })))))
 
 pub has_submit_error : Has IsSubmitError submit_error
 unfolding submit_error
 has_submit_error =
-    has_join Any IsSubmitError _ _ (λ v octets rest are r. tt) (λ headed _.
-    has_join (λ octet. octet < 256) IsSubmitError _ _ (has_octet Short) (λ cause small.
-    has_join Any IsSubmitError _ _ (λ v octets rest are r. tt) (λ there _.
-    has_join IsStamp IsSubmitError _ _ (has_stamp Short) (λ stamp is_stamp.
-    has_join AreParts IsSubmitError _ _ (has_parts there) (λ those fits.
+    has_chain Any IsSubmitError _ _ (λ v octets rest are r. tt) (λ headed _.
+    has_chain (λ octet. octet < 256) IsSubmitError _ _ (has_octet Short) (λ cause small.
+    has_chain Any IsSubmitError _ _ (λ v octets rest are r. tt) (λ there _.
+    has_chain IsStamp IsSubmitError _ _ (has_stamp Short) (λ stamp is_stamp.
+    has_chain AreParts IsSubmitError _ _ (has_parts there) (λ those fits.
     λ v octets rest are r. subst IsSubmitError (sym r.0) (record { cause = small; stamp = is_stamp; parts = fits }))))))
 
 pub has_deliver_ack : Has IsDeliverAck deliver_ack
 unfolding deliver_ack
 has_deliver_ack =
-    has_join Any IsDeliverAck _ _ (λ v octets rest are r. tt) (λ headed _.
-    has_join Any IsDeliverAck _ _ (λ v octets rest are r. tt) (λ there _.
-    has_join AreParts IsDeliverAck _ _ (has_parts there) (λ those fits.
+    has_chain Any IsDeliverAck _ _ (λ v octets rest are r. tt) (λ headed _.
+    has_chain Any IsDeliverAck _ _ (λ v octets rest are r. tt) (λ there _.
+    has_chain AreParts IsDeliverAck _ _ (has_parts there) (λ those fits.
     λ v octets rest are r. subst IsDeliverAck (sym r.0) (record { parts = fits }))))
 
 pub has_deliver_error : Has IsDeliverError deliver_error
 unfolding deliver_error
 has_deliver_error =
-    has_join Any IsDeliverError _ _ (λ v octets rest are r. tt) (λ headed _.
-    has_join (λ octet. octet < 256) IsDeliverError _ _ (has_octet Short) (λ cause small.
-    has_join Any IsDeliverError _ _ (λ v octets rest are r. tt) (λ there _.
-    has_join AreParts IsDeliverError _ _ (has_parts there) (λ those fits.
+    has_chain Any IsDeliverError _ _ (λ v octets rest are r. tt) (λ headed _.
+    has_chain (λ octet. octet < 256) IsDeliverError _ _ (has_octet Short) (λ cause small.
+    has_chain Any IsDeliverError _ _ (λ v octets rest are r. tt) (λ there _.
+    has_chain AreParts IsDeliverError _ _ (has_parts there) (λ those fits.
     λ v octets rest are r. subst IsDeliverError (sym r.0) (record { cause = small; parts = fits })))))
 
 pub has_header : Has IsHeader header
 unfolding header
-has_header = has_join (λ size. size ≤ 139) IsHeader _ _ (has_up_to Short 139 HeaderTooLong) (λ size few. λ v octets rest are r. (subst (λ (n : ℕ). n ≤ 139) (sym r.1) few, subst IsOctets r.0 are))
+has_header = has_chain (λ size. size ≤ 139) IsHeader _ _ (has_up_to Short 139 HeaderTooLong) (λ size few. λ v octets rest are r. (subst (λ (n : ℕ). n ≤ 139) (sym r.1) few, subst IsOctets r.0 are))

@@ -5,7 +5,7 @@ use Rattle.sms_field.specs.Address.{address}
 use Rattle.sms_field.specs.Coding.{alphabet_at}
 use Rattle.sms_field.specs.ReadableLaws.{unread}
 use Rattle.sms_field.specs.Reasons.{Never}
-use Rattle.sms_field.specs.ReasonLaws.{never_join, never_by, never_map_reason, up_to_apart, starts_as, no_other, starts_apart}
+use Rattle.sms_field.specs.ReasonLaws.{never_chain, never_by, never_map_reason, up_to_apart, starts_as, no_other, starts_apart}
 use Rattle.sms_field.specs.declared.coding.Alphabet.{Alphabet}
 use Rattle.sms_field.specs.declared.fault.FieldFault.{FieldFault}
 use Rattle.sms_field.specs.declared.fault.FieldFault.TheVariants as fields
@@ -57,24 +57,24 @@ header_apart false n e = cc
 never_user : (header : Bool) (alphabet : Alphabet) → Never WrongType (user_data header alphabet)
 unfolding user_data
 never_user false alphabet =
-    never_join _ _ _ (never_by _ Short _ (λ o e. up_to_apart DataTooLong WrongType _ o (λ s. cc) e)) (λ count.
-    never_join _ _ _ (λ f o h. h) (λ octets. λ f o h. h))
+    never_chain _ _ _ (never_by _ Short _ (λ o e. up_to_apart DataTooLong WrongType _ o (λ s. cc) e)) (λ count.
+    never_chain _ _ _ (λ f o h. h) (λ octets. λ f o h. h))
 never_user true alphabet =
-    never_join _ _ _ (never_by _ Short (length_with_header alphabet) (λ o e. length_apart _ _ o e)) (λ count.
-    never_join _ _ _ (never_by _ Short (header_length alphabet count) (λ o e. header_apart _ o e)) (λ size.
-    never_join _ _ _ (λ f o h. h) (λ header.
-    never_join _ _ _ (λ f o h. h) (λ octets. λ f o h. h))))
+    never_chain _ _ _ (never_by _ Short (length_with_header alphabet) (λ o e. length_apart _ _ o e)) (λ count.
+    never_chain _ _ _ (never_by _ Short (header_length alphabet count) (λ o e. header_apart _ o e)) (λ size.
+    never_chain _ _ _ (λ f o h. h) (λ header.
+    never_chain _ _ _ (λ f o h. h) (λ octets. λ f o h. h))))
 
 never_validity : (format : ValidityFormat) → Never WrongType (validity format)
 unfolding validity
 never_validity Absent = λ f o h. h
-never_validity Relative = never_join _ _ _ (λ f o h. h) (λ v. λ f o h. h)
-never_validity Enhanced = never_join _ _ _ (λ f o h. h) (λ v. λ f o h. h)
-never_validity Absolute = never_join _ _ _ (λ f o h. h) (λ v. λ f o h. h)
+never_validity Relative = never_chain _ _ _ (λ f o h. h) (λ v. λ f o h. h)
+never_validity Enhanced = never_chain _ _ _ (λ f o h. h) (λ v. λ f o h. h)
+never_validity Absolute = never_chain _ _ _ (λ f o h. h) (λ v. λ f o h. h)
 
 never_indicator : Never WrongType indicator
 unfolding indicator
-never_indicator = never_join _ _ _ (λ f o h. h) (λ first. never_join _ _ _ (λ f o h. h) (λ skipped. λ f o h. h))
+never_indicator = never_chain _ _ _ (λ f o h. h) (λ first. never_chain _ _ _ (λ f o h. h) (λ skipped. λ f o h. h))
 
 report_apart : (b : Bool) (n : ℕ) → cond b (Ok n) (Err DataTooLong) ≡ Err WrongType → ⊥
 report_apart true n e = cc
@@ -83,19 +83,19 @@ report_apart false n e = cc
 never_report_data : (alphabet : Alphabet) → Never WrongType (report_data alphabet)
 unfolding report_data
 never_report_data alphabet =
-    never_join _ _ _ (never_by _ Short (report_length alphabet) (λ o e. report_apart _ o e)) (λ count.
-    never_join _ _ _ (λ f o h. h) (λ octets. λ f o h. h))
+    never_chain _ _ _ (never_by _ Short (report_length alphabet) (λ o e. report_apart _ o e)) (λ count.
+    never_chain _ _ _ (λ f o h. h) (λ octets. λ f o h. h))
 
 never_part : {V : Type 0} (there : Bool) (part : Field V UnitFault) → Never WrongType part → Never WrongType (part_if there part)
 never_part false part n = λ f o h. h
-never_part true part n = never_join _ _ _ n (λ value. λ f o h. h)
+never_part true part n = never_chain _ _ _ n (λ value. λ f o h. h)
 
 never_parts : (there : Indicator) → Never WrongType (parts there)
 unfolding parts
 never_parts there =
-    never_join _ _ _ (never_part there.pid (octet Short) (λ f o h. h)) (λ pid.
-    never_join _ _ _ (never_part there.dcs (octet Short) (λ f o h. h)) (λ dcs.
-    never_join _ _ _ (never_part there.user (report_data (report_alphabet dcs)) (never_report_data (report_alphabet dcs))) (λ user.
+    never_chain _ _ _ (never_part there.pid (octet Short) (λ f o h. h)) (λ pid.
+    never_chain _ _ _ (never_part there.dcs (octet Short) (λ f o h. h)) (λ dcs.
+    never_chain _ _ _ (never_part there.user (report_data (report_alphabet dcs)) (never_report_data (report_alphabet dcs))) (λ user.
     λ f o h. h)))
 
 -- ---- the units
@@ -104,51 +104,51 @@ pub submit_tells : TellsOtherTypes submit submit_flags
 unfolding submit
 submit_tells =
     tells_by submit_flags _ (λ flags.
-    never_join _ _ _ (λ f o h. h) (λ reference.
-    never_join _ _ _ (never_map_reason _ unit_fault address field_apart) (λ target.
-    never_join _ _ _ (λ f o h. h) (λ pid.
-    never_join _ _ _ (λ f o h. h) (λ dcs.
-    never_join _ _ _ (never_validity flags.format) (λ period.
-    never_join _ _ _ (never_user flags.header (alphabet_at dcs)) (λ user. λ f o h. h)))))))
+    never_chain _ _ _ (λ f o h. h) (λ reference.
+    never_chain _ _ _ (never_map_reason _ unit_fault address field_apart) (λ target.
+    never_chain _ _ _ (λ f o h. h) (λ pid.
+    never_chain _ _ _ (λ f o h. h) (λ dcs.
+    never_chain _ _ _ (never_validity flags.format) (λ period.
+    never_chain _ _ _ (never_user flags.header (alphabet_at dcs)) (λ user. λ f o h. h)))))))
 
 pub deliver_tells : TellsOtherTypes deliver deliver_flags
 unfolding deliver
 deliver_tells =
     tells_by deliver_flags _ (λ flags.
-    never_join _ _ _ (never_map_reason _ unit_fault address field_apart) (λ origin.
-    never_join _ _ _ (λ f o h. h) (λ pid.
-    never_join _ _ _ (λ f o h. h) (λ dcs.
-    never_join _ _ _ (λ f o h. h) (λ stamp.
-    never_join _ _ _ (never_user flags.header (alphabet_at dcs)) (λ user. λ f o h. h))))))
+    never_chain _ _ _ (never_map_reason _ unit_fault address field_apart) (λ origin.
+    never_chain _ _ _ (λ f o h. h) (λ pid.
+    never_chain _ _ _ (λ f o h. h) (λ dcs.
+    never_chain _ _ _ (λ f o h. h) (λ stamp.
+    never_chain _ _ _ (never_user flags.header (alphabet_at dcs)) (λ user. λ f o h. h))))))
 
 pub submit_ack_tells : TellsOtherTypes submit_ack submit_report
 unfolding submit_ack
 submit_ack_tells =
     tells_by submit_report _ (λ header.
-    never_join _ _ _ never_indicator (λ there.
-    never_join _ _ _ (λ f o h. h) (λ stamp.
-    never_join _ _ _ (never_parts there) (λ those. λ f o h. h))))
+    never_chain _ _ _ never_indicator (λ there.
+    never_chain _ _ _ (λ f o h. h) (λ stamp.
+    never_chain _ _ _ (never_parts there) (λ those. λ f o h. h))))
 
 pub submit_error_tells : TellsOtherTypes submit_error submit_report
 unfolding submit_error
 submit_error_tells =
     tells_by submit_report _ (λ header.
-    never_join _ _ _ (λ f o h. h) (λ cause.
-    never_join _ _ _ never_indicator (λ there.
-    never_join _ _ _ (λ f o h. h) (λ stamp.
-    never_join _ _ _ (never_parts there) (λ those. λ f o h. h)))))
+    never_chain _ _ _ (λ f o h. h) (λ cause.
+    never_chain _ _ _ never_indicator (λ there.
+    never_chain _ _ _ (λ f o h. h) (λ stamp.
+    never_chain _ _ _ (never_parts there) (λ those. λ f o h. h)))))
 
 pub deliver_ack_tells : TellsOtherTypes deliver_ack deliver_report
 unfolding deliver_ack
 deliver_ack_tells =
     tells_by deliver_report _ (λ header.
-    never_join _ _ _ never_indicator (λ there.
-    never_join _ _ _ (never_parts there) (λ those. λ f o h. h)))
+    never_chain _ _ _ never_indicator (λ there.
+    never_chain _ _ _ (never_parts there) (λ those. λ f o h. h)))
 
 pub deliver_error_tells : TellsOtherTypes deliver_error deliver_report
 unfolding deliver_error
 deliver_error_tells =
     tells_by deliver_report _ (λ header.
-    never_join _ _ _ (λ f o h. h) (λ cause.
-    never_join _ _ _ never_indicator (λ there.
-    never_join _ _ _ (never_parts there) (λ those. λ f o h. h))))
+    never_chain _ _ _ (λ f o h. h) (λ cause.
+    never_chain _ _ _ never_indicator (λ there.
+    never_chain _ _ _ (never_parts there) (λ those. λ f o h. h))))

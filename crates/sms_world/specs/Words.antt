@@ -7,7 +7,7 @@ use Rattle.sms_party.specs.declared.outcome.Dropped.{Dropped}
 use Rattle.sms_party.specs.declared.outcome.Dropped.TheVariants.{NotCp, Unmatched, Busy, Memory, TooManySegments}
 use Rattle.sms_party.specs.declared.sender.Status.{Status}
 use Rattle.sms_party.specs.declared.sender.Status.TheVariants as status
-use Rattle.sms_script.specs.Transcript.Joined.{◌⊕◌}
+use Rattle.sms_script.specs.Transcript.Appended.{◌⊕◌}
 use Rattle.sms_world.specs.declared.fault.WorldFault.{WorldFault}
 use Rattle.sms_world.specs.declared.fault.WorldFault.TheVariants.{NoSuchPacket, NoSuchPhone, ClockEnd, Party}
 use Rattle.sms_world.specs.Told.{Told}

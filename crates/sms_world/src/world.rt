@@ -190,7 +190,7 @@ impl World {
         Ok(keep(&mut self.packets, false, phone, step))
     }
 
-    /// The clock moves on by so many seconds. It takes no memory.
+    /// The clock moves on by some seconds. It takes no memory.
     fn tick(&mut self, seconds: u64) -> Result<Outcome, WorldFault>
         ensures steps { Steps (Tick seconds) self.old result self.new }
         ensures phones { length self.new.parties.phones ≡ length self.old.parties.phones }

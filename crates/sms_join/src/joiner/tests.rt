@@ -22,7 +22,7 @@ enum Want {
 
 /// The units of a piece.
 #[derive(Clone, Copy)]
-enum Piece {
+enum PieceUnits {
     Gsm(&'static str),
     Ucs2(u16),
 }
@@ -76,13 +76,13 @@ fn letters(alloc: Global, count: usize) -> Result<String, AllocError> {
 }
 
 /// The units of a piece; none where the default alphabet lacks a letter of it.
-fn units_of(alloc: Global, piece: Piece) -> Result<Units, AllocError> {
+fn units_of(alloc: Global, piece: PieceUnits) -> Result<Units, AllocError> {
     match piece {
-        Piece::Gsm(text) => match gsm_of(alloc, text)? {
+        PieceUnits::Gsm(text) => match gsm_of(alloc, text)? {
             Some(septets) => Ok(Units::Gsm(Septets::new(septets))),
             None => Ok(Units::Gsm(Septets::new(Vec::new(alloc)))),
         },
-        Piece::Ucs2(unit) => Ok(Units::Ucs2(Ucs2Units::new(vec![in alloc; unit]?))),
+        PieceUnits::Ucs2(unit) => Ok(Units::Ucs2(Ucs2Units::new(vec![in alloc; unit]?))),
     }
 }
 
@@ -130,7 +130,7 @@ struct Row {
     shows: &'static str,
     from: &'static str,
     place: Option<Concat>,
-    piece: Piece,
+    piece: PieceUnits,
     want: Want,
 }
 
@@ -146,7 +146,7 @@ impl Row {
             shows,
             from: "+1001",
             place,
-            piece: Piece::Gsm(letters),
+            piece: PieceUnits::Gsm(letters),
             want,
         }
     }
@@ -242,7 +242,7 @@ fn keeps_sets_apart(rt: HostRuntime) -> Result<(), Fail> {
             shows: "without a plus",
             from: "1001",
             place: of_two(eight, 7, 1),
-            piece: Piece::Gsm("a"),
+            piece: PieceUnits::Gsm("a"),
             want: Want::Kept,
         },
         Row::letters("another origin", of_two(eight, 7, 1), "x", Want::Kept),
@@ -253,14 +253,14 @@ fn keeps_sets_apart(rt: HostRuntime) -> Result<(), Fail> {
             shows: "still open",
             from: "1001",
             place: of_two(eight, 7, 1),
-            piece: Piece::Gsm("c"),
+            piece: PieceUnits::Gsm("c"),
             want: Want::Repeat,
         },
         Row {
             shows: "without a plus, the last",
             from: "1001",
             place: of_two(eight, 7, 2),
-            piece: Piece::Gsm("b"),
+            piece: PieceUnits::Gsm("b"),
             want: Want::Finished("ab"),
         },
         Row::letters(
@@ -273,7 +273,7 @@ fn keeps_sets_apart(rt: HostRuntime) -> Result<(), Fail> {
             shows: "both alphabets",
             from: "+1001",
             place: of_two(sixteen, 263, 1),
-            piece: Piece::Ucs2(0x4F60),
+            piece: PieceUnits::Ucs2(0x4F60),
             want: Want::Finished("你q"),
         },
     ];
@@ -366,7 +366,7 @@ fn answers_after_a_refused_growth(rt: HostRuntime) -> Result<(), Fail> {
             shows: "both alphabets",
             from: "+1001",
             place: of_two(eight, 8, 2),
-            piece: Piece::Ucs2(0x4F60),
+            piece: PieceUnits::Ucs2(0x4F60),
             want: Want::Finished("x你"),
         },
     ];

@@ -33,7 +33,7 @@ pub record TextIs (phone number : ℕ) (texts : List Text) (v : TextValue) (n : 
   pub width_is : v.width ≡ text.width
   pub set_reference_is : v.set_reference ≡ text.set_reference
 
--- the texts that have not ended, after so many that have
+-- the texts that have not ended; the number says how many have
 abbrev pub ArePending : ℕ → ℕ → List Text → List TextValue → List ℕ → Type 0
 ArePending phone ended texts [] [] = Unit {0}
 ArePending phone ended texts (v ∷ vs) (n ∷ ns) = TextIs phone (suc ended) texts v n × ArePending phone (suc ended) texts vs ns

@@ -214,7 +214,7 @@ static REFUSED: [Row; 6] = [
         packets: &[FIRST],
     },
     Row {
-        name: "typed behind it",
+        name: "typed after it",
         call: Call::Type { text: "hi" },
         answer: Ok(Outcome::Typed { text: 2 }),
         packets: &[],
@@ -365,7 +365,7 @@ fn letters(alloc: Global, count: usize) -> Result<String, Fail> {
     Ok(text)
 }
 
-/// A packet with the groups of seven octets that eight letters `a` are packed into, behind its first octets.
+/// A packet with the groups of seven octets that eight letters `a` are packed into, after its first octets.
 fn with_letters(alloc: Global, front: &[u8], groups: usize, back: &[u8]) -> Result<Vec<u8>, Fail> {
     let mut packet = Vec::from_slice(alloc, front)?;
     for _ in 0..groups {

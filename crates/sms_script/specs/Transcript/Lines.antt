@@ -5,7 +5,7 @@ use Rattle.hex.specs.Hex.{encode_upper}
 use Rattle.sms_field.specs.AddressText.{address_text}
 use Rattle.sms_field.specs.AddressValue.{AddressValue}
 use Rattle.sms_script.specs.Transcript.Escapes.{escaped}
-use Rattle.sms_script.specs.Transcript.Joined.{◌⊕◌}
+use Rattle.sms_script.specs.Transcript.Appended.{◌⊕◌}
 
 -- a packet: from a phone up to the centre, or from the centre down to the phone
 pub record PacketValue : Type 0 where

@@ -3,13 +3,13 @@ use Rattle.std.proofs.Common.{◌≡◌, ℕ, ◌+◌, ◌<◌, ◌||◌, Bool, 
 use Rattle.sms_text.specs.Octets.{IsOctets}
 use Rattle.sms_field.specs.Bit.{bit}
 use Rattle.sms_field.specs.BitLaws.{AreBits, summed_bits}
-use Rattle.sms_field.specs.JoinedReading.{joined, ended}
+use Rattle.sms_field.specs.ChainReading.{chained, ended}
 use Rattle.sms_field.specs.Field.{IsLawful}
 use Rattle.sms_tpdu.specs.UnitLaws.{AreUnitLaws}
 use Rattle.sms_field.specs.Address.{address, address_octets}
 use Rattle.sms_field.specs.Coding.{alphabet_at}
 use Rattle.sms_field.specs.declared.fault.FieldFault.TheVariants as fields
-use Rattle.sms_field.specs.JoinLaws.{join_lawful}
+use Rattle.sms_field.specs.ChainLaws.{chain_lawful}
 use Rattle.sms_field.specs.OctetLists.{octets-append}
 use Rattle.sms_field.specs.SingleLaws.{always_lawful, octet_self, octet_lawful, octet_by_self, octet_by_lawful, octets_of_self, octets_of_lawful, map_reason_lawful}
 use Rattle.sms_field.specs.AddressLaws.{address_self, address_lawful}
@@ -33,12 +33,12 @@ flags_apart o e = flags_apart_from (bit 0 o || bit 1 o) _ e
 pub deliver_lawful : IsLawful Short deliver
 unfolding deliver
 deliver_lawful =
-    join_lawful _ _ Short (octet_by_self Short deliver_flags) (octet_by_lawful Short deliver_flags (0, lit< tt, _, refl) flags_apart) (λ flags _ _ _.
-    join_lawful _ _ Short address_self (map_reason_lawful fields.Short unit_fault fault_apart address address_lawful) (λ origin _ _ _.
-    join_lawful _ _ Short (octet_self Short) (octet_lawful Short) (λ pid _ _ _.
-    join_lawful _ _ Short (octet_self Short) (octet_lawful Short) (λ dcs _ _ _.
-    join_lawful _ _ Short (octets_of_self Short 7) (octets_of_lawful Short 7) (λ stamp _ _ _.
-    join_lawful _ _ Short (user_data_self flags.header (alphabet_at dcs)) (user_data_lawful flags.header (alphabet_at dcs)) (λ user _ _ _.
+    chain_lawful _ _ Short (octet_by_self Short deliver_flags) (octet_by_lawful Short deliver_flags (0, lit< tt, _, refl) flags_apart) (λ flags _ _ _.
+    chain_lawful _ _ Short address_self (map_reason_lawful fields.Short unit_fault fault_apart address address_lawful) (λ origin _ _ _.
+    chain_lawful _ _ Short (octet_self Short) (octet_lawful Short) (λ pid _ _ _.
+    chain_lawful _ _ Short (octet_self Short) (octet_lawful Short) (λ dcs _ _ _.
+    chain_lawful _ _ Short (octets_of_self Short 7) (octets_of_lawful Short 7) (λ stamp _ _ _.
+    chain_lawful _ _ Short (user_data_self flags.header (alphabet_at dcs)) (user_data_lawful flags.header (alphabet_at dcs)) (λ user _ _ _.
     always_lawful Short _))))))
 
 -- ---- what is written
@@ -59,11 +59,11 @@ deliver_again : (d : Delivery) (written rest : List ℕ) → IsDeliverable d →
     → deliver.reads d (deliver_octet (flags_in d) ∷ (address_octets d.origin ++ (d.pid ∷ d.dcs ∷ (d.stamp ++ written)))) rest
 unfolding deliver
 deliver_again d written rest fits p =
-    joined _ _ (flags_in d) d (deliver_octet (flags_in d) ∷ []) _ rest (deliver_octet (flags_in d), refl, flags_again (flags_in d)) (
-    joined _ _ d.origin d (address_octets d.origin) _ rest (address_again d.origin _ fits.origin) (
-    joined _ _ d.pid d (d.pid ∷ []) _ rest refl (
-    joined _ _ d.dcs d (d.dcs ∷ []) _ rest refl (
-    joined _ _ d.stamp d d.stamp written rest (refl, fits.stamp.0) (
+    chained _ _ (flags_in d) d (deliver_octet (flags_in d) ∷ []) _ rest (deliver_octet (flags_in d), refl, flags_again (flags_in d)) (
+    chained _ _ d.origin d (address_octets d.origin) _ rest (address_again d.origin _ fits.origin) (
+    chained _ _ d.pid d (d.pid ∷ []) _ rest refl (
+    chained _ _ d.dcs d (d.dcs ∷ []) _ rest refl (
+    chained _ _ d.stamp d d.stamp written rest (refl, fits.stamp.0) (
     ended _ _ d.user d written rest (user_data_again (alphabet_at d.dcs) d.user written rest fits.user p)
     (refl, refl))))))
 

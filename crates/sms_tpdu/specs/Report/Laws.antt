@@ -6,11 +6,11 @@ use Rattle.sms_text.specs.Octets.{IsOctets}
 use Rattle.sms_field.specs.Field.{Field, octet, IsSelfContained, IsLawful}
 use Rattle.sms_field.specs.declared.coding.Alphabet.{Alphabet}
 use Rattle.sms_field.specs.declared.coding.Alphabet.TheVariants.{Gsm7, EightBit, Ucs2, Compressed}
-use Rattle.sms_field.specs.JoinLaws.{join_lawful, join_self_contained}
+use Rattle.sms_field.specs.ChainLaws.{chain_lawful, chain_self_contained}
 use Rattle.sms_field.specs.OctetLists.{octets-append}
 use Rattle.sms_field.specs.SingleLaws.{always_self, always_lawful, octet_self, octet_lawful, octet_by_self, octet_by_lawful, octets_of_self, octets_of_lawful, apart_else}
 use Rattle.sms_tpdu.specs.UserData.Lengths.{octets_of_length}
-use Rattle.sms_field.specs.JoinedReading.{joined, ended}
+use Rattle.sms_field.specs.ChainReading.{chained, ended}
 use Rattle.sms_tpdu.specs.Report.{Parts, report_length, report_data, IsReportData, report_data_octets, part_if, report_alphabet, parts, indicator_of, AreParts, octet_if_some, data_if_some, parts_octets}
 use Rattle.sms_tpdu.specs.declared.report.indicator.Indicator.{Indicator}
 use Rattle.sms_tpdu.specs.declared.report.ReportData.{ReportData}
@@ -28,15 +28,15 @@ any_length Compressed = refl
 report_data_self : (alphabet : Alphabet) → IsSelfContained (report_data alphabet)
 unfolding report_data
 report_data_self alphabet =
-    join_self_contained _ _ (octet_by_self Short (report_length alphabet)) (λ count.
-    join_self_contained _ _ (octets_of_self Short (octets_of_length alphabet count)) (λ octets.
+    chain_self_contained _ _ (octet_by_self Short (report_length alphabet)) (λ count.
+    chain_self_contained _ _ (octets_of_self Short (octets_of_length alphabet count)) (λ octets.
     always_self UnitFault _))
 
 report_data_lawful : (alphabet : Alphabet) → IsLawful Short (report_data alphabet)
 unfolding report_data
 report_data_lawful alphabet =
-    join_lawful _ _ Short (octet_by_self Short (report_length alphabet)) (octet_by_lawful Short (report_length alphabet) (0, lit< tt, 0, any_length alphabet) (λ o. apart_else Short (leb (octets_of_length alphabet o) 159) o DataTooLong (λ e. cc))) (λ count _ _ _.
-    join_lawful _ _ Short (octets_of_self Short (octets_of_length alphabet count)) (octets_of_lawful Short (octets_of_length alphabet count)) (λ octets _ _ _.
+    chain_lawful _ _ Short (octet_by_self Short (report_length alphabet)) (octet_by_lawful Short (report_length alphabet) (0, lit< tt, 0, any_length alphabet) (λ o. apart_else Short (leb (octets_of_length alphabet o) 159) o DataTooLong (λ e. cc))) (λ count _ _ _.
+    chain_lawful _ _ Short (octets_of_self Short (octets_of_length alphabet count)) (octets_of_lawful Short (octets_of_length alphabet count)) (λ octets _ _ _.
     always_lawful Short _))
 
 few_octets : (alphabet : Alphabet) (count : ℕ) → octets_of_length alphabet count ≤ 159 → report_length alphabet count ≡ Ok count
@@ -48,7 +48,7 @@ counted alphabet user fits = rw fits.counted at fits.few
 report_data_again : (alphabet : Alphabet) (user : ReportData) (rest : List ℕ) → IsReportData alphabet user → (report_data alphabet).reads user (report_data_octets user) rest
 unfolding report_data
 report_data_again alphabet user rest fits =
-    joined _ _ user.length user (user.length ∷ []) user.octets rest (user.length, refl, few_octets alphabet user.length (counted alphabet user fits)) (
+    chained _ _ user.length user (user.length ∷ []) user.octets rest (user.length, refl, few_octets alphabet user.length (counted alphabet user fits)) (
     ended _ _ user.octets user user.octets rest (refl, fits.counted)
     (refl, refl))
 
@@ -56,11 +56,11 @@ report_data_again alphabet user rest fits =
 
 part_if_self : {V W : Type 0} (there : Bool) (part : Field V W) → IsSelfContained part → IsSelfContained (part_if there part)
 part_if_self {V} {W} false part self = always_self W _
-part_if_self {V} {W} true part self = join_self_contained _ _ self (λ value. always_self W _)
+part_if_self {V} {W} true part self = chain_self_contained _ _ self (λ value. always_self W _)
 
 part_if_lawful : {V W : Type 0} (short : W) (there : Bool) (part : Field V W) → IsSelfContained part → IsLawful short part → IsLawful short (part_if there part)
 part_if_lawful short false part self law = always_lawful short _
-part_if_lawful short true part self law = join_lawful _ _ short self law (λ value _ _ _. always_lawful short _)
+part_if_lawful short true part self law = chain_lawful _ _ short self law (λ value _ _ _. always_lawful short _)
 
 octet_again : (value : Option ℕ) (rest : List ℕ) → (part_if (is_some value) (octet Short)).reads value (octet_if_some value) rest
 octet_again None rest = (refl, refl)
@@ -75,24 +75,24 @@ data_again alphabet (Some user) rest fits = ended _ _ user (Some user) (report_d
 pub parts_self : (there : Indicator) → IsSelfContained (parts there)
 unfolding parts
 parts_self there =
-    join_self_contained _ _ (part_if_self there.pid (octet Short) (octet_self Short)) (λ pid.
-    join_self_contained _ _ (part_if_self there.dcs (octet Short) (octet_self Short)) (λ dcs.
-    join_self_contained _ _ (part_if_self there.user (report_data (report_alphabet dcs)) (report_data_self (report_alphabet dcs))) (λ user.
+    chain_self_contained _ _ (part_if_self there.pid (octet Short) (octet_self Short)) (λ pid.
+    chain_self_contained _ _ (part_if_self there.dcs (octet Short) (octet_self Short)) (λ dcs.
+    chain_self_contained _ _ (part_if_self there.user (report_data (report_alphabet dcs)) (report_data_self (report_alphabet dcs))) (λ user.
     always_self UnitFault _)))
 
 pub parts_lawful : (there : Indicator) → IsLawful Short (parts there)
 unfolding parts
 parts_lawful there =
-    join_lawful _ _ Short (part_if_self there.pid (octet Short) (octet_self Short)) (part_if_lawful Short there.pid (octet Short) (octet_self Short) (octet_lawful Short)) (λ pid _ _ _.
-    join_lawful _ _ Short (part_if_self there.dcs (octet Short) (octet_self Short)) (part_if_lawful Short there.dcs (octet Short) (octet_self Short) (octet_lawful Short)) (λ dcs _ _ _.
-    join_lawful _ _ Short (part_if_self there.user (report_data (report_alphabet dcs)) (report_data_self (report_alphabet dcs))) (part_if_lawful Short there.user (report_data (report_alphabet dcs)) (report_data_self (report_alphabet dcs)) (report_data_lawful (report_alphabet dcs))) (λ user _ _ _.
+    chain_lawful _ _ Short (part_if_self there.pid (octet Short) (octet_self Short)) (part_if_lawful Short there.pid (octet Short) (octet_self Short) (octet_lawful Short)) (λ pid _ _ _.
+    chain_lawful _ _ Short (part_if_self there.dcs (octet Short) (octet_self Short)) (part_if_lawful Short there.dcs (octet Short) (octet_self Short) (octet_lawful Short)) (λ dcs _ _ _.
+    chain_lawful _ _ Short (part_if_self there.user (report_data (report_alphabet dcs)) (report_data_self (report_alphabet dcs))) (part_if_lawful Short there.user (report_data (report_alphabet dcs)) (report_data_self (report_alphabet dcs)) (report_data_lawful (report_alphabet dcs))) (λ user _ _ _.
     always_lawful Short _)))
 
 pub parts_again : (those : Parts) (rest : List ℕ) → AreParts those → (parts (indicator_of those)).reads those (parts_octets those) rest
 unfolding parts
 parts_again those rest fits =
-    joined _ _ those.pid those (octet_if_some those.pid) _ rest (octet_again those.pid _) (
-    joined _ _ those.dcs those (octet_if_some those.dcs) _ rest (octet_again those.dcs _) (
+    chained _ _ those.pid those (octet_if_some those.pid) _ rest (octet_again those.pid _) (
+    chained _ _ those.dcs those (octet_if_some those.dcs) _ rest (octet_again those.dcs _) (
     ended _ _ those.user those (data_if_some those.user) rest (data_again (report_alphabet those.dcs) those.user rest fits.user)
     (refl, refl)))
 

@@ -3,13 +3,13 @@ use Rattle.std.proofs.Common.{◌≡◌, ℕ, ◌+◌, ◌<◌, ◌||◌, Bool, 
 use Rattle.sms_text.specs.Octets.{IsOctets}
 use Rattle.sms_field.specs.Bit.{bit}
 use Rattle.sms_field.specs.BitLaws.{AreBits, summed_bits}
-use Rattle.sms_field.specs.JoinedReading.{joined, ended}
+use Rattle.sms_field.specs.ChainReading.{chained, ended}
 use Rattle.sms_field.specs.Field.{IsLawful}
 use Rattle.sms_tpdu.specs.UnitLaws.{AreUnitLaws}
 use Rattle.sms_field.specs.Address.{address, address_octets}
 use Rattle.sms_field.specs.Coding.{alphabet_at}
 use Rattle.sms_field.specs.declared.fault.FieldFault.TheVariants as fields
-use Rattle.sms_field.specs.JoinLaws.{join_lawful}
+use Rattle.sms_field.specs.ChainLaws.{chain_lawful}
 use Rattle.sms_field.specs.OctetLists.{octets-append}
 use Rattle.sms_field.specs.SingleLaws.{always_lawful, octet_self, octet_lawful, octet_by_self, octet_by_lawful, map_reason_lawful}
 use Rattle.sms_field.specs.AddressLaws.{address_self, address_lawful}
@@ -37,13 +37,13 @@ flags_apart o e = flags_apart_from (bit 1 o || not (bit 0 o)) _ e
 pub submit_lawful : IsLawful Short submit
 unfolding submit
 submit_lawful =
-    join_lawful _ _ Short (octet_by_self Short submit_flags) (octet_by_lawful Short submit_flags (1, lit< tt, _, refl) flags_apart) (λ flags _ _ _.
-    join_lawful _ _ Short (octet_self Short) (octet_lawful Short) (λ reference _ _ _.
-    join_lawful _ _ Short address_self (map_reason_lawful fields.Short unit_fault fault_apart address address_lawful) (λ target _ _ _.
-    join_lawful _ _ Short (octet_self Short) (octet_lawful Short) (λ pid _ _ _.
-    join_lawful _ _ Short (octet_self Short) (octet_lawful Short) (λ dcs _ _ _.
-    join_lawful _ _ Short (validity_self flags.format) (validity_lawful flags.format) (λ period _ _ _.
-    join_lawful _ _ Short (user_data_self flags.header (alphabet_at dcs)) (user_data_lawful flags.header (alphabet_at dcs)) (λ user _ _ _.
+    chain_lawful _ _ Short (octet_by_self Short submit_flags) (octet_by_lawful Short submit_flags (1, lit< tt, _, refl) flags_apart) (λ flags _ _ _.
+    chain_lawful _ _ Short (octet_self Short) (octet_lawful Short) (λ reference _ _ _.
+    chain_lawful _ _ Short address_self (map_reason_lawful fields.Short unit_fault fault_apart address address_lawful) (λ target _ _ _.
+    chain_lawful _ _ Short (octet_self Short) (octet_lawful Short) (λ pid _ _ _.
+    chain_lawful _ _ Short (octet_self Short) (octet_lawful Short) (λ dcs _ _ _.
+    chain_lawful _ _ Short (validity_self flags.format) (validity_lawful flags.format) (λ period _ _ _.
+    chain_lawful _ _ Short (user_data_self flags.header (alphabet_at dcs)) (user_data_lawful flags.header (alphabet_at dcs)) (λ user _ _ _.
     always_lawful Short _)))))))
 
 -- ---- what is written
@@ -66,12 +66,12 @@ submit_again : (s : Submission) (written rest : List ℕ) → IsSubmittable s �
     → submit.reads s (submit_octet (flags_in s) ∷ s.reference ∷ (address_octets s.target ++ (s.pid ∷ s.dcs ∷ (validity_octets s.validity ++ written)))) rest
 unfolding submit
 submit_again s written rest fits p =
-    joined _ _ (flags_in s) s (submit_octet (flags_in s) ∷ []) _ rest (submit_octet (flags_in s), refl, flags_again (flags_in s)) (
-    joined _ _ s.reference s (s.reference ∷ []) _ rest refl (
-    joined _ _ s.target s (address_octets s.target) _ rest (address_again s.target _ fits.target) (
-    joined _ _ s.pid s (s.pid ∷ []) _ rest refl (
-    joined _ _ s.dcs s (s.dcs ∷ []) _ rest refl (
-    joined _ _ s.validity s (validity_octets s.validity) written rest (validity_again s.validity _ fits.validity) (
+    chained _ _ (flags_in s) s (submit_octet (flags_in s) ∷ []) _ rest (submit_octet (flags_in s), refl, flags_again (flags_in s)) (
+    chained _ _ s.reference s (s.reference ∷ []) _ rest refl (
+    chained _ _ s.target s (address_octets s.target) _ rest (address_again s.target _ fits.target) (
+    chained _ _ s.pid s (s.pid ∷ []) _ rest refl (
+    chained _ _ s.dcs s (s.dcs ∷ []) _ rest refl (
+    chained _ _ s.validity s (validity_octets s.validity) written rest (validity_again s.validity _ fits.validity) (
     ended _ _ s.user s written rest (user_data_again (alphabet_at s.dcs) s.user written rest fits.user p)
     (refl, refl)))))))
 

@@ -2,8 +2,8 @@
 use Rattle.std.proofs.Common.{ℕ, List, [], ◌∷◌, refl, sym}
 use Rattle.sms_text.specs.Octets.{IsOctets}
 use Rattle.sms_field.specs.Field.{IsLawful, IsSelfContained}
-use Rattle.sms_field.specs.JoinedReading.{ended}
-use Rattle.sms_field.specs.JoinLaws.{join_lawful, join_self_contained}
+use Rattle.sms_field.specs.ChainReading.{ended}
+use Rattle.sms_field.specs.ChainLaws.{chain_lawful, chain_self_contained}
 use Rattle.sms_field.specs.SingleLaws.{always_self, always_lawful, octet_self, octet_lawful, octets_of_self, octets_of_lawful}
 use Rattle.sms_field.specs.declared.validity.Validity.{Validity}
 use Rattle.sms_field.specs.declared.validity.Validity.TheVariants as period
@@ -16,16 +16,16 @@ use Rattle.sms_tpdu.specs.declared.submit.validity.ValidityFormat.TheVariants.{A
 pub validity_self : (format : ValidityFormat) → IsSelfContained (validity format)
 unfolding validity
 validity_self Absent = always_self UnitFault _
-validity_self Relative = join_self_contained _ _ (octet_self Short) (λ value. always_self UnitFault _)
-validity_self Enhanced = join_self_contained _ _ (octets_of_self Short 7) (λ values. always_self UnitFault _)
-validity_self Absolute = join_self_contained _ _ (octets_of_self Short 7) (λ end. always_self UnitFault _)
+validity_self Relative = chain_self_contained _ _ (octet_self Short) (λ value. always_self UnitFault _)
+validity_self Enhanced = chain_self_contained _ _ (octets_of_self Short 7) (λ values. always_self UnitFault _)
+validity_self Absolute = chain_self_contained _ _ (octets_of_self Short 7) (λ end. always_self UnitFault _)
 
 pub validity_lawful : (format : ValidityFormat) → IsLawful Short (validity format)
 unfolding validity
 validity_lawful Absent = always_lawful Short _
-validity_lawful Relative = join_lawful _ _ Short (octet_self Short) (octet_lawful Short) (λ value _ _ _. always_lawful Short _)
-validity_lawful Enhanced = join_lawful _ _ Short (octets_of_self Short 7) (octets_of_lawful Short 7) (λ values _ _ _. always_lawful Short _)
-validity_lawful Absolute = join_lawful _ _ Short (octets_of_self Short 7) (octets_of_lawful Short 7) (λ end _ _ _. always_lawful Short _)
+validity_lawful Relative = chain_lawful _ _ Short (octet_self Short) (octet_lawful Short) (λ value _ _ _. always_lawful Short _)
+validity_lawful Enhanced = chain_lawful _ _ Short (octets_of_self Short 7) (octets_of_lawful Short 7) (λ values _ _ _. always_lawful Short _)
+validity_lawful Absolute = chain_lawful _ _ Short (octets_of_self Short 7) (octets_of_lawful Short 7) (λ end _ _ _. always_lawful Short _)
 
 pub validity_again : (v : Validity) (rest : List ℕ) → IsInRange v → (validity (format_of v)).reads v (validity_octets v) rest
 unfolding validity

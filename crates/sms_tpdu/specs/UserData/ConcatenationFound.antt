@@ -25,10 +25,10 @@ told_by identifier _ = None
 abbrev pub last_told : ℕ → List ℕ → Option Concat → Option Concat
 last_told n [] last = last
 last_told n (identifier ∷ []) last = None
-last_told zero (identifier ∷ size ∷ behind) last = None
-last_told (suc n) (identifier ∷ size ∷ behind) last =
-    if nat_le size (length behind)
-    then last_told n (drop size behind) (option_or (told_by identifier (take size behind)) last)
+last_told zero (identifier ∷ size ∷ after) last = None
+last_told (suc n) (identifier ∷ size ∷ after) last =
+    if nat_le size (length after)
+    then last_told n (drop size after) (option_or (told_by identifier (take size after)) last)
     else None
 
 -- the place that the header of a unit tells, if it has one and that tells one

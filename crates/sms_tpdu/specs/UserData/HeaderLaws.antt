@@ -4,7 +4,7 @@ use Rattle.std.proofs.lemmas.Bool.{le-leb}
 use Rattle.sms_text.specs.Octets.{IsOctets}
 use Rattle.sms_field.specs.Field.{IsLawful}
 use Rattle.sms_field.specs.Address.{up_to}
-use Rattle.sms_field.specs.JoinLaws.{join_lawful}
+use Rattle.sms_field.specs.ChainLaws.{chain_lawful}
 use Rattle.sms_field.specs.SingleLaws.{octet_by_self, octet_by_lawful, octets_of_lawful, apart_else}
 use Rattle.sms_tpdu.specs.UnitLaws.{AreUnitLaws, laws_by}
 use Rattle.sms_tpdu.specs.UserData.Header.{IsHeader, header, SpellsHeader}
@@ -13,7 +13,7 @@ use Rattle.sms_tpdu.specs.declared.fault.UnitFault.TheVariants.{Short, HeaderToo
 pub header_lawful : IsLawful Short header
 unfolding header
 header_lawful =
-    join_lawful _ _ Short (octet_by_self Short (up_to 139 HeaderTooLong)) (octet_by_lawful Short (up_to 139 HeaderTooLong) (0, lit< tt, 0, refl) (λ o. apart_else Short (leb o 139) o HeaderTooLong (λ e. cc))) (λ size _ _ _.
+    chain_lawful _ _ Short (octet_by_self Short (up_to 139 HeaderTooLong)) (octet_by_lawful Short (up_to 139 HeaderTooLong) (0, lit< tt, 0, refl) (λ o. apart_else Short (leb o 139) o HeaderTooLong (λ e. cc))) (λ size _ _ _.
     octets_of_lawful Short size)
 
 few_octets : (n : ℕ) → n ≤ 139 → up_to 139 HeaderTooLong n ≡ Ok n

@@ -9,8 +9,8 @@ use Rattle.sms_field.specs.Field.{IsLawful, IsSelfContained}
 use Rattle.sms_field.specs.Address.{up_to}
 use Rattle.sms_field.specs.declared.coding.Alphabet.{Alphabet}
 use Rattle.sms_field.specs.declared.coding.Alphabet.TheVariants.{Gsm7, EightBit, Ucs2, Compressed}
-use Rattle.sms_field.specs.JoinedReading.{joined, ended}
-use Rattle.sms_field.specs.JoinLaws.{join_lawful, join_self_contained}
+use Rattle.sms_field.specs.ChainReading.{chained, ended}
+use Rattle.sms_field.specs.ChainLaws.{chain_lawful, chain_self_contained}
 use Rattle.sms_field.specs.OctetLists.{octets-append}
 use Rattle.sms_field.specs.SingleLaws.{always_self, always_lawful, octet_by_self, octet_by_lawful, octets_of_self, octets_of_lawful, apart_else}
 use Rattle.sms_tpdu.specs.UserData.Lengths.{greatest_length, octets_of_length, length_of_header, fill_bits}
@@ -57,27 +57,27 @@ length_apart false b o e = cc
 pub user_data_self : (headed : Bool) (alphabet : Alphabet) → IsSelfContained (user_data headed alphabet)
 unfolding user_data
 user_data_self false alphabet =
-    join_self_contained _ _ (octet_by_self Short (up_to (greatest_length alphabet) DataTooLong)) (λ count.
-    join_self_contained _ _ (octets_of_self Short (octets_of_length alphabet count)) (λ octets.
+    chain_self_contained _ _ (octet_by_self Short (up_to (greatest_length alphabet) DataTooLong)) (λ count.
+    chain_self_contained _ _ (octets_of_self Short (octets_of_length alphabet count)) (λ octets.
     always_self UnitFault _))
 user_data_self true alphabet =
-    join_self_contained _ _ (octet_by_self Short (length_with_header alphabet)) (λ count.
-    join_self_contained _ _ (octet_by_self Short (header_length alphabet count)) (λ size.
-    join_self_contained _ _ (octets_of_self Short size) (λ header.
-    join_self_contained _ _ (octets_of_self Short (octets_of_length alphabet count - (size + 1))) (λ octets.
+    chain_self_contained _ _ (octet_by_self Short (length_with_header alphabet)) (λ count.
+    chain_self_contained _ _ (octet_by_self Short (header_length alphabet count)) (λ size.
+    chain_self_contained _ _ (octets_of_self Short size) (λ header.
+    chain_self_contained _ _ (octets_of_self Short (octets_of_length alphabet count - (size + 1))) (λ octets.
     always_self UnitFault _))))
 
 pub user_data_lawful : (headed : Bool) (alphabet : Alphabet) → IsLawful Short (user_data headed alphabet)
 unfolding user_data
 user_data_lawful false alphabet =
-    join_lawful _ _ Short (octet_by_self Short (up_to (greatest_length alphabet) DataTooLong)) (octet_by_lawful Short (up_to (greatest_length alphabet) DataTooLong) (0, lit< tt, 0, any_length alphabet) (λ o. apart_else Short (leb o (greatest_length alphabet)) o DataTooLong (λ e. cc))) (λ count _ _ _.
-    join_lawful _ _ Short (octets_of_self Short (octets_of_length alphabet count)) (octets_of_lawful Short (octets_of_length alphabet count)) (λ octets _ _ _.
+    chain_lawful _ _ Short (octet_by_self Short (up_to (greatest_length alphabet) DataTooLong)) (octet_by_lawful Short (up_to (greatest_length alphabet) DataTooLong) (0, lit< tt, 0, any_length alphabet) (λ o. apart_else Short (leb o (greatest_length alphabet)) o DataTooLong (λ e. cc))) (λ count _ _ _.
+    chain_lawful _ _ Short (octets_of_self Short (octets_of_length alphabet count)) (octets_of_lawful Short (octets_of_length alphabet count)) (λ octets _ _ _.
     always_lawful Short _))
 user_data_lawful true alphabet =
-    join_lawful _ _ Short (octet_by_self Short (length_with_header alphabet)) (octet_by_lawful Short (length_with_header alphabet) (140, lit< tt, 140, length_for_any alphabet) (λ o. length_apart (leb o (greatest_length alphabet)) (leb (length_of_header alphabet 1) o) o)) (λ count octets rest p.
-    join_lawful _ _ Short (octet_by_self Short (header_length alphabet count)) (octet_by_lawful Short (header_length alphabet count) (0, lit< tt, 0, has_room alphabet p.0 count p.2) (λ o. apart_else Short (leb (length_of_header alphabet (o + 1)) count) o HeaderTooLong (λ e. cc))) (λ size _ _ _.
-    join_lawful _ _ Short (octets_of_self Short size) (octets_of_lawful Short size) (λ header _ _ _.
-    join_lawful _ _ Short (octets_of_self Short (octets_of_length alphabet count - (size + 1))) (octets_of_lawful Short (octets_of_length alphabet count - (size + 1))) (λ octets _ _ _.
+    chain_lawful _ _ Short (octet_by_self Short (length_with_header alphabet)) (octet_by_lawful Short (length_with_header alphabet) (140, lit< tt, 140, length_for_any alphabet) (λ o. length_apart (leb o (greatest_length alphabet)) (leb (length_of_header alphabet 1) o) o)) (λ count octets rest p.
+    chain_lawful _ _ Short (octet_by_self Short (header_length alphabet count)) (octet_by_lawful Short (header_length alphabet count) (0, lit< tt, 0, has_room alphabet p.0 count p.2) (λ o. apart_else Short (leb (length_of_header alphabet (o + 1)) count) o HeaderTooLong (λ e. cc))) (λ size _ _ _.
+    chain_lawful _ _ Short (octets_of_self Short size) (octets_of_lawful Short size) (λ header _ _ _.
+    chain_lawful _ _ Short (octets_of_self Short (octets_of_length alphabet count - (size + 1))) (octets_of_lawful Short (octets_of_length alphabet count - (size + 1))) (λ octets _ _ _.
     always_lawful Short _))))
 
 -- ---- what is written
@@ -145,7 +145,7 @@ unfolding user_data
 data_again alphabet None b written rest h =
     let count : ℕ = data_length 0 b in
     let user : UserData = record { header = None; body = b } in
-    joined _ _ count user (count ∷ []) written rest (count, refl, counted (greatest_length alphabet) count h.few) (
+    chained _ _ count user (count ∷ []) written rest (count, refl, counted (greatest_length alphabet) count h.few) (
     ended _ _ written user written rest (refl, omega (arith, h.size))
     (ap (λ (x : Body). let v : UserData = record { header = None; body = x } in v) (sym h.same), refl))
 data_again alphabet (Some header) b written rest h =
@@ -156,9 +156,9 @@ data_again alphabet (Some header) b written rest h =
     let room : length_of_header alphabet (size + 1) ≤ count = subst (λ (n : ℕ). length_of_header alphabet n ≤ count) next h.room in
     let left : length written ≡ octets_of_length alphabet count - (size + 1) = subst (λ (n : ℕ). length written ≡ octets_of_length alphabet count - n) next h.size in
     let same : body_of alphabet (size + 1) count written ≡ b = subst (λ (n : ℕ). body_of alphabet n count written ≡ b) next h.same in
-    joined _ _ count user (count ∷ []) _ rest (count, refl, counted_with_header alphabet count h.few (omega (arith, some_room alphabet size, room))) (
-    joined _ _ size user (size ∷ []) _ rest (size, refl, fits_header alphabet count size room) (
-    joined _ _ header user header written rest (refl, refl) (
+    chained _ _ count user (count ∷ []) _ rest (count, refl, counted_with_header alphabet count h.few (omega (arith, some_room alphabet size, room))) (
+    chained _ _ size user (size ∷ []) _ rest (size, refl, fits_header alphabet count size room) (
+    chained _ _ header user header written rest (refl, refl) (
     ended _ _ written user written rest (refl, left)
     (ap (λ (x : Body). let v : UserData = record { header = Some header; body = x } in v) (sym same), refl))))
 

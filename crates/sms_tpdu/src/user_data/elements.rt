@@ -45,10 +45,10 @@ impl<'a> Iterator for Elements<'a> {
     ghost next_gives = { GivesElement };
 
     fn next(&mut self) -> Option<HeaderElement<'a>> {
-        let [identifier, length, behind @ ..] = self.rest else {
+        let [identifier, length, after @ ..] = self.rest else {
             return None;
         };
-        let (octets, rest) = behind.split_at(usize::from(*length));
+        let (octets, rest) = after.split_at(usize::from(*length));
         self.rest = rest;
         Some(HeaderElement {
             identifier: *identifier,
@@ -64,12 +64,12 @@ impl<'a> HeaderView<'a> {
     {
         let header = self.as_slice();
         let mut rest = header;
-        while let [_, length, behind @ ..] = rest {
+        while let [_, length, after @ ..] = rest {
             let length = usize::from(*length);
-            if behind.len() < length {
+            if after.len() < length {
                 return Elements { rest: &[] };
             }
-            let (_, others) = behind.split_at(length);
+            let (_, others) = after.split_at(length);
             rest = others;
         }
         if rest.is_empty() {

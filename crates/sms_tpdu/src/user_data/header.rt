@@ -104,12 +104,12 @@ impl Header {
     {
         let mut last = None;
         let mut rest = self.octets.as_slice();
-        while let [identifier, length, behind @ ..] = rest {
+        while let [identifier, length, after @ ..] = rest {
             let length = *length as usize;
-            if behind.len() < length {
+            if after.len() < length {
                 return None;
             }
-            let (octets, others) = behind.split_at(length);
+            let (octets, others) = after.split_at(length);
             last = told_by(*identifier, octets).or(last);
             rest = others;
         }

@@ -19,7 +19,7 @@ pub data Event : Type 0 where
   Timeout : (phone : ℕ) → Event
   -- the centre hands a message to a phone
   Push : (phone : ℕ) → Event
-  -- so many seconds pass
+  -- as many seconds pass
   Tick : (seconds : ℕ) → Event
   -- octets come that nobody put out
   Inject : Place → (octets : List ℕ) → Event

@@ -29,7 +29,7 @@ event_of (given.Push phone) = Push phone
 event_of (given.Tick seconds) = Tick seconds
 event_of (given.Inject up phone octets) = Inject (place_at up phone) octets
 
--- The packets that were there are kept, and others come behind them.
+-- The packets that were there are kept, and others come after them.
 abbrev pub PutsMore : WorldValue → WorldValue → Type 0
 PutsMore old new = (packets : List PacketValue) × (new.packets ≡ old.packets ++ packets)
 

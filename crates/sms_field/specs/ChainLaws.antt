@@ -20,7 +20,7 @@ agree {A} {W} short f law a b xs ys s t fits p q e = go (f.read 0 (xs ++ s)) (la
         (two.0 ∙ sym one.0, two.1 ∙ sym one.1)
     go (refused place why) (inl h) = absurd (h.none (record { value = a; octets = xs; rest = s; parts = refl; read = p }))
     go (refused place why) (inr h) =
-        absurd (h.behind (record {
+        absurd (h.none_after (record {
           more = h.rest;
           are_octets = (octets_back h.front (h.octet ∷ h.rest) (subst IsOctets h.parts fits)).1;
           reading = record { value = a; octets = xs; rest = s; parts = append_assoc h.front (h.octet ∷ []) h.rest ∙ sym h.parts; read = p };
@@ -137,7 +137,7 @@ module _ {A B W : Type 0} (first : Field A W) (second : A → Field B W) (short 
         parts = whole;
         place_is = omega (arith, h.after_is, g.place_is, length-append h.octets g.front);
         before = goes_on_second a h.octets g.front rest h.read g.before;
-        behind = λ some. stays_second a h.octets (g.front ++ (g.octet ∷ [])) rest upto h.read g.behind (subst (CanContinue (first >>= second)) grouped some);
+        none_after = λ some. stays_second a h.octets (g.front ++ (g.octet ∷ [])) rest upto h.read g.none_after (subst (CanContinue (first >>= second)) grouped some);
         reason = inr (record { reading = record { value = a; octets = h.octets; rest = g.front; parts = refl; read = self a h.octets rest g.front h.read }; reason = g.reason });
       })
 
@@ -151,7 +151,7 @@ module _ {A B W : Type 0} (first : Field A W) (second : A → Field B W) (short 
     some = goes_on_first input h.none h.some;
   })
   first_answers at input fits (refused place why) (inr h) =
-      let none : ¬ HasReading first h.front = λ r. h.behind (record {
+      let none : ¬ HasReading first h.front = λ r. h.none_after (record {
         more = [];
         are_octets = tt;
         reading = record { value = r.value; octets = r.octets; rest = (r.rest ++ (h.octet ∷ [])) ++ []; parts = ap (λ (l : List ℕ). (l ++ (h.octet ∷ [])) ++ []) r.parts ∙ ap (λ (l : List ℕ). l ++ []) (append_assoc r.octets r.rest (h.octet ∷ [])) ∙ append_assoc r.octets (r.rest ++ (h.octet ∷ [])) []; read = self r.value r.octets r.rest ((r.rest ++ (h.octet ∷ [])) ++ []) r.read };
@@ -163,13 +163,13 @@ module _ {A B W : Type 0} (first : Field A W) (second : A → Field B W) (short 
         parts = h.parts;
         place_is = h.place_is;
         before = goes_on_first h.front none h.before;
-        behind = stays_first (h.front ++ (h.octet ∷ [])) h.behind;
+        none_after = stays_first (h.front ++ (h.octet ∷ [])) h.none_after;
         reason = inl (record { none = none; reason = h.reason });
       })
 
-  -- THE LAW OF A JOIN
-  pub join_lawful : IsLawful short (first >>= second)
-  join_lawful =
+  -- THE LAW OF A CHAIN
+  pub chain_lawful : IsLawful short (first >>= second)
+  chain_lawful =
       let r = law.starts.reading in
       let next = (laws r.value r.octets r.rest r.read).starts in
       record {
@@ -185,8 +185,8 @@ module _ {A B W : Type 0} (first : Field A W) (second : A → Field B W) (short 
         ];
       }
 
-pub join_self_contained : {A B W : Type 0} (first : Field A W) (second : A → Field B W) → IsSelfContained first → ((a : A) → IsSelfContained (second a)) → IsSelfContained (first >>= second)
-join_self_contained first second p q value octets rest other r = record {
+pub chain_self_contained : {A B W : Type 0} (first : Field A W) (second : A → Field B W) → IsSelfContained first → ((a : A) → IsSelfContained (second a)) → IsSelfContained (first >>= second)
+chain_self_contained first second p q value octets rest other r = record {
   choice = r.choice;
   front = r.front;
   back = r.back;

@@ -1,10 +1,10 @@
--- What a first field reads, and then a second one, is read by their join.
+-- What a first field reads, and then a second one, is read by their chain.
 use Rattle.std.proofs.Common.{ℕ, List, [], ◌++◌, refl, sym}
 use Rattle.std.proofs.lemmas.List.{append-nil}
 use Rattle.sms_field.specs.Field.{Field, ReadsBoth}
 
-pub joined : {A B W : Type 0} (first : Field A W) (second : A → Field B W) (a : A) (value : B) (front back rest : List ℕ) → first.reads a front (back ++ rest) → (second a).reads value back rest → ReadsBoth first second value (front ++ back) rest
-joined first second a value front back rest p q = record { choice = a; front = front; back = back; parts = refl; of_first = p; of_second = q }
+pub chained : {A B W : Type 0} (first : Field A W) (second : A → Field B W) (a : A) (value : B) (front back rest : List ℕ) → first.reads a front (back ++ rest) → (second a).reads value back rest → ReadsBoth first second value (front ++ back) rest
+chained first second a value front back rest p q = record { choice = a; front = front; back = back; parts = refl; of_first = p; of_second = q }
 
 -- where no octet is left for the second
 pub ended : {A B W : Type 0} (first : Field A W) (second : A → Field B W) (a : A) (value : B) (front rest : List ℕ) → first.reads a front rest → (second a).reads value [] rest → ReadsBoth first second value front rest

@@ -3,7 +3,7 @@
 ghost use Rattle.sms_field.specs.Field.{IsLawful, ◌>>=◌ as ◌followed_by◌};
 
 /// A field, and one that follows it and may depend on its value.
-pub trait Join<A, B, W> {
+pub trait Chain<A, B, W> {
     ghost use Rattle.std.specs.Prelude.{List, ℕ};
     ghost use Rattle.sms_field.specs.Field.{Field, IsLawful, IsSelfContained};
 
@@ -23,7 +23,7 @@ pub trait Join<A, B, W> {
         → first.reads a octets rest → IsLawful short (second a) };
 }
 
-/// Does nothing: its contract is the law of joins.
-pub fn law_of_joins<A, B, W, J: Join<A, B, W>>()
+/// Does nothing: its contract is the law of chains.
+pub fn law_of_chains<A, B, W, J: Chain<A, B, W>>()
     ensures { IsLawful J.short (J.first followed_by J.second) }
 {}
