@@ -1,4 +1,4 @@
--- The order in which pieces are kept shows nowhere.
+-- Joiners that hold the same answer alike, whatever the order in which they keep their pieces.
 use Rattle.std.proofs.Common.{◌≡◌, ℕ, suc, Bool, true, false, cond, ◌&&◌, ◌||◌, eqb, List, [], ◌∷◌, take, refl, sym, ap, ◌∙◌, subst, arith}
 use Rattle.std.proofs.lemmas.Bool.{or_parts, false_from_ne_true}
 use Rattle.sms_join.specs.declared.key.Key.{Key}

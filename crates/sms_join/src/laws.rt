@@ -43,7 +43,8 @@ pub fn whole_by_count()
     ensures { WholeByCount }
 {}
 
-/// The order in which pieces stand shows nowhere.
+/// Joiners that hold the same answer the same to each piece, and hold the same afterwards, whatever the
+/// order in which they keep their pieces.
 pub fn answers_alike()
     ensures { AnswersAlike }
 {}

@@ -19,9 +19,11 @@ mod lines;
 mod waiting;
 
 use crate::centre::answering::{approval, refusal};
-use crate::centre::check::Check;
-use crate::centre::held::{HeldKey, HeldMessages};
+pub use crate::centre::check::Check;
+pub use crate::centre::held::HeldKey;
+use crate::centre::held::HeldMessages;
 use crate::centre::lines::Lines;
+pub use crate::centre::waiting::Push;
 use crate::centre::waiting::WaitingMessage;
 use crate::message::packets::relay_refusal;
 use crate::message::reading::read_message;

@@ -60,7 +60,7 @@ impl From<FieldFault> for RelayFault {
 pub enum WrapFault {
     /// The unit has more than 233 octets.
     #[error("data too long")]
-    TooLong,
+    DataTooLong,
     /// Memory ran out.
     #[error("out of memory")]
     Memory,

@@ -329,6 +329,6 @@ fn wrapped_long(rt: &HostRuntime, count: u8) -> Result<Option<WrapFault>, Fail> 
 #[test]
 fn wraps_233_octets(rt: HostRuntime) -> Result<(), Fail> {
     assert_eq!(rt; wrapped_long(&rt, 230)?, None);
-    assert_eq!(rt; wrapped_long(&rt, 231)?, Some(WrapFault::TooLong));
+    assert_eq!(rt; wrapped_long(&rt, 231)?, Some(WrapFault::DataTooLong));
     Ok(())
 }

@@ -4,7 +4,7 @@ ghost use Rattle.std.specs.Prelude.{◌≡◌, ◌<◌, ℕ, List, length, Optio
 ghost use Rattle.std.specs.Option.{ForSome};
 ghost use Rattle.sms_relay.specs.RpUserData.{IsUserData};
 ghost use Rattle.sms_relay.specs.Carried.{acknowledgement, transfer, answer, CarriesRelay, Carries, SpellsOptional};
-ghost use Rattle.sms_relay.specs.declared.fault.WrapFault.TheVariants.{TooLong};
+ghost use Rattle.sms_relay.specs.declared.fault.WrapFault.TheVariants.{DataTooLong};
 
 use crate::cp::{CpBody, CpMessage};
 use crate::fault::WrapFault;
@@ -18,12 +18,12 @@ use std::alloc::{AllocError, Global};
 /// The octets of a unit, if they are not too many for user data.
 fn octets_of_unit<U: Unit>(alloc: Global, unit: &U) -> Result<Octets, WrapFault>
     ensures spelled { IfOk result (λ octets. U.spells unit.now octets × IsUserData octets) }
-    ensures too_long { result ≡ Err TooLong →
+    ensures too_long { result ≡ Err DataTooLong →
         (octets : List ℕ) × U.spells unit.now octets × (233 < length octets) }
 {
     let octets = unit.write(alloc)?;
     if octets.len() > USER_DATA_MAX as usize {
-        return Err(WrapFault::TooLong);
+        return Err(WrapFault::DataTooLong);
     }
     Ok(Octets::new(octets))
 }
@@ -62,7 +62,7 @@ pub fn wrap_acknowledgement(alloc: Global, flag: bool, value: u8) -> Result<Vec<
 
 /// The octets of a CP-DATA around an RP-DATA around a unit. The value is that of the transaction, 0 to 6.
 ///
-/// `TooLong` comes only where the unit has more than 233 octets.
+/// `DataTooLong` comes only where the unit has more than 233 octets.
 pub fn wrap_transfer<U: Unit>(
     alloc: Global,
     flag: bool,
@@ -76,7 +76,7 @@ pub fn wrap_transfer<U: Unit>(
     ensures carried { IfOk result (λ packet. (octets : List ℕ) × U.spells unit.now octets ×
         Carries flag value (transfer side reference (option_copied address.entry) octets)
         packet.items) }
-    ensures too_long { result ≡ Err TooLong →
+    ensures too_long { result ≡ Err DataTooLong →
         (octets : List ℕ) × U.spells unit.now octets × (233 < length octets) }
 {
     let user = octets_of_unit(alloc, unit)?;
@@ -95,7 +95,7 @@ pub fn wrap_transfer<U: Unit>(
 /// The octets of a CP-DATA around the answer to a transfer, and a unit if it has one: an RP-ACK, or an RP-ERROR with
 /// a cause of 0 to 127. The value is that of the transaction, 0 to 6.
 ///
-/// `TooLong` comes only where the unit has more than 233 octets.
+/// `DataTooLong` comes only where the unit has more than 233 octets.
 pub fn wrap_answer<U: Unit>(
     alloc: Global,
     flag: bool,
@@ -110,7 +110,7 @@ pub fn wrap_answer<U: Unit>(
     ensures carried { IfOk result (λ packet. (octets : Option (List ℕ)) ×
         SpellsOptional U.spells (option_copied unit.entry) octets ×
         Carries flag value (answer side reference cause octets) packet.items) }
-    ensures too_long { result ≡ Err TooLong → (octets : List ℕ) ×
+    ensures too_long { result ≡ Err DataTooLong → (octets : List ℕ) ×
         SpellsOptional U.spells (option_copied unit.entry) (Some octets) × (233 < length octets) }
 {
     let user = match unit {

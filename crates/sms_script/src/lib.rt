@@ -14,7 +14,7 @@ mod words;
 pub use devices::{DeviceFailed, Sink, Source, Watched, next_octet, write_whole};
 pub use fault::{MeaningFault, PlayFault, ScriptFault};
 pub use lines::{LINE_LIMIT, LineEnd, LineFault, read_line};
-pub use meaning::{Event, Known, Limit, PHONE_LIMIT, Phone, Statement, Text, meaning_of};
+pub use meaning::{Command, Event, Known, Limit, PHONE_LIMIT, Phone, Statement, Text, meaning_of};
 pub use playing::{Network, play};
 pub use script::{Limits, Script};
 pub use sms_field::Octets;

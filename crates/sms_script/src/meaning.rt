@@ -11,11 +11,12 @@ ghost use Rattle.sms_script.specs.Words.{left, words};
 ghost use Rattle.sms_script.specs.Meaning.{phone, new_name, new_address, limit, clock, switch, new_phone, typing, event_number, one_phone, injection, said, in_utf8, is_comment, said_by_words, meaning, Fits};
 
 use crate::fault::{MeaningFault, ScriptFault};
-use crate::meaning::command::{Command, command_of};
+use crate::meaning::command::command_of;
 use crate::words::{
     address_of, can_be_phone, is_name, no_word, number_in, octets_of, one_word, two_words,
     two_words_and_text,
 };
+pub use command::Command;
 pub use event::{Event, Text};
 pub use known::{Known, PHONE_LIMIT};
 use sms_field::Address;

@@ -10,9 +10,12 @@ use std::marker::Model;
 
 /// What tells a duplicate: the originating phone, the message reference and the recipient (3GPP TS 23.040, 9.2.3.25).
 #[derive(Clone, Copy, Debug, PartialEq, Eq, Hash)]
-pub(crate) struct HeldKey {
+pub struct HeldKey {
+    /// The originating phone, counted from 0.
     pub phone: usize,
+    /// TP-MR.
     pub reference: u8,
+    /// The phone that has the recipient's address, counted from 0.
     pub recipient: usize,
 }
 

@@ -11,10 +11,14 @@ use std::marker::Model;
 
 /// The latest push to a phone.
 #[derive(Drop)]
-pub(crate) struct Push {
+pub struct Push {
+    /// The value of its transaction.
     pub value: u8,
+    /// Its RP-Message Reference.
     pub reference: u8,
+    /// The moment of its TP-SCTS.
     pub stamp: u64,
+    /// The end of the message's validity.
     pub ends: u64,
 }
 

@@ -2,7 +2,7 @@
 
 ghost use Rattle.std.specs.Prelude.{◌≡◌, ◌≢◌, ◌<◌, ℕ, true, None, Some, Ok, Err, IfOk, IfErr, Option};
 ghost use Rattle.sms_relay.specs.declared.side.Side.{Side as Sides};
-ghost use Rattle.sms_relay.specs.declared.fault.WrapFault.TheVariants.{TooLong};
+ghost use Rattle.sms_relay.specs.declared.fault.WrapFault.TheVariants.{DataTooLong};
 ghost use Rattle.sms_party.specs.declared.message.Message.TheVariants.{Note, Data};
 ghost use Rattle.sms_party.specs.declared.message.Relay.TheVariants.{Answer};
 ghost use Rattle.sms_party.specs.declared.message.Report.{Report};
@@ -21,14 +21,14 @@ use std::alloc::{AllocError, Global};
 
 /// A packet that was wrapped, where what was wrapped is not too long.
 pub(crate) fn wrapped(packet: Result<Vec<u8>, WrapFault>) -> Result<Vec<u8>, Dropped>
-    requires { packet ≢ Err TooLong }
+    requires { packet ≢ Err DataTooLong }
     ensures packet { IfOk result (λ octets. packet ≡ Ok octets) }
     ensures err { IfErr result (λ e. e ≡ Memory) }
 {
     match packet {
         Ok(octets) => Ok(octets),
         Err(WrapFault::Memory) => Err(Dropped::Memory),
-        Err(WrapFault::TooLong) => unreachable!(),
+        Err(WrapFault::DataTooLong) => unreachable!(),
     }
 }
 
