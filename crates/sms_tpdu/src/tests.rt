@@ -177,6 +177,14 @@ fn reads_and_writes_a_delivery(rt: HostRuntime) -> Result<(), Fail> {
     Ok(())
 }
 
+/// Octets that are no delivery, and the place and the reason of the refusal.
+#[derive(Clone, Copy)]
+struct Refused<'a> {
+    octets: &'a [u8],
+    place: usize,
+    why: UnitFault,
+}
+
 #[test]
 fn refuses_a_delivery(rt: HostRuntime) -> Result<(), Fail> {
     for n in 0..HELLO.len() {
@@ -190,16 +198,44 @@ fn refuses_a_delivery(rt: HostRuntime) -> Result<(), Fail> {
             "cut after {n}"
         );
     }
-    let cases: [(&[u8], usize, UnitFault); 7] = [
-        (&[0x05], 0, UnitFault::WrongType),
-        (&[0x06], 0, UnitFault::WrongType),
-        (&[0x45], 0, UnitFault::WrongType),
-        (&HEADER_LONGER_THAN_DATA, 15, UnitFault::HeaderTooLong),
-        (&NO_ROOM_FOR_A_HEADER, 14, UnitFault::HeaderTooLong),
-        (&[0x04, 0x15], 1, UnitFault::AddressTooLong),
-        (&TOO_LONG, 18, UnitFault::DataTooLong),
+    let cases: [Refused; 7] = [
+        Refused {
+            octets: &[0x05],
+            place: 0,
+            why: UnitFault::WrongType,
+        },
+        Refused {
+            octets: &[0x06],
+            place: 0,
+            why: UnitFault::WrongType,
+        },
+        Refused {
+            octets: &[0x45],
+            place: 0,
+            why: UnitFault::WrongType,
+        },
+        Refused {
+            octets: &HEADER_LONGER_THAN_DATA,
+            place: 15,
+            why: UnitFault::HeaderTooLong,
+        },
+        Refused {
+            octets: &NO_ROOM_FOR_A_HEADER,
+            place: 14,
+            why: UnitFault::HeaderTooLong,
+        },
+        Refused {
+            octets: &[0x04, 0x15],
+            place: 1,
+            why: UnitFault::AddressTooLong,
+        },
+        Refused {
+            octets: &TOO_LONG,
+            place: 18,
+            why: UnitFault::DataTooLong,
+        },
     ];
-    for (octets, place, why) in cases {
+    for Refused { octets, place, why } in cases {
         let answer = Deliver::read(rt.alloc(), octets);
         assert_eq!(rt;
             answer.err(),

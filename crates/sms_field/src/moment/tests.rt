@@ -7,35 +7,119 @@ fn belong(octets: [u8; 7], moment: u64) -> bool {
     Stamp::at(moment, 0) == Some(Stamp::new(octets)) && Stamp::new(octets).moment() == Some(moment)
 }
 
-/// The octets of a year, the days before it from the start of 2000, and whether it is a leap year.
-const YEARS: [(u8, u64, bool); 5] = [
-    (0x00, 0, true),
-    (0x10, 366, false),
-    (0x40, 1_461, true),
-    (0x69, 35_064, true),
-    (0x99, 36_160, false),
+/// The octet of a year, the days before it from the start of 2000, and whether it is a leap year.
+#[derive(Clone, Copy)]
+struct Year {
+    year: u8,
+    before: u64,
+    leap: bool,
+}
+
+/// The first years, one in the middle, and the last one.
+const YEARS: [Year; 5] = [
+    Year {
+        year: 0x00,
+        before: 0,
+        leap: true,
+    },
+    Year {
+        year: 0x10,
+        before: 366,
+        leap: false,
+    },
+    Year {
+        year: 0x40,
+        before: 1_461,
+        leap: true,
+    },
+    Year {
+        year: 0x69,
+        before: 35_064,
+        leap: true,
+    },
+    Year {
+        year: 0x99,
+        before: 36_160,
+        leap: false,
+    },
 ];
 
 /// The octets of a month and of its last day, and its days, in a year of 365 days.
-const MONTHS: [(u8, u8, u64); 12] = [
-    (0x10, 0x13, 31),
-    (0x20, 0x82, 28),
-    (0x30, 0x13, 31),
-    (0x40, 0x03, 30),
-    (0x50, 0x13, 31),
-    (0x60, 0x03, 30),
-    (0x70, 0x13, 31),
-    (0x80, 0x13, 31),
-    (0x90, 0x03, 30),
-    (0x01, 0x13, 31),
-    (0x11, 0x03, 30),
-    (0x21, 0x13, 31),
+#[derive(Clone, Copy)]
+struct Month {
+    month: u8,
+    last: u8,
+    days: u64,
+}
+
+/// The months of a year of 365 days.
+const MONTHS: [Month; 12] = [
+    Month {
+        month: 0x10,
+        last: 0x13,
+        days: 31,
+    },
+    Month {
+        month: 0x20,
+        last: 0x82,
+        days: 28,
+    },
+    Month {
+        month: 0x30,
+        last: 0x13,
+        days: 31,
+    },
+    Month {
+        month: 0x40,
+        last: 0x03,
+        days: 30,
+    },
+    Month {
+        month: 0x50,
+        last: 0x13,
+        days: 31,
+    },
+    Month {
+        month: 0x60,
+        last: 0x03,
+        days: 30,
+    },
+    Month {
+        month: 0x70,
+        last: 0x13,
+        days: 31,
+    },
+    Month {
+        month: 0x80,
+        last: 0x13,
+        days: 31,
+    },
+    Month {
+        month: 0x90,
+        last: 0x03,
+        days: 30,
+    },
+    Month {
+        month: 0x01,
+        last: 0x13,
+        days: 31,
+    },
+    Month {
+        month: 0x11,
+        last: 0x03,
+        days: 30,
+    },
+    Month {
+        month: 0x21,
+        last: 0x13,
+        days: 31,
+    },
 ];
 
 /// Whether the first and the last second of each month of a year are what they must be.
 fn has_right_months(year: u8, before: u64, leap: bool) -> bool {
     let mut next = before.wrapping_mul(86_400);
-    for (month, last, days) in MONTHS {
+    for Month { month, last, days } in MONTHS {
         let (last, days) = if leap && month == 0x20 {
             (0x92, 29)
         } else {
@@ -55,46 +139,86 @@ fn has_right_months(year: u8, before: u64, leap: bool) -> bool {
     true
 }
 
-/// Moments and quarters, and the octets of the stamp.
-const ENDS: [(u64, i8, Option<[u8; 7]>); 14] = [
-    (0, 0, Some([0x00, 0x10, 0x10, 0x00, 0x00, 0x00, 0x00])),
-    (
-        3_155_759_999,
-        0,
-        Some([0x99, 0x21, 0x13, 0x32, 0x95, 0x95, 0x00]),
-    ),
-    (3_155_760_000, 0, None),
-    (71_099, -79, None),
-    (
-        71_100,
-        -79,
-        Some([0x00, 0x10, 0x10, 0x00, 0x00, 0x00, 0x9F]),
-    ),
-    (
-        3_155_831_099,
-        -79,
-        Some([0x99, 0x21, 0x13, 0x32, 0x95, 0x95, 0x9F]),
-    ),
-    (3_155_831_100, -79, None),
-    (0, 79, Some([0x00, 0x10, 0x10, 0x91, 0x54, 0x00, 0x97])),
-    (
-        3_155_688_899,
-        79,
-        Some([0x99, 0x21, 0x13, 0x32, 0x95, 0x95, 0x97]),
-    ),
-    (3_155_688_900, 79, None),
-    (1_000_000, 80, None),
-    (1_000_000, -80, None),
-    (
-        28_800,
-        -32,
-        Some([0x00, 0x10, 0x10, 0x00, 0x00, 0x00, 0x2B]),
-    ),
-    (
-        3_131_788_619,
-        8,
-        Some([0x99, 0x30, 0x92, 0x51, 0x61, 0x95, 0x80]),
-    ),
+/// A moment and the quarters of a zone, and the octets of the stamp, if there is one.
+#[derive(Clone, Copy)]
+struct End {
+    moment: u64,
+    quarters: i8,
+    octets: Option<[u8; 7]>,
+}
+
+/// The first and the last moments in several zones.
+const ENDS: [End; 14] = [
+    End {
+        moment: 0,
+        quarters: 0,
+        octets: Some([0x00, 0x10, 0x10, 0x00, 0x00, 0x00, 0x00]),
+    },
+    End {
+        moment: 3_155_759_999,
+        quarters: 0,
+        octets: Some([0x99, 0x21, 0x13, 0x32, 0x95, 0x95, 0x00]),
+    },
+    End {
+        moment: 3_155_760_000,
+        quarters: 0,
+        octets: None,
+    },
+    End {
+        moment: 71_099,
+        quarters: -79,
+        octets: None,
+    },
+    End {
+        moment: 71_100,
+        quarters: -79,
+        octets: Some([0x00, 0x10, 0x10, 0x00, 0x00, 0x00, 0x9F]),
+    },
+    End {
+        moment: 3_155_831_099,
+        quarters: -79,
+        octets: Some([0x99, 0x21, 0x13, 0x32, 0x95, 0x95, 0x9F]),
+    },
+    End {
+        moment: 3_155_831_100,
+        quarters: -79,
+        octets: None,
+    },
+    End {
+        moment: 0,
+        quarters: 79,
+        octets: Some([0x00, 0x10, 0x10, 0x91, 0x54, 0x00, 0x97]),
+    },
+    End {
+        moment: 3_155_688_899,
+        quarters: 79,
+        octets: Some([0x99, 0x21, 0x13, 0x32, 0x95, 0x95, 0x97]),
+    },
+    End {
+        moment: 3_155_688_900,
+        quarters: 79,
+        octets: None,
+    },
+    End {
+        moment: 1_000_000,
+        quarters: 80,
+        octets: None,
+    },
+    End {
+        moment: 1_000_000,
+        quarters: -80,
+        octets: None,
+    },
+    End {
+        moment: 28_800,
+        quarters: -32,
+        octets: Some([0x00, 0x10, 0x10, 0x00, 0x00, 0x00, 0x2B]),
+    },
+    End {
+        moment: 3_131_788_619,
+        quarters: 8,
+        octets: Some([0x99, 0x30, 0x92, 0x51, 0x61, 0x95, 0x80]),
+    },
 ];
 
 /// Octets that have no moment: a time before 2000, one in the east, and month nought.
@@ -106,7 +230,7 @@ const WITHOUT: [[u8; 7]; 3] = [
 
 #[test]
 fn moments_and_stamps(rt: HostRuntime) {
-    for (year, before, leap) in YEARS {
+    for Year { year, before, leap } in YEARS {
         assert!(rt; has_right_months(year, before, leap), "{year}");
     }
     // The days around 29 February.
@@ -119,7 +243,11 @@ fn moments_and_stamps(rt: HostRuntime) {
         )
     );
     assert!(rt; belong([0x69, 0x20, 0x92, 0x00, 0x00, 0x00, 0x00], 35_123 * 86_400));
-    for (moment, quarters, octets) in ENDS {
+    for End {
+        moment,
+        quarters,
+        octets,
+    } in ENDS {
         assert_eq!(rt;
             Stamp::at(moment, quarters),
             octets.map(Stamp::new),
@@ -129,6 +257,6 @@ fn moments_and_stamps(rt: HostRuntime) {
         assert_eq!(rt; back, octets.map(|_| moment), "{moment} {quarters}");
     }
     for octets in WITHOUT {
-        assert_eq!(rt; Stamp::new(octets).moment(), None);
+        assert_eq!(rt; Stamp::new(octets).moment(), None, "{octets:?}");
     }
 }

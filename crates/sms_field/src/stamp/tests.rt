@@ -15,44 +15,160 @@ fn with(place: usize, octet: u8) -> Stamp {
 }
 
 /// A place, the octet there, and whether the first moment of 2000 stays a date with it.
-const PLACES: [(usize, u8, bool); 16] = [
+#[derive(Clone, Copy)]
+struct Placed {
+    place: usize,
+    octet: u8,
+    is_date: bool,
+}
+
+/// Octets at the ends of what each place may hold.
+const PLACES: [Placed; 16] = [
     // Months 0, 1, 12 and 13.
-    (1, 0x00, false),
-    (1, 0x10, true),
-    (1, 0x21, true),
-    (1, 0x31, false),
+    Placed {
+        place: 1,
+        octet: 0x00,
+        is_date: false,
+    },
+    Placed {
+        place: 1,
+        octet: 0x10,
+        is_date: true,
+    },
+    Placed {
+        place: 1,
+        octet: 0x21,
+        is_date: true,
+    },
+    Placed {
+        place: 1,
+        octet: 0x31,
+        is_date: false,
+    },
     // Days 0, 1, 31 and 32 of January.
-    (2, 0x00, false),
-    (2, 0x10, true),
-    (2, 0x13, true),
-    (2, 0x23, false),
+    Placed {
+        place: 2,
+        octet: 0x00,
+        is_date: false,
+    },
+    Placed {
+        place: 2,
+        octet: 0x10,
+        is_date: true,
+    },
+    Placed {
+        place: 2,
+        octet: 0x13,
+        is_date: true,
+    },
+    Placed {
+        place: 2,
+        octet: 0x23,
+        is_date: false,
+    },
     // Hours 23 and 24, minutes and seconds 59 and 60.
-    (3, 0x32, true),
-    (3, 0x42, false),
-    (4, 0x95, true),
-    (4, 0x06, false),
-    (5, 0x95, true),
-    (5, 0x06, false),
+    Placed {
+        place: 3,
+        octet: 0x32,
+        is_date: true,
+    },
+    Placed {
+        place: 3,
+        octet: 0x42,
+        is_date: false,
+    },
+    Placed {
+        place: 4,
+        octet: 0x95,
+        is_date: true,
+    },
+    Placed {
+        place: 4,
+        octet: 0x06,
+        is_date: false,
+    },
+    Placed {
+        place: 5,
+        octet: 0x95,
+        is_date: true,
+    },
+    Placed {
+        place: 5,
+        octet: 0x06,
+        is_date: false,
+    },
     // A half of the zone that is no digit, and one that has the sign.
-    (6, 0xA0, false),
-    (6, 0x9F, true),
+    Placed {
+        place: 6,
+        octet: 0xA0,
+        is_date: false,
+    },
+    Placed {
+        place: 6,
+        octet: 0x9F,
+        is_date: true,
+    },
 ];
 
 /// The octets of a year and of a day of its February, and whether there is that day.
-const FEBRUARY: [(u8, u8, bool); 8] = [
-    (0x00, 0x92, true),
-    (0x00, 0x03, false),
-    (0x10, 0x82, true),
-    (0x10, 0x92, false),
-    (0x40, 0x92, true),
-    (0x40, 0x03, false),
-    (0x99, 0x82, true),
-    (0x99, 0x92, false),
+#[derive(Clone, Copy)]
+struct LastDay {
+    year: u8,
+    day: u8,
+    is_date: bool,
+}
+
+/// Leap years and others.
+const FEBRUARY: [LastDay; 8] = [
+    LastDay {
+        year: 0x00,
+        day: 0x92,
+        is_date: true,
+    },
+    LastDay {
+        year: 0x00,
+        day: 0x03,
+        is_date: false,
+    },
+    LastDay {
+        year: 0x10,
+        day: 0x82,
+        is_date: true,
+    },
+    LastDay {
+        year: 0x10,
+        day: 0x92,
+        is_date: false,
+    },
+    LastDay {
+        year: 0x40,
+        day: 0x92,
+        is_date: true,
+    },
+    LastDay {
+        year: 0x40,
+        day: 0x03,
+        is_date: false,
+    },
+    LastDay {
+        year: 0x99,
+        day: 0x82,
+        is_date: true,
+    },
+    LastDay {
+        year: 0x99,
+        day: 0x92,
+        is_date: false,
+    },
 ];
 
 #[test]
 fn dates_and_others(rt: HostRuntime) {
-    for (place, octet, is_date) in PLACES {
+    for Placed {
+        place,
+        octet,
+        is_date,
+    } in PLACES {
         assert_eq!(rt;
             with(place, octet).date().is_some(),
             is_date,
@@ -63,23 +179,49 @@ fn dates_and_others(rt: HostRuntime) {
         assert!(rt; with(place, 0xA0).date().is_none(), "units at {place}");
         assert!(rt; with(place, 0x0A).date().is_none(), "tens at {place}");
     }
-    for (year, day, is_date) in FEBRUARY {
+    for LastDay { year, day, is_date } in FEBRUARY {
         let stamp = Stamp::new([year, 0x20, day, 0x00, 0x00, 0x00, 0x00]);
         assert_eq!(rt; stamp.date().is_some(), is_date, "{year} {day}");
     }
 }
 
+/// The octet of a zone, and its quarters of an hour.
+#[derive(Clone, Copy)]
+struct Zone {
+    octet: u8,
+    quarters: i8,
+}
+
+const ZONES: [Zone; 6] = [
+    Zone {
+        octet: 0x00,
+        quarters: 0,
+    },
+    Zone {
+        octet: 0x08,
+        quarters: 0,
+    },
+    Zone {
+        octet: 0x80,
+        quarters: 8,
+    },
+    Zone {
+        octet: 0x2B,
+        quarters: -32,
+    },
+    Zone {
+        octet: 0x97,
+        quarters: 79,
+    },
+    Zone {
+        octet: 0x9F,
+        quarters: -79,
+    },
+];
+
 #[test]
 fn what_a_date_says(rt: HostRuntime) {
-    let zones = [
-        (0x00, 0),
-        (0x08, 0),
-        (0x80, 8),
-        (0x2B, -32),
-        (0x97, 79),
-        (0x9F, -79),
-    ];
-    for (octet, quarters) in zones {
+    for Zone { octet, quarters } in ZONES {
         let octets = [0x99, 0x30, 0x92, 0x51, 0x61, 0x95, octet];
         let want = StampDate {
             year: 2099,
@@ -91,8 +233,12 @@ fn what_a_date_says(rt: HostRuntime) {
             quarters,
         };
         assert_eq!(rt; Stamp::new(octets).date(), Some(want), "{octet}");
-        assert_eq!(rt; Stamp::read(&octets), Ok((Stamp::new(octets), 7)));
-        assert_eq!(rt; Stamp::new(octets).octets(), octets);
+        assert_eq!(rt;
+            Stamp::read(&octets),
+            Ok((Stamp::new(octets), 7)),
+            "{octet}"
+        );
+        assert_eq!(rt; Stamp::new(octets).octets(), octets, "{octet}");
     }
     assert_eq!(rt;
         Stamp::read(&FIRST[..6]),

@@ -2,24 +2,84 @@
 
 use super::*;
 
-/// The octets of a range, the seconds of its first octet, and those that each further octet adds.
-const RANGES: [(u8, u8, u64, u64); 4] = [
-    (0, 143, 300, 300),
-    (144, 167, 45_000, 1_800),
-    (168, 196, 172_800, 86_400),
-    (197, 255, 3_024_000, 604_800),
+/// The first and the last octet of a range, the seconds of its first, and those that each further octet adds.
+#[derive(Clone, Copy)]
+struct Steps {
+    first: u8,
+    last: u8,
+    seconds: u64,
+    step: u64,
+}
+
+/// The ranges of the standard's table.
+const RANGES: [Steps; 4] = [
+    Steps {
+        first: 0,
+        last: 143,
+        seconds: 300,
+        step: 300,
+    },
+    Steps {
+        first: 144,
+        last: 167,
+        seconds: 45_000,
+        step: 1_800,
+    },
+    Steps {
+        first: 168,
+        last: 196,
+        seconds: 172_800,
+        step: 86_400,
+    },
+    Steps {
+        first: 197,
+        last: 255,
+        seconds: 3_024_000,
+        step: 604_800,
+    },
 ];
 
-/// Octets, and the seconds of their periods.
-const EXAMPLES: [(u8, u64); 8] = [
-    (0, 300),
-    (143, 43_200),
-    (144, 45_000),
-    (167, 86_400),
-    (168, 172_800),
-    (196, 2_592_000),
-    (197, 3_024_000),
-    (255, 38_102_400),
+/// An octet, and the seconds of its period.
+#[derive(Clone, Copy)]
+struct Example {
+    octet: u8,
+    seconds: u64,
+}
+
+/// The ends of the ranges.
+const EXAMPLES: [Example; 8] = [
+    Example {
+        octet: 0,
+        seconds: 300,
+    },
+    Example {
+        octet: 143,
+        seconds: 43_200,
+    },
+    Example {
+        octet: 144,
+        seconds: 45_000,
+    },
+    Example {
+        octet: 167,
+        seconds: 86_400,
+    },
+    Example {
+        octet: 168,
+        seconds: 172_800,
+    },
+    Example {
+        octet: 196,
+        seconds: 2_592_000,
+    },
+    Example {
+        octet: 197,
+        seconds: 3_024_000,
+    },
+    Example {
+        octet: 255,
+        seconds: 38_102_400,
+    },
 ];
 
 /// Whether each octet of a range ends where it must.
@@ -36,16 +96,22 @@ fn range_is_right(first: u8, last: u8, seconds: u64, step: u64) -> bool {
 
 #[test]
 fn ends_of_validities(rt: HostRuntime) {
-    for (first, last, seconds, step) in RANGES {
+    for Steps {
+        first,
+        last,
+        seconds,
+        step,
+    } in RANGES {
         assert!(rt;
             range_is_right(first, last, seconds, step),
             "{first} to {last}"
         );
     }
-    for (octet, seconds) in EXAMPLES {
+    for Example { octet, seconds } in EXAMPLES {
         assert_eq!(rt;
             Validity::Relative(octet).ends(1_000).ok(),
-            seconds.checked_add(1_000)
+            seconds.checked_add(1_000),
+            "{octet}"
         );
     }
     let east = Stamp::new([0x99, 0x30, 0x92, 0x51, 0x61, 0x95, 0x80]);

@@ -48,7 +48,7 @@ fn packets_printed(rt: HostRuntime) -> Result<(), Fail> {
             octets: row.octets,
         };
         let line = packet_line(rt.alloc(), row.brief, 7, "b", packet)?;
-        assert_eq!(rt; line.as_str(), row.line);
+        assert_eq!(rt; line.as_str(), row.line, "{:?}", row.octets);
     }
     Ok(())
 }

@@ -327,6 +327,78 @@ fn is_refused(alloc: Global, kind: Kind, octets: &[u8], place: usize, why: UnitF
     }
 }
 
+/// Octets that are no report of a kind, and the place and the reason of the refusal.
+#[derive(Clone, Copy)]
+struct Refused {
+    kind: Kind,
+    octets: &'static [u8],
+    place: usize,
+    why: UnitFault,
+}
+
+const REFUSED: [Refused; 10] = [
+    Refused {
+        kind: Kind::SubmitAck,
+        octets: b"\x00",
+        place: 0,
+        why: UnitFault::WrongType,
+    },
+    Refused {
+        kind: Kind::SubmitError,
+        octets: b"\x03",
+        place: 0,
+        why: UnitFault::WrongType,
+    },
+    Refused {
+        kind: Kind::DeliverAck,
+        octets: b"\x01",
+        place: 0,
+        why: UnitFault::WrongType,
+    },
+    Refused {
+        kind: Kind::DeliverError,
+        octets: b"\x42",
+        place: 0,
+        why: UnitFault::WrongType,
+    },
+    Refused {
+        kind: Kind::SubmitAck,
+        octets: b"\x01\x04\x10\x10\x10\x00\x00\x00\x00\xB6",
+        place: 9,
+        why: UnitFault::DataTooLong,
+    },
+    Refused {
+        kind: Kind::DeliverAck,
+        octets: b"\x00\x04\xB5",
+        place: 3,
+        why: UnitFault::Short,
+    },
+    Refused {
+        kind: Kind::DeliverAck,
+        octets: b"\x00\x04\xB6",
+        place: 2,
+        why: UnitFault::DataTooLong,
+    },
+    Refused {
+        kind: Kind::DeliverError,
+        octets: b"\x00\xD3\x06\x04\x9F",
+        place: 5,
+        why: UnitFault::Short,
+    },
+    Refused {
+        kind: Kind::DeliverError,
+        octets: b"\x00\xD3\x06\x04\xA0",
+        place: 4,
+        why: UnitFault::DataTooLong,
+    },
+    Refused {
+        kind: Kind::DeliverAck,
+        octets: b"\x00\x80\x80\xFF",
+        place: 4,
+        why: UnitFault::Short,
+    },
+];
+
 #[test]
 fn refuses_what_is_no_report(rt: HostRuntime) -> Result<(), Fail> {
     for row in ROWS.as_slice() {
@@ -335,34 +407,12 @@ fn refuses_what_is_no_report(rt: HostRuntime) -> Result<(), Fail> {
             assert!(rt; short, "{:?} {:?} {n}", row.kind, row.octets);
         }
     }
-    let cases: [(Kind, &[u8], usize, UnitFault); 10] = [
-        (Kind::SubmitAck, b"\x00", 0, UnitFault::WrongType),
-        (Kind::SubmitError, b"\x03", 0, UnitFault::WrongType),
-        (Kind::DeliverAck, b"\x01", 0, UnitFault::WrongType),
-        (Kind::DeliverError, b"\x42", 0, UnitFault::WrongType),
-        (
-            Kind::SubmitAck,
-            b"\x01\x04\x10\x10\x10\x00\x00\x00\x00\xB6",
-            9,
-            UnitFault::DataTooLong,
-        ),
-        (Kind::DeliverAck, b"\x00\x04\xB5", 3, UnitFault::Short),
-        (Kind::DeliverAck, b"\x00\x04\xB6", 2, UnitFault::DataTooLong),
-        (
-            Kind::DeliverError,
-            b"\x00\xD3\x06\x04\x9F",
-            5,
-            UnitFault::Short,
-        ),
-        (
-            Kind::DeliverError,
-            b"\x00\xD3\x06\x04\xA0",
-            4,
-            UnitFault::DataTooLong,
-        ),
-        (Kind::DeliverAck, b"\x00\x80\x80\xFF", 4, UnitFault::Short),
-    ];
-    for (kind, octets, place, why) in cases {
+    for Refused {
+        kind,
+        octets,
+        place,
+        why,
+    } in REFUSED {
         let refused = is_refused(rt.alloc(), kind, octets, place, why);
         assert!(rt; refused, "{kind:?} {octets:?}");
     }
