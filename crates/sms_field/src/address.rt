@@ -12,7 +12,7 @@ ghost use Rattle.sms_field.specs.WholeAnswer.{IsRefusedBy, ReadsExactly};
 
 use crate::address_view::AddressView;
 use crate::cursor::Cursor;
-use crate::digits::put_number;
+use crate::digits::put_telephone;
 use crate::fault::FieldFault;
 use crate::name::put_name;
 use crate::refusal::Refusal;
@@ -93,7 +93,7 @@ impl Address {
         let length = self.symbols.length();
         let kind = 128 + 16 * self.type_of_number + self.plan;
         match &self.symbols {
-            Symbols::Digits(digits) => put_number(out, length, kind, digits.as_slice()),
+            Symbols::Digits(digits) => put_telephone(out, length, kind, digits.as_slice()),
             Symbols::Name(name) => put_name(out, length, kind, name),
         }
     }

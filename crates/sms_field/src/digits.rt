@@ -128,7 +128,12 @@ fn put_digits(out: &mut Vec<u8>, digits: &[u8])
 }
 
 /// Adds two octets, and digits, two an octet.
-pub fn put_number(out: &mut Vec<u8>, first: u8, second: u8, digits: &[u8]) -> Result<(), AllocError>
+pub fn put_telephone(
+    out: &mut Vec<u8>,
+    first: u8,
+    second: u8,
+    digits: &[u8],
+) -> Result<(), AllocError>
     requires { All (λ digit. digit < 15) digits.now }
     ensures ok { OnOk result (out.new.items ≡ out.old.items ++
         first ∷ second ∷ digit_octets digits.now) }

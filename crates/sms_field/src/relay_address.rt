@@ -22,7 +22,7 @@ ghost use Rattle.sms_field.specs.Answer.{Takes};
 use crate::address::OCTETS_MAX;
 use crate::address_text::{digits_of_telephone, international, text_of_telephone};
 use crate::cursor::Cursor;
-use crate::digits::{Digits, put_number};
+use crate::digits::{Digits, put_telephone};
 use crate::fault::{AddressFault, FieldFault};
 use crate::refusal::Refusal;
 use crate::relay_address_view::RpAddressView;
@@ -164,7 +164,7 @@ impl RpAddress {
         let digits = self.digits.as_slice();
         let length = (digits.len() as u8).div_ceil(2) + 1;
         let kind = 128 + 16 * self.type_of_number + self.plan;
-        put_number(out, length, kind, digits)
+        put_telephone(out, length, kind, digits)
     }
 
     /// Reads an address, or none where the length octet is 0, at the front of the octets, and says how many octets
