@@ -22,7 +22,7 @@ short-append own (x ∷ xs) ys (c ∷ text) e s =
 pub units-cons : (own : ℕ → List ℕ) (c : ℕ) (text : List ℕ) → length (flat_map own (c ∷ text)) ≡ length (own c) + length (flat_map own text)
 units-cons own c text = length-append (own c) (flat_map own text)
 
--- of two fronts of a text, the one with more units goes on behind the other
+-- of two fronts of a text, the one with more units goes on after the other
 pub further : (own : ℕ → List ℕ) (before after before2 after2 : List ℕ) → AllByRecursion (IsShort own) before → before ++ after ≡ before2 ++ after2 → length (flat_map own before) ≤ length (flat_map own before2)
     → (more : List ℕ) × (before2 ≡ before ++ more) × (after ≡ more ++ after2)
 further own [] after before2 after2 s e h = (before2, refl, e)
@@ -34,7 +34,7 @@ further own (c ∷ b) after (d ∷ b2) after2 s e h =
     let r = further own b after b2 after2 s.1 tails (omega (arith, units-cons own c b, units-cons own d b2, same)) in
     (r.0, (let m : b2 ≡ b ++ r.0 = r.1 in cc), r.2)
 
--- what may stand behind a piece of so many units
+-- what may stand after a piece of as many units as given
 abbrev pub Stops : (ℕ → List ℕ) → ℕ → ℕ → List ℕ → Type 0
 Stops own room n [] = Unit {0}
 Stops own room n (next ∷ after) = room < n + length (own next)
@@ -49,7 +49,7 @@ pub record Step (own : ℕ → List ℕ) (room : ℕ) (text piece : List ℕ) : 
   pub fits : length piece ≤ room
   pub stops : Stops own room (length piece) after
 
--- the pieces stand one behind another
+-- the pieces stand one after another
 abbrev pub Steps : (ℕ → List ℕ) → ℕ → List ℕ → List (List ℕ) → Type 0
 Steps own room text [] = text ≡ []
 Steps own room text (piece ∷ pieces) = (s : Step own room text piece) × Steps own room s.after pieces

@@ -15,7 +15,7 @@ pub data EndsAt (begins : ℕ → Bool) (room : ℕ) (units : List ℕ) (n : ℕ
   Last : length units ≤ room → n ≡ length units → EndsAt begins room units n
   Inside : room < length units → n ≡ cond (begins (get_or units (room - 1) 0)) (room - 1) room → EndsAt begins room units n
 
--- such pieces one behind another
+-- such pieces one after another
 abbrev pub Pieces : (ℕ → Bool) → ℕ → List ℕ → List (List ℕ) → Type 0
 Pieces begins room units [] = units ≡ []
 Pieces begins room units (piece ∷ pieces) = (n : ℕ) × EndsAt begins room units n × (0 < length units) × (piece ≡ take n units) × Pieces begins room (drop n units) pieces
@@ -192,7 +192,7 @@ all_parted units room start pieces text is wide e whole p =
       cut = cut_of_steps own room p.lists text (short_groups (begins_pair (alphabet_of text)) own text groups) (steps_of_pieces (begins_pair (alphabet_of text)) own room p.lists text groups wide by_text);
     }
 
--- so many pieces are those up to this place
+-- as many pieces as counted are those up to this place
 pub record CountedUpTo (units : Units) (room start count : ℕ) : Type 0 where
   pub pieces : List Units
   pub parted : PartedUpTo units room start pieces

@@ -20,7 +20,7 @@ use Rattle.sms_join.specs.Segments.{AreNumbered}
 use Rattle.sms_join.specs.SegmentUser.{IsSendable, HasRange, coding_of, body_of, header_of}
 use Rattle.sms_join.proofs.CutPlaces.{alphabet-in, numbers-in}
 
--- there is room for the units of a piece, of so many
+-- there is room for the units of a piece, as many as given
 Bounded : Width → ℕ → Units → Type 0
 Bounded width n piece = (n ≡ 1 → length (numbers piece) ≤ room_alone (alphabet_in piece)) × (1 < n → length (numbers piece) ≤ room_beside width (alphabet_in piece))
 
@@ -97,7 +97,7 @@ fits_beside Eight (Ucs2 units) reference maximum sequence le range = (omega (ari
 fits_beside Sixteen (Gsm septets) reference maximum sequence le range = (omega (arith, le), range)
 fits_beside Sixteen (Ucs2 units) reference maximum sequence le range = (omega (arith, le, length-octets_high_first units), range)
 
--- the body of a segment's user data fits behind its header
+-- the body of a segment's user data fits after its header
 pub segment_fits : (width : Width) (segment : Segment) (reference : ℕ) → IsSendable width segment → HasRange (body_of segment.units)
     → BodyFits (coding_of segment.units) (length (header_octets (header_of width reference segment.maximum segment.sequence))) (body_of segment.units)
 segment_fits width segment reference sendable range = go (segment.maximum == 1) (eqb_tells segment.maximum 1)

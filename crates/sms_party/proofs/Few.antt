@@ -73,7 +73,7 @@ module _ (phone : ℕ) where
   unfolding puts
   segment_put texts s reject = first_put texts s reject s.pending
 
-  -- a note, and one packet at most behind it
+  -- a note, and one packet at most after it
   noted_few : (tag : Tag) (put : List Sent) → IsOneTo (Centre phone) put → AreFewTo (Centre phone) (bare (Centre phone) (Note false tag.value) ∷ put)
   unfolding bare
   noted_few tag [] h = record { two = omega arith; there = (refl, tt) }

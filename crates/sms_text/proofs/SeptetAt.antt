@@ -7,7 +7,7 @@ use Rattle.sms_text.specs.Words.{low_octets, low_septets}
 use Rattle.sms_text.specs.PackingLaws.{length-bits}
 use Rattle.sms_text.proofs.Words.{cut_last}
 
--- the bits behind so many octets
+-- the bits after as many octets as given
 pub drop_octets : (k : ℕ) (octets : List ℕ) → octet_bits (drop k octets) ≡ drop (8 * k) (octet_bits octets)
 unfolding octet_bits
 drop_octets zero octets = refl

@@ -327,7 +327,7 @@ last_added fill w septets rest base old new few is bound e so_far =
 
 -- ---- unpacking
 
--- so many septets out of so many octets: the head, a block and the end
+-- as many septets as given out of as many octets as given: the head, a block and the end
 cut : (fill k m j w : ℕ) (octets : List ℕ) → fill + 7 * k ≤ 8 * m → low_octets m w ≡ take m octets → septets_of (k + j) (drop fill (octet_bits octets)) ≡ low_septets k (w / 2 ^ fill) ++ septets_of j (bits (8 * m - (fill + 7 * k)) (w / 2 ^ fill / 2 ^ (7 * k)) ++ octet_bits (drop m octets))
 cut fill k m j w octets enough is =
     let left : ℕ = 8 * m - (fill + 7 * k) in

@@ -68,7 +68,7 @@ has_size alphabet count v octets rest are r =
     let room : HasRoom alphabet count r.0 = leb-true (length_of_header alphabet (r.0 + 1)) count c.tested in
     subst (HasRoom alphabet count) (sym c.value) room
 
-has_user : (headed : Bool) (alphabet : Alphabet) → Has (FitsAlphabet alphabet) (user_data headed alphabet)
+has_user : (with_header : Bool) (alphabet : Alphabet) → Has (FitsAlphabet alphabet) (user_data with_header alphabet)
 unfolding user_data
 has_user false alphabet =
     has_chain (IsLength alphabet) (FitsAlphabet alphabet) _ _ (has_up_to Short (greatest_length alphabet) DataTooLong) (λ count few.
@@ -159,7 +159,7 @@ has_parts there =
 pub has_submit_ack : Has IsSubmitAck submit_ack
 unfolding submit_ack
 has_submit_ack =
-    has_chain Any IsSubmitAck _ _ (λ v octets rest are r. tt) (λ headed _.
+    has_chain Any IsSubmitAck _ _ (λ v octets rest are r. tt) (λ with_header _.
     has_chain Any IsSubmitAck _ _ (λ v octets rest are r. tt) (λ there _.
     has_chain IsStamp IsSubmitAck _ _ (has_stamp Short) (λ stamp is_stamp.
     has_chain AreParts IsSubmitAck _ _ (has_parts there) (λ those fits.
@@ -168,7 +168,7 @@ has_submit_ack =
 pub has_submit_error : Has IsSubmitError submit_error
 unfolding submit_error
 has_submit_error =
-    has_chain Any IsSubmitError _ _ (λ v octets rest are r. tt) (λ headed _.
+    has_chain Any IsSubmitError _ _ (λ v octets rest are r. tt) (λ with_header _.
     has_chain (λ octet. octet < 256) IsSubmitError _ _ (has_octet Short) (λ cause small.
     has_chain Any IsSubmitError _ _ (λ v octets rest are r. tt) (λ there _.
     has_chain IsStamp IsSubmitError _ _ (has_stamp Short) (λ stamp is_stamp.
@@ -178,7 +178,7 @@ has_submit_error =
 pub has_deliver_ack : Has IsDeliverAck deliver_ack
 unfolding deliver_ack
 has_deliver_ack =
-    has_chain Any IsDeliverAck _ _ (λ v octets rest are r. tt) (λ headed _.
+    has_chain Any IsDeliverAck _ _ (λ v octets rest are r. tt) (λ with_header _.
     has_chain Any IsDeliverAck _ _ (λ v octets rest are r. tt) (λ there _.
     has_chain AreParts IsDeliverAck _ _ (has_parts there) (λ those fits.
     λ v octets rest are r. subst IsDeliverAck (sym r.0) (record { parts = fits }))))
@@ -186,7 +186,7 @@ has_deliver_ack =
 pub has_deliver_error : Has IsDeliverError deliver_error
 unfolding deliver_error
 has_deliver_error =
-    has_chain Any IsDeliverError _ _ (λ v octets rest are r. tt) (λ headed _.
+    has_chain Any IsDeliverError _ _ (λ v octets rest are r. tt) (λ with_header _.
     has_chain (λ octet. octet < 256) IsDeliverError _ _ (has_octet Short) (λ cause small.
     has_chain Any IsDeliverError _ _ (λ v octets rest are r. tt) (λ there _.
     has_chain AreParts IsDeliverError _ _ (has_parts there) (λ those fits.

@@ -28,7 +28,7 @@ const NO_ROOM_FOR_A_HEADER: [u8; 15] = [
 
 /// A delivery, its header if it has one, the place of a segment that the header tells, and its body.
 #[derive(Drop)]
-struct Headed<'a> {
+struct WithHeader<'a> {
     octets: &'a [u8],
     header: Option<&'a [u8]>,
     concat: Option<Concat>,
@@ -44,7 +44,7 @@ fn octets_in(body: &Body) -> &[u8] {
 }
 
 /// Whether a header, if there is one, is that of a row, and tells the place of a segment that the row says.
-fn has_header(header: &Option<Header>, row: &Headed) -> bool {
+fn has_header(header: &Option<Header>, row: &WithHeader) -> bool {
     match (header, row.header) {
         (Some(header), Some(wanted)) => {
             header.as_slice() == wanted && header.concat() == row.concat
@@ -55,7 +55,7 @@ fn has_header(header: &Option<Header>, row: &Headed) -> bool {
 }
 
 /// Whether a delivery is read as its row says, and written as it was read.
-fn is_headed(rt: &HostRuntime, row: &Headed) -> Result<bool, Fail> {
+fn is_with_header(rt: &HostRuntime, row: &WithHeader) -> Result<bool, Fail> {
     let (deliver, used) = Deliver::read(rt.alloc(), row.octets)?;
     let user = deliver.user.copy(rt.alloc())?;
     let written = deliver.write(rt.alloc())?;
@@ -71,7 +71,7 @@ fn is_headed(rt: &HostRuntime, row: &Headed) -> Result<bool, Fail> {
 fn reads_and_writes_headers(rt: HostRuntime) -> Result<(), Fail> {
     let rows = [
         // the sequence is 3 of 2
-        Headed {
+        WithHeader {
             octets: &[
                 0x44, 0x04, 0x91, 0x01, 0x10, 0x00, 0x00, 0x00, 0x10, 0x10, 0x00, 0x00, 0x00, 0x00,
                 0x09, 0x05, 0x00, 0x03, 0x0A, 0x02, 0x03, 0xD0, 0x69,
@@ -81,7 +81,7 @@ fn reads_and_writes_headers(rt: HostRuntime) -> Result<(), Fail> {
             body: b"hi",
         },
         // the element is cut
-        Headed {
+        WithHeader {
             octets: &[
                 0x44, 0x04, 0x91, 0x01, 0x10, 0x00, 0x00, 0x00, 0x10, 0x10, 0x00, 0x00, 0x00, 0x00,
                 0x08, 0x04, 0x00, 0x03, 0x0A, 0x02, 0xA0, 0xD3,
@@ -91,7 +91,7 @@ fn reads_and_writes_headers(rt: HostRuntime) -> Result<(), Fail> {
             body: b"hi",
         },
         // an empty header fills the data
-        Headed {
+        WithHeader {
             octets: &[
                 0x44, 0x04, 0x91, 0x01, 0x10, 0x00, 0x00, 0x00, 0x10, 0x10, 0x00, 0x00, 0x00, 0x00,
                 0x02, 0x00, 0x00,
@@ -101,7 +101,7 @@ fn reads_and_writes_headers(rt: HostRuntime) -> Result<(), Fail> {
             body: b"",
         },
         // a reference of sixteen bits
-        Headed {
+        WithHeader {
             octets: &[
                 0x44, 0x04, 0x91, 0x01, 0x10, 0x00, 0x00, 0x00, 0x10, 0x10, 0x00, 0x00, 0x00, 0x00,
                 0x0A, 0x06, 0x08, 0x04, 0x01, 0x02, 0x02, 0x01, 0xE8, 0x34,
@@ -116,7 +116,7 @@ fn reads_and_writes_headers(rt: HostRuntime) -> Result<(), Fail> {
             body: b"hi",
         },
         // of two elements the last counts
-        Headed {
+        WithHeader {
             octets: &[
                 0x44, 0x04, 0x91, 0x01, 0x10, 0x00, 0x00, 0x00, 0x10, 0x10, 0x00, 0x00, 0x00, 0x00,
                 0x10, 0x0B, 0x00, 0x03, 0x0A, 0x02, 0x01, 0x08, 0x04, 0x01, 0x02, 0x02, 0x02, 0xA0,
@@ -134,7 +134,7 @@ fn reads_and_writes_headers(rt: HostRuntime) -> Result<(), Fail> {
             body: b"hi",
         },
         // one letter in UCS-2
-        Headed {
+        WithHeader {
             octets: &[
                 0x04, 0x04, 0x91, 0x01, 0x10, 0x00, 0x08, 0x00, 0x10, 0x10, 0x00, 0x00, 0x00, 0x00,
                 0x02, 0x04, 0x36,
@@ -145,7 +145,7 @@ fn reads_and_writes_headers(rt: HostRuntime) -> Result<(), Fail> {
         },
     ];
     for row in &rows {
-        assert!(rt; is_headed(&rt, row)?, "{:?}", row.octets);
+        assert!(rt; is_with_header(&rt, row)?, "{:?}", row.octets);
     }
     Ok(())
 }

@@ -17,7 +17,7 @@ use Rattle.sms_world.specs.World.Phones.{IsAged}
 use Rattle.sms_world.specs.World.Standing.{PartiesStand}
 use Rattle.sms_world.specs.World.Parties.{MovesTo}
 
--- it has moved for the first so many
+-- it has moved for the first ones, as many as given
 abbrev pub AreAged : (now n : ℕ) → (old new : List PhoneValue) → Type 0
 AreAged now zero old new = new ≡ old
 AreAged now (suc n) [] [] = Unit {0}

@@ -10,7 +10,7 @@ use Rattle.sms_world.specs.Machine.Next.{entered, packet}
 use Rattle.sms_world.specs.World.Standing.{IsPacketOf, ArePacketsOf}
 use Rattle.sms_world.specs.World.Steps.{IsOctetsOf}
 
--- what is entered stands behind what was there
+-- what is entered stands after what was there
 pub reverse_entered : {X : Type 0} (put sent : List X) → reverse (entered put sent) ≡ reverse sent ++ put
 reverse_entered [] sent = sym (append-nil (reverse sent))
 reverse_entered (x ∷ put) sent = reverse_entered put (x ∷ sent) ∙ ap (λ l. l ++ put) (reverse-append (x ∷ []) sent) ∙ append_assoc (reverse sent) (x ∷ []) put

@@ -54,7 +54,7 @@ length_apart true true o e = cc
 length_apart true false o e = cc
 length_apart false b o e = cc
 
-pub user_data_self : (headed : Bool) (alphabet : Alphabet) → IsSelfContained (user_data headed alphabet)
+pub user_data_self : (with_header : Bool) (alphabet : Alphabet) → IsSelfContained (user_data with_header alphabet)
 unfolding user_data
 user_data_self false alphabet =
     chain_self_contained _ _ (octet_by_self Short (up_to (greatest_length alphabet) DataTooLong)) (λ count.
@@ -67,7 +67,7 @@ user_data_self true alphabet =
     chain_self_contained _ _ (octets_of_self Short (octets_of_length alphabet count - (size + 1))) (λ octets.
     always_self UnitFault _))))
 
-pub user_data_lawful : (headed : Bool) (alphabet : Alphabet) → IsLawful Short (user_data headed alphabet)
+pub user_data_lawful : (with_header : Bool) (alphabet : Alphabet) → IsLawful Short (user_data with_header alphabet)
 unfolding user_data
 user_data_lawful false alphabet =
     chain_lawful _ _ Short (octet_by_self Short (up_to (greatest_length alphabet) DataTooLong)) (octet_by_lawful Short (up_to (greatest_length alphabet) DataTooLong) (0, lit< tt, 0, any_length alphabet) (λ o. apart_else Short (leb o (greatest_length alphabet)) o DataTooLong (λ e. cc))) (λ count _ _ _.

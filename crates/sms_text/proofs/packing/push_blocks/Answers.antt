@@ -2,7 +2,7 @@ use Rattle.std.proofs.Common.{◌≡◌, ◌∙◌, ◌+◌, ◌-◌, ◌*◌, �
 use Rattle.std.proofs.lemmas.List.{take_at, take_all, take-append-le, length-take-le, length-replicate}
 use Rattle.sms_text.proofs.packing.push_blocks.Goals as goal
 
--- what is written behind the front, with nothing after it
+-- what is written after the front, with nothing after it
 front_written : (front written after rest : List ℕ) (n : ℕ) → length (front ++ written) ≡ n → take n ((front ++ (written ++ after)) ++ rest) ≡ front ++ written
 front_written front written after rest n size =
     let parts : (front ++ (written ++ after)) ++ rest ≡ (front ++ written) ++ (after ++ rest) = simp append_assoc in

@@ -2,7 +2,7 @@ use Rattle.std.proofs.Common.{◌≡◌, ◌∙◌, ◌+◌, ◌-◌, ◌*◌, �
 use Rattle.std.proofs.lemmas.List.{take_at, take_all, take-take, take-append-drop, length-take-le}
 use Rattle.sms_text.proofs.packing.push_packed.Goals as goal
 
--- so many octets of what is written behind the front
+-- as many octets as given of what is written after the front
 front_cut : (front written after rest : List ℕ) (n m p : ℕ) → length front + p ≡ m → m ≤ n → p ≤ length written → take m (take n ((front ++ (written ++ after)) ++ rest)) ≡ front ++ take p written
 front_cut front written after rest n m p size le enough =
     let halves : written ≡ take p written ++ drop p written = sym (take-append-drop p written) in
