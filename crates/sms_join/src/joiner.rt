@@ -71,7 +71,8 @@ fn size_of(concat: Option<Concat>) -> u8
 }
 
 impl Joiner {
-    /// A joiner that holds nothing, for at most `open_max` open sets and `remembered` keys. It makes the room for the keys.
+    /// A joiner that holds nothing, for at most `open_max` open sets and `remembered` keys. It makes
+    /// the room for the keys.
     #[tactic(auto, unfolding(crate::specs::Joiner::new_joiner))]
     pub fn new(alloc: Global, open_max: usize, remembered: usize) -> Result<Joiner, AllocError>
         requires sets { 0 < open_max }
