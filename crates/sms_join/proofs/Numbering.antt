@@ -6,7 +6,7 @@ use Rattle.sms_join.specs.declared.units.Units.{Units}
 use Rattle.sms_join.specs.declared.segment.Segment.{Segment}
 use Rattle.sms_join.specs.Segments.{AreNumbered}
 
--- as many of the pieces as counted have their numbers
+-- so many of the pieces have their numbers
 pub record NumberedUpTo (maximum : ℕ) (pieces : List Units) (n : ℕ) (segments : List Segment) : Type 0 where
   pub units : map (λ (s : Segment). s.units) segments ≡ take n pieces
   pub sequences : map (λ (s : Segment). s.sequence) segments ≡ range_with_len 1 n
