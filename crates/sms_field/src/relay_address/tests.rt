@@ -117,40 +117,65 @@ const REFUSED: [Refused; 9] = [
     },
 ];
 
+/// Whether a text is the address of these octets, and is its text again, and they are read as it.
+fn is_text_of(alloc: Global, text: &str, octets: &[u8]) -> Result<bool, Fail> {
+    let address = RpAddress::from_text(alloc, text)?;
+    let written = address.write(alloc)?;
+    let again = address.to_text(alloc)?;
+    let (read, used) = RpAddress::read(alloc, octets)?;
+    Ok(
+        written.as_slice() == octets
+            && again.as_str() == text
+            && read == Some(address)
+            && used == octets.len(),
+    )
+}
+
+/// Whether a text is refused for this reason.
+fn is_refused(alloc: Global, text: &str, fault: AddressFault) -> bool {
+    match RpAddress::from_text(alloc, text) {
+        Ok(_) => false,
+        Err(why) => why == fault,
+    }
+}
+
 #[test]
-fn relay_addresses(rt: HostRuntime) -> Result<(), Fail> {
+fn relay_addresses_from_texts(rt: HostRuntime) -> Result<(), Fail> {
     for Spelled { text, octets } in SPELLED {
-        let address = RpAddress::from_text(rt.alloc(), text)?;
-        assert_eq!(rt; address.write(rt.alloc())?.as_slice(), octets, "{text}");
-        assert_eq!(rt; address.to_text(rt.alloc())?.as_str(), text, "{text}");
-        let copy = address.copy(rt.alloc())?;
-        assert_eq!(rt;
-            RpAddress::read(rt.alloc(), octets),
-            Ok((Some(copy), octets.len())),
-            "{text}"
-        );
+        assert!(rt; is_text_of(rt.alloc(), text, octets)?, "{text}");
     }
     for Bad { text, fault } in BAD {
-        assert_eq!(rt;
-            RpAddress::from_text(rt.alloc(), text),
-            Err(fault),
-            "{text}"
-        );
+        assert!(rt; is_refused(rt.alloc(), text, fault), "{text}");
     }
+    Ok(())
+}
+
+/// Whether octets are refused at this place for this reason.
+fn is_no_address(alloc: Global, octets: &[u8], place: usize, why: FieldFault) -> bool {
+    match RpAddress::read(alloc, octets) {
+        Ok(_) => false,
+        Err(refusal) => refusal == Refusal::At { place, why },
+    }
+}
+
+#[test]
+fn relay_addresses_refused(rt: HostRuntime) {
+    for Refused { octets, place, why } in REFUSED {
+        assert!(rt; is_no_address(rt.alloc(), octets, place, why), "{octets:?}");
+    }
+}
+
+/// An address has digits whatever its type, also that of names; a length of 0 is none.
+#[test]
+fn relay_addresses_read(rt: HostRuntime) -> Result<(), Fail> {
     assert_eq!(rt; RpAddress::read(rt.alloc(), b"\x00\xFF"), Ok((None, 1)));
     let (named, used) = RpAddress::read(rt.alloc(), b"\x03\x50\x21\xF3")?;
     assert_eq!(rt; used, 4usize);
-    let Some(address) = named else {
-        return Ok(assert!(rt; false));
-    };
+    let address = named.ok_or("an address")?;
     assert_eq!(rt; address.type_of_number, 5u8);
-    assert_eq!(rt; address.to_text(rt.alloc())?.as_str(), "123");
-    for Refused { octets, place, why } in REFUSED {
-        assert_eq!(rt;
-            RpAddress::read(rt.alloc(), octets),
-            Err(Refusal::At { place, why }),
-            "{octets:?}"
-        );
-    }
+    assert_eq!(rt;
+        address.copy(rt.alloc())?.to_text(rt.alloc())?.as_str(),
+        "123"
+    );
     Ok(())
 }
