@@ -1,6 +1,6 @@
 -- The tables by code and by character, compared with the lists of the definition, entry by entry.
 use Rattle.std.proofs.Common.{◌≡◌, ◌≢◌, ℕ, zero, suc, ◌<◌, ◌≤◌, Bool, true, false, not, cond, ltb, List, [], ◌∷◌, get_or, Option, Some, None, refl, sym, ap, subst, ◌∙◌, arith}
-use Rattle.std.specs.Prelude.{◌&&◌, ◌==◌}
+use Rattle.std.specs.Prelude.{◌&&◌, ◌||◌, ◌==◌, nat_le}
 use Rattle.std.proofs.lemmas.Bool.{eqb-true, ltb-true, ltb-false, ne_eqb}
 use Rattle.sms_text.specs.Tables.{main, escape, code_of, character_of}
 use Rattle.sms_text.specs.TextOfSeptets.{plain_character}
@@ -8,9 +8,6 @@ use Rattle.sms_text.specs.Same.{IsSame}
 
 abbrev pub characters : List ℕ
 characters = 64 ∷ 163 ∷ 36 ∷ 165 ∷ 232 ∷ 233 ∷ 249 ∷ 236 ∷ 242 ∷ 199 ∷ 10 ∷ 216 ∷ 248 ∷ 13 ∷ 197 ∷ 229 ∷ 916 ∷ 95 ∷ 934 ∷ 915 ∷ 923 ∷ 937 ∷ 928 ∷ 936 ∷ 931 ∷ 920 ∷ 926 ∷ 32 ∷ 198 ∷ 230 ∷ 223 ∷ 201 ∷ 32 ∷ 33 ∷ 34 ∷ 35 ∷ 164 ∷ 37 ∷ 38 ∷ 39 ∷ 40 ∷ 41 ∷ 42 ∷ 43 ∷ 44 ∷ 45 ∷ 46 ∷ 47 ∷ 48 ∷ 49 ∷ 50 ∷ 51 ∷ 52 ∷ 53 ∷ 54 ∷ 55 ∷ 56 ∷ 57 ∷ 58 ∷ 59 ∷ 60 ∷ 61 ∷ 62 ∷ 63 ∷ 161 ∷ 65 ∷ 66 ∷ 67 ∷ 68 ∷ 69 ∷ 70 ∷ 71 ∷ 72 ∷ 73 ∷ 74 ∷ 75 ∷ 76 ∷ 77 ∷ 78 ∷ 79 ∷ 80 ∷ 81 ∷ 82 ∷ 83 ∷ 84 ∷ 85 ∷ 86 ∷ 87 ∷ 88 ∷ 89 ∷ 90 ∷ 196 ∷ 214 ∷ 209 ∷ 220 ∷ 167 ∷ 191 ∷ 97 ∷ 98 ∷ 99 ∷ 100 ∷ 101 ∷ 102 ∷ 103 ∷ 104 ∷ 105 ∷ 106 ∷ 107 ∷ 108 ∷ 109 ∷ 110 ∷ 111 ∷ 112 ∷ 113 ∷ 114 ∷ 115 ∷ 116 ∷ 117 ∷ 118 ∷ 119 ∷ 120 ∷ 121 ∷ 122 ∷ 228 ∷ 246 ∷ 241 ∷ 252 ∷ 224 ∷ []
-
-abbrev pub same : List Bool
-same = false ∷ false ∷ false ∷ false ∷ false ∷ false ∷ false ∷ false ∷ false ∷ false ∷ true ∷ false ∷ false ∷ true ∷ false ∷ false ∷ false ∷ false ∷ false ∷ false ∷ false ∷ false ∷ false ∷ false ∷ false ∷ false ∷ false ∷ false ∷ false ∷ false ∷ false ∷ false ∷ true ∷ true ∷ true ∷ true ∷ false ∷ true ∷ true ∷ true ∷ true ∷ true ∷ true ∷ true ∷ true ∷ true ∷ true ∷ true ∷ true ∷ true ∷ true ∷ true ∷ true ∷ true ∷ true ∷ true ∷ true ∷ true ∷ true ∷ true ∷ true ∷ true ∷ true ∷ true ∷ false ∷ true ∷ true ∷ true ∷ true ∷ true ∷ true ∷ true ∷ true ∷ true ∷ true ∷ true ∷ true ∷ true ∷ true ∷ true ∷ true ∷ true ∷ true ∷ true ∷ true ∷ true ∷ true ∷ true ∷ true ∷ true ∷ true ∷ false ∷ false ∷ false ∷ false ∷ false ∷ false ∷ true ∷ true ∷ true ∷ true ∷ true ∷ true ∷ true ∷ true ∷ true ∷ true ∷ true ∷ true ∷ true ∷ true ∷ true ∷ true ∷ true ∷ true ∷ true ∷ true ∷ true ∷ true ∷ true ∷ true ∷ true ∷ true ∷ false ∷ false ∷ false ∷ false ∷ false ∷ false ∷ false ∷ false ∷ false ∷ false ∷ false ∷ false ∷ false ∷ false ∷ false ∷ false ∷ false ∷ false ∷ false ∷ false ∷ false ∷ false ∷ false ∷ false ∷ false ∷ false ∷ false ∷ false ∷ false ∷ false ∷ false ∷ false ∷ false ∷ false ∷ false ∷ false ∷ false ∷ false ∷ false ∷ false ∷ false ∷ false ∷ false ∷ false ∷ false ∷ false ∷ false ∷ false ∷ false ∷ false ∷ false ∷ false ∷ false ∷ false ∷ false ∷ false ∷ false ∷ false ∷ false ∷ false ∷ false ∷ false ∷ false ∷ false ∷ false ∷ false ∷ false ∷ false ∷ false ∷ false ∷ false ∷ false ∷ false ∷ false ∷ false ∷ false ∷ false ∷ false ∷ false ∷ false ∷ false ∷ false ∷ false ∷ false ∷ false ∷ false ∷ false ∷ false ∷ false ∷ false ∷ false ∷ false ∷ false ∷ false ∷ false ∷ false ∷ false ∷ false ∷ false ∷ false ∷ false ∷ false ∷ false ∷ false ∷ false ∷ false ∷ false ∷ false ∷ false ∷ false ∷ false ∷ false ∷ false ∷ false ∷ false ∷ false ∷ false ∷ false ∷ false ∷ false ∷ false ∷ false ∷ false ∷ false ∷ false ∷ false ∷ false ∷ false ∷ false ∷ false ∷ false ∷ false ∷ false ∷ []
 
 abbrev pub codes : List ℕ
 codes = 255 ∷ 255 ∷ 255 ∷ 255 ∷ 255 ∷ 255 ∷ 255 ∷ 255 ∷ 255 ∷ 255 ∷ 10 ∷ 255 ∷ 255 ∷ 13 ∷ 255 ∷ 255 ∷ 255 ∷ 255 ∷ 255 ∷ 255 ∷ 255 ∷ 255 ∷ 255 ∷ 255 ∷ 255 ∷ 255 ∷ 255 ∷ 255 ∷ 255 ∷ 255 ∷ 255 ∷ 255 ∷ 32 ∷ 33 ∷ 34 ∷ 35 ∷ 2 ∷ 37 ∷ 38 ∷ 39 ∷ 40 ∷ 41 ∷ 42 ∷ 43 ∷ 44 ∷ 45 ∷ 46 ∷ 47 ∷ 48 ∷ 49 ∷ 50 ∷ 51 ∷ 52 ∷ 53 ∷ 54 ∷ 55 ∷ 56 ∷ 57 ∷ 58 ∷ 59 ∷ 60 ∷ 61 ∷ 62 ∷ 63 ∷ 0 ∷ 65 ∷ 66 ∷ 67 ∷ 68 ∷ 69 ∷ 70 ∷ 71 ∷ 72 ∷ 73 ∷ 74 ∷ 75 ∷ 76 ∷ 77 ∷ 78 ∷ 79 ∷ 80 ∷ 81 ∷ 82 ∷ 83 ∷ 84 ∷ 85 ∷ 86 ∷ 87 ∷ 88 ∷ 89 ∷ 90 ∷ 255 ∷ 255 ∷ 255 ∷ 255 ∷ 17 ∷ 255 ∷ 97 ∷ 98 ∷ 99 ∷ 100 ∷ 101 ∷ 102 ∷ 103 ∷ 104 ∷ 105 ∷ 106 ∷ 107 ∷ 108 ∷ 109 ∷ 110 ∷ 111 ∷ 112 ∷ 113 ∷ 114 ∷ 115 ∷ 116 ∷ 117 ∷ 118 ∷ 119 ∷ 120 ∷ 121 ∷ 122 ∷ 255 ∷ 255 ∷ 255 ∷ 255 ∷ 255 ∷ 255 ∷ 255 ∷ 255 ∷ 255 ∷ 255 ∷ 255 ∷ 255 ∷ 255 ∷ 255 ∷ 255 ∷ 255 ∷ 255 ∷ 255 ∷ 255 ∷ 255 ∷ 255 ∷ 255 ∷ 255 ∷ 255 ∷ 255 ∷ 255 ∷ 255 ∷ 255 ∷ 255 ∷ 255 ∷ 255 ∷ 255 ∷ 255 ∷ 255 ∷ 255 ∷ 255 ∷ 255 ∷ 255 ∷ 64 ∷ 255 ∷ 1 ∷ 36 ∷ 3 ∷ 255 ∷ 95 ∷ 255 ∷ 255 ∷ 255 ∷ 255 ∷ 255 ∷ 255 ∷ 255 ∷ 255 ∷ 255 ∷ 255 ∷ 255 ∷ 255 ∷ 255 ∷ 255 ∷ 255 ∷ 255 ∷ 255 ∷ 255 ∷ 255 ∷ 255 ∷ 255 ∷ 255 ∷ 255 ∷ 96 ∷ 255 ∷ 255 ∷ 255 ∷ 255 ∷ 91 ∷ 14 ∷ 28 ∷ 9 ∷ 255 ∷ 31 ∷ 255 ∷ 255 ∷ 255 ∷ 255 ∷ 255 ∷ 255 ∷ 255 ∷ 93 ∷ 255 ∷ 255 ∷ 255 ∷ 255 ∷ 92 ∷ 255 ∷ 11 ∷ 255 ∷ 255 ∷ 255 ∷ 94 ∷ 255 ∷ 255 ∷ 30 ∷ 127 ∷ 255 ∷ 255 ∷ 255 ∷ 123 ∷ 15 ∷ 29 ∷ 255 ∷ 4 ∷ 5 ∷ 255 ∷ 255 ∷ 7 ∷ 255 ∷ 255 ∷ 255 ∷ 255 ∷ 125 ∷ 8 ∷ 255 ∷ 255 ∷ 255 ∷ 124 ∷ 255 ∷ 12 ∷ 6 ∷ 255 ∷ 255 ∷ 126 ∷ 255 ∷ 255 ∷ 255 ∷ []
@@ -48,6 +45,11 @@ plain_is code small = eqb-true (get_or characters code 0) (plain_character code)
 
 -- ---- the numbers that are the code of their own character
 
+-- letters, signs and line ends
+abbrev pub is_plain : ℕ → Bool
+is_plain c =
+    ((((nat_le 65 c && nat_le c 90) || (nat_le 97 c && nat_le c 122)) || ((nat_le 32 c && nat_le c 63) && not (c == 36))) || (c == 10 || c == 13))
+
 abbrev same_option : Option ℕ → ℕ → Bool
 same_option None n = false
 same_option (Some m) n = m == n
@@ -57,9 +59,9 @@ some_is None n e = absurd cc
 some_is (Some m) n e = ap (λ (x : ℕ). let r : Option ℕ = Some x in r) (eqb-true m n e)
 
 abbrev same_test : ℕ → Bool
-same_test c = cond (get_or same c false) (ltb c 128 && (plain_character c == c && (same_option (code_of main c) c && not (c == escape)))) true
+same_test c = cond (is_plain c) (ltb c 128 && (plain_character c == c && (same_option (code_of main c) c && not (c == escape)))) true
 
-same_parts : (c : ℕ) (b : Bool) → get_or same c false ≡ b → b ≡ true → cond b (ltb c 128 && (plain_character c == c && (same_option (code_of main c) c && not (c == escape)))) true ≡ true → IsSame c
+same_parts : (c : ℕ) (b : Bool) → is_plain c ≡ b → b ≡ true → cond b (ltb c 128 && (plain_character c == c && (same_option (code_of main c) c && not (c == escape)))) true ≡ true → IsSame c
 same_parts c false is e t = absurd cc
 same_parts c true is e t =
     let h = both (ltb c 128) _ t in
@@ -71,9 +73,9 @@ same_parts c true is e t =
     not_true true e = absurd cc
     not_true false e = refl
 
-pub same_is : (c : ℕ) → c < 256 → get_or same c false ≡ true → IsSame c
+pub same_is : (c : ℕ) → c < 256 → is_plain c ≡ true → IsSame c
 unfolding character_of code_of
-same_is c small is = same_parts c (get_or same c false) refl is (each_passes same_test 256 c refl small)
+same_is c small is = same_parts c (is_plain c) refl is (each_passes same_test 256 c refl small)
 
 -- ---- the codes by character
 

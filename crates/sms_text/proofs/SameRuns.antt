@@ -1,12 +1,12 @@
 -- Octets that are the codes of their own characters: both ways they are copied.
-use Rattle.std.proofs.Common.{◌≡◌, ℕ, ◌<◌, Bool, true, false, cond, List, [], ◌∷◌, ◌++◌, length, drop, get_or, Option, Some, None, refl, sym, ap, subst, ◌∙◌, append_assoc, arith}
+use Rattle.std.proofs.Common.{◌≡◌, ℕ, zero, suc, ◌+◌, ◌<◌, Bool, true, false, cond, List, [], ◌∷◌, ◌++◌, length, drop, get_or, Option, Some, None, refl, sym, ap, subst, ◌∙◌, append_assoc, arith}
 use Rattle.std.specs.Prelude.{◌&&◌, ◌==◌}
-use Rattle.std.proofs.lemmas.List.{append-nil, drop_at}
+use Rattle.std.proofs.lemmas.List.{append-nil, drop_at, length-append}
 use Rattle.std.proofs.lemmas.Str.{encodes-append, encode_ascii, chars-append, chars-encodes, chars_from_encodes, IsCharBoundary-after_ascii}
 use Rattle.std.proofs.Math.Utf8.{encode, encodes, scalar, scalars}
 use Rattle.std.specs.Str.{chars, IsUtf8, IsCharBoundary}
 use Rattle.sms_text.specs.Bits.{AreSeptets}
-use Rattle.sms_text.specs.Same.{AreSame}
+use Rattle.sms_text.specs.Same.{AreSame, StandsAfterSame}
 use Rattle.sms_text.specs.Tables.{main, extension, escape, space, code_of, character_of}
 use Rattle.sms_text.specs.SeptetsOfText.{code_or_escaped, septets_of_character, septets_of_text, appended}
 use Rattle.sms_text.specs.TextOfSeptets.{plain_character, escaped_character, text_of_septets}
@@ -137,20 +137,36 @@ pub no_character_left : (old cs : List ℕ) (total : Option (List ℕ)) → cs �
 unfolding septets_of_text
 no_character_left old cs total none so_far = sym so_far ∙ ap (λ (l : List ℕ). appended (Some old) (septets_of_text l)) none ∙ ap (λ (l : List ℕ). let r : Option (List ℕ) = Some l in r) (append-nil old)
 
-pub cut_after : (bs block others : List ℕ) → bs ≡ block ++ others → AreSame block → length block ≡ 8 → IsUtf8 bs → IsCharBoundary bs 8
-cut_after bs block others e are len text = go block others e are len
+pub cut_after : (bs front others : List ℕ) → bs ≡ front ++ others → AreSame front → 0 < length front → IsUtf8 bs → IsCharBoundary bs (length front)
+cut_after bs front others e are some text = go front e are some
   where
-    go : (block others : List ℕ) → bs ≡ block ++ others → AreSame block → length block ≡ 8 → IsCharBoundary bs 8
-    go (a ∷ b ∷ c ∷ d ∷ f ∷ g ∷ h ∷ i ∷ []) others e are len = IsCharBoundary-after_ascii bs 7 text (omega (arith, ap length e)) (subst (λ (l : List ℕ). get_or l 7 0 < 128) (sym e) are.1.1.1.1.1.1.1.0.small)
-    go [] others e are len = absurd (omega arith)
-    go (a ∷ []) others e are len = absurd (omega arith)
-    go (a ∷ b ∷ []) others e are len = absurd (omega arith)
-    go (a ∷ b ∷ c ∷ []) others e are len = absurd (omega arith)
-    go (a ∷ b ∷ c ∷ d ∷ []) others e are len = absurd (omega arith)
-    go (a ∷ b ∷ c ∷ d ∷ f ∷ []) others e are len = absurd (omega arith)
-    go (a ∷ b ∷ c ∷ d ∷ f ∷ g ∷ []) others e are len = absurd (omega arith)
-    go (a ∷ b ∷ c ∷ d ∷ f ∷ g ∷ h ∷ []) others e are len = absurd (omega arith)
-    go (a ∷ b ∷ c ∷ d ∷ f ∷ g ∷ h ∷ i ∷ j ∷ more) others e are len = absurd (omega arith)
+    last_small : (front others : List ℕ) (k : ℕ) → length front ≡ suc k → AreSame front → get_or (front ++ others) k 0 < 128
+    last_small [] others k len are = absurd (omega arith)
+    last_small (c ∷ front) others zero len are = are.0.small
+    last_small (c ∷ front) others (suc k) len are = last_small front others k (omega (arith, len)) are.1
 
-pub behind_block : (bs block others : List ℕ) → bs ≡ block ++ others → length block ≡ 8 → others ≡ drop 8 bs
-behind_block bs block others e len = sym (ap (drop 8) e ∙ drop_at block others 8 len)
+    go : (front : List ℕ) → bs ≡ front ++ others → AreSame front → 0 < length front → IsCharBoundary bs (length front)
+    go [] e are some = absurd (omega arith)
+    go (c ∷ front) e are some =
+        let one_more : length front + 1 ≡ length (c ∷ front) = omega arith in
+        subst (λ (n : ℕ). IsCharBoundary bs n) one_more
+        (IsCharBoundary-after_ascii bs (length front) text (omega (arith, ap length e, length-append (c ∷ front) others))
+        (subst (λ (l : List ℕ). get_or l (length front) 0 < 128) (sym e) (last_small (c ∷ front) others (length front) refl are)))
+
+pub behind_block : (bs front others : List ℕ) → bs ≡ front ++ others → others ≡ drop (length front) bs
+behind_block bs front others e = sym (ap (drop (length front)) e ∙ drop_at front others (length front) refl)
+
+-- ---- blocks of such codes
+
+pub after_more : (whole mid rest : List ℕ) → StandsAfterSame whole mid → StandsAfterSame mid rest → StandsAfterSame whole rest
+after_more whole mid rest h k = record {
+  front = h.front ++ k.front;
+  parts = h.parts ∙ ap (λ (l : List ℕ). h.front ++ l) k.parts ∙ sym (append_assoc h.front k.front rest);
+  same = are_both h.front k.front h.same k.same;
+} where
+  are_both : (a b : List ℕ) → AreSame a → AreSame b → AreSame (a ++ b)
+  are_both [] b p q = q
+  are_both (c ∷ a) b p q = (p.0, are_both a b p.1 q)
+
+pub none_before : (whole : List ℕ) → StandsAfterSame whole whole
+none_before whole = record { front = []; parts = refl; same = tt }

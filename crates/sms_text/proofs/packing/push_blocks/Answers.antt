@@ -1,5 +1,5 @@
-use Rattle.std.proofs.Common.{◌≡◌, ◌∙◌, ◌+◌, ◌-◌, ◌*◌, ◌≤◌, ◌++◌, ℕ, List, length, take, replicate, refl, sym, ap, append_assoc, length-append, arith}
-use Rattle.std.proofs.lemmas.List.{take_at, take_all, take-append-le, length-take-le, length-replicate}
+use Rattle.std.proofs.Common.{◌≡◌, ◌∙◌, ◌+◌, ◌*◌, ◌≤◌, ◌++◌, ℕ, List, length, take, sym, ap, append_assoc, length-append, arith}
+use Rattle.std.proofs.lemmas.List.{take_at, take_all}
 use Rattle.sms_text.proofs.packing.push_blocks.Goals as goal
 
 -- what is written after the front, with nothing after it

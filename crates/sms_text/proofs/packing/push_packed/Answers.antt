@@ -1,4 +1,4 @@
-use Rattle.std.proofs.Common.{◌≡◌, ◌∙◌, ◌+◌, ◌-◌, ◌*◌, ◌/◌, ◌≤◌, ◌++◌, ℕ, List, length, take, drop, sym, ap, append_assoc, length-append, arith}
+use Rattle.std.proofs.Common.{◌≡◌, ◌∙◌, ◌+◌, ◌*◌, ◌/◌, ◌≤◌, ◌++◌, ℕ, List, length, take, drop, sym, ap, append_assoc, length-append, arith}
 use Rattle.std.proofs.lemmas.List.{take_at, take_all, take-take, take-append-drop, length-take-le}
 use Rattle.sms_text.proofs.packing.push_packed.Goals as goal
 
