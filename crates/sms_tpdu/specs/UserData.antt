@@ -7,6 +7,7 @@ pub mod Concatenation
 pub mod ConcatenationFound
 pub mod Seen
 pub mod BodySeen
+pub mod Lent
 pub mod Laws
 use Rattle.std.specs.Prelude.{◌≡◌, ℕ, ◌+◌, ◌-◌, ◌≤◌, Bool, true, false, List, [], ◌∷◌, ◌++◌, length, Option, Some, None, is_some, Result, Ok, Err, nat_le, if◌then◌else◌}
 use Rattle.sms_text.specs.Bits.{unpacked, PackedPlain, AreSeptets}

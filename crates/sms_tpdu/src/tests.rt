@@ -1,5 +1,7 @@
 //! Units whose octets are known from the standard's tables.
 
+mod growths;
+
 use crate::{Body, Concat, Deliver, Header, Refusal, Submit, Unit, UnitFault, Width, reread};
 use sms_field::{Stamp, Symbols, Validity};
 use std::test::Fail;

@@ -7,6 +7,7 @@ pub mod concat;
 pub mod elements;
 pub mod header;
 pub mod lengths;
+pub mod lent;
 pub mod view;
 pub mod writing;
 

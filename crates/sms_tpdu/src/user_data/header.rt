@@ -1,6 +1,6 @@
 //! User data headers.
 
-ghost use Rattle.std.specs.Prelude.{◌≡◌, ◌<◌, ◌≤◌, length, Option, Some, IfOk};
+ghost use Rattle.std.specs.Prelude.{◌≡◌, ◌<◌, ◌≤◌, ◌++◌, length, Option, Some, IfOk, OnOk};
 ghost use Rattle.sms_tpdu.specs.UserData.Header.{header};
 ghost use Rattle.sms_tpdu.specs.declared.user_data.concat.Concat.{Concat};
 ghost use Rattle.sms_tpdu.specs.declared.user_data.concat.Width.TheVariants.{Eight};
@@ -56,24 +56,8 @@ impl Header {
         ensures octets { IfOk result (λ h. h ≡ element_octets (concat_element concat)) }
         ensures told { IfOk result (λ h. IsInOrder concat → IsConcatOf h (Some concat)) }
     {
-        let reference = concat.reference;
-        let octets = match concat.width {
-            Width::Eight => Vec::from_slice(
-                alloc,
-                &[0, 3, reference as u8, concat.maximum, concat.sequence],
-            )?,
-            Width::Sixteen => Vec::from_slice(
-                alloc,
-                &[
-                    8,
-                    4,
-                    (reference / 256) as u8,
-                    (reference % 256) as u8,
-                    concat.maximum,
-                    concat.sequence,
-                ],
-            )?,
-        };
+        let mut octets = Vec::with_capacity(alloc, concat.width.header_octets() - 1)?;
+        put_element(&mut octets, concat)?;
         Ok(Header::new(octets))
     }
 
@@ -122,6 +106,28 @@ impl Header {
     {
         let octets = Vec::from_slice(alloc, &self.octets)?;
         Ok(Header { octets })
+    }
+}
+
+/// Adds the element that tells the place of a segment.
+pub(crate) fn put_element(out: &mut Vec<u8>, concat: Concat) -> Result<(), AllocError>
+    requires { concat.width ≡ Eight → concat.reference < 256 }
+    ensures { OnOk result
+        (out.new.items ≡ out.old.items ++ element_octets (concat_element concat)) }
+{
+    let reference = concat.reference;
+    match concat.width {
+        Width::Eight => {
+            out.extend_from_slice(&[0, 3, reference as u8, concat.maximum, concat.sequence])
+        }
+        Width::Sixteen => out.extend_from_slice(&[
+            8,
+            4,
+            (reference / 256) as u8,
+            (reference % 256) as u8,
+            concat.maximum,
+            concat.sequence,
+        ]),
     }
 }
 

@@ -1,15 +1,22 @@
 //! User data written into a unit: their length, a header, and a body.
 
-ghost use Rattle.std.specs.Prelude.{◌≡◌, ◌≤◌, ◌++◌, ◌^◌, List, ℕ, length, IfOk, OnOk};
+ghost use Rattle.std.specs.Prelude.{◌≡◌, ◌≤◌, ◌+◌, ◌++◌, ◌^◌, List, ℕ, length, IfOk, IfSome, OnOk};
 ghost use Rattle.sms_field.specs.declared.coding.Alphabet.{Alphabet};
+ghost use Rattle.sms_field.specs.declared.coding.Alphabet.TheVariants.{Gsm7};
 ghost use Rattle.sms_tpdu.specs.UserData.{header_octets, FitsAlphabet, SpellsBody, SpellsUserData};
+ghost use Rattle.sms_tpdu.specs.UserData.Lengths as lengths;
+ghost use Rattle.sms_tpdu.specs.UserData.Lent.{place_header, units_body, user_after, SeptetsHaveRoom, WideHaveRoom, HasRoom, IsReferenceInRange};
+ghost use Rattle.sms_tpdu.specs.declared.user_data.body.Body.TheVariants as body;
+ghost use Rattle.sms_text.specs.Utf16.{octets_high_first};
 
 use crate::user_data::UserData;
 use crate::user_data::body::Body;
-use crate::user_data::header::Header;
+use crate::user_data::concat::Concat;
+use crate::user_data::header::{Header, put_element};
 use crate::user_data::lengths::{fill_bits, length_of_header};
+use crate::user_data::lent::UnitsView;
 use sms_field::Alphabet;
-use sms_text::pack_into;
+use sms_text::{pack_into, put_units};
 use std::alloc::{AllocError, Global};
 
 /// How many octets a header has, with its length octet; 0 where there is none.
@@ -45,6 +52,14 @@ pub fn room_for_user_data(user: &UserData) -> usize
     1 + octets_taken(&user.header) + room_for_body(&user.body)
 }
 
+/// The length of user data with septets after the octets of a header.
+fn length_of_septets(taken: usize, septets: &[u8]) -> u8
+    requires { lengths.length_of_header Gsm7 taken + length septets.now ≤ 160 }
+    ensures { result ≡ lengths.length_of_header Gsm7 taken + length septets.now }
+{
+    (length_of_header(Alphabet::Gsm7, taken) + septets.len()) as u8
+}
+
 /// Adds a header, with its length octet, where there is one.
 fn put_header(out: &mut Vec<u8>, header: &Option<Header>) -> Result<(), AllocError>
     ensures { OnOk result (out.new.items ≡ out.old.items ++ header_octets header.now) }
@@ -67,7 +82,7 @@ pub fn put_user_data(out: &mut Vec<u8>, user: &UserData) -> Result<(), AllocErro
     match &user.body {
         Body::Septets(septets) => {
             let septets = septets.as_slice();
-            out.push((length_of_header(Alphabet::Gsm7, taken) + septets.len()) as u8)?;
+            out.push(length_of_septets(taken, septets))?;
             put_header(out, &user.header)?;
             pack_into(out, septets, fill_bits(taken))?;
         }
@@ -79,6 +94,81 @@ pub fn put_user_data(out: &mut Vec<u8>, user: &UserData) -> Result<(), AllocErro
         }
     }
     Ok(())
+}
+
+/// How many octets the header of a place has, with its length octet; 0 where no place is given.
+fn octets_of_place(place: Option<Concat>) -> usize
+    ensures { result ≡ length (header_octets (place_header place)) }
+{
+    match place {
+        Some(place) => place.width.header_octets(),
+        None => 0,
+    }
+}
+
+/// Adds the header of a place, with its length octet, where a place is given.
+fn put_place(out: &mut Vec<u8>, place: Option<Concat>) -> Result<(), AllocError>
+    requires { IfSome place IsReferenceInRange }
+    ensures { OnOk result (out.new.items ≡ out.old.items ++ header_octets (place_header place)) }
+{
+    if let Some(place) = place {
+        out.push((place.width.header_octets() - 1) as u8)?;
+        put_element(out, place)?;
+    }
+    Ok(())
+}
+
+/// The octets of user data with septets that are lent.
+fn write_septets(
+    alloc: Global,
+    place: Option<Concat>,
+    septets: &[u8],
+) -> Result<Vec<u8>, AllocError>
+    requires reference { IfSome place IsReferenceInRange }
+    requires room { SeptetsHaveRoom (length (header_octets (place_header place))) septets.now }
+    ensures { IfOk result (λ octets. SpellsUserData
+        (user_after place (body.Septets septets.now)) octets.items) }
+{
+    let taken = octets_of_place(place);
+    let count = septets.len();
+    let mut out = Vec::with_capacity(alloc, 1 + taken + count - count / 8 + 1)?;
+    out.push(length_of_septets(taken, septets))?;
+    put_place(&mut out, place)?;
+    pack_into(&mut out, septets, fill_bits(taken))?;
+    Ok(out)
+}
+
+/// The octets of user data with 16-bit units that are lent.
+fn write_wide(alloc: Global, place: Option<Concat>, units: &[u16]) -> Result<Vec<u8>, AllocError>
+    requires reference { IfSome place IsReferenceInRange }
+    requires room { WideHaveRoom (length (header_octets (place_header place))) units.now }
+    ensures { IfOk result (λ octets. SpellsUserData
+        (user_after place (body.Octets (octets_high_first units.now))) octets.items) }
+{
+    let count = octets_of_place(place) + 2 * units.len();
+    let mut out = Vec::with_capacity(alloc, 1 + count)?;
+    out.push(count as u8)?;
+    put_place(&mut out, place)?;
+    put_units(&mut out, units)?;
+    Ok(out)
+}
+
+/// The octets of user data whose units are lent: their length, the header of the place, where one is given, and the
+/// units packed straight after it (3GPP TS 23.040, 9.2.3.24.1 and 9.2.3.24.8).
+pub fn write_units(
+    alloc: Global,
+    place: Option<Concat>,
+    units: UnitsView<'_>,
+) -> Result<Vec<u8>, AllocError>
+    requires reference { IfSome place IsReferenceInRange }
+    requires room { HasRoom (length (header_octets (place_header place))) units }
+    ensures { IfOk result (λ octets. SpellsUserData
+        (user_after place (units_body units.entry)) octets.items) }
+{
+    match units {
+        UnitsView::Gsm(septets) => write_septets(alloc, place, septets),
+        UnitsView::Ucs2(units) => write_wide(alloc, place, units),
+    }
 }
 
 impl UserData {

@@ -8,11 +8,16 @@ pub struct Sent {
 }
 
 /// Units outside of a packet.
-pub static UNITS: [Sent; 4] = [
+pub static UNITS: [Sent; 5] = [
     Sent {
         says: "a delivery of hellohello",
         octets: b"\x04\x0B\xC8\x72\x38\x88\x09\x00\xF1\x00\x00\x99\x30\x92\x51\x61\x95\x80\x0A\xE8\x32\x9B\xFD\x46\x97\xD9\xEC\x37",
         starts: &[0, 1],
+    },
+    Sent {
+        says: "a delivery of hellohello after the address of its centre",
+        octets: b"\x07\x91\x72\x83\x01\x00\x10\xF5\x04\x0B\xC8\x72\x38\x88\x09\x00\xF1\x00\x00\x99\x30\x92\x51\x61\x95\x80\x0A\xE8\x32\x9B\xFD\x46\x97\xD9\xEC\x37",
+        starts: &[0],
     },
     Sent {
         says: "a submission of hellohello",

@@ -28,7 +28,7 @@ fn a_delivery_where_it_lies(rt: HostRuntime) -> Result<(), Fail> {
     match view.user.body() {
         BodyView::Septets(septets) => {
             assert_eq!(rt; septets.count(), 2);
-            assert_eq!(rt; septets.packed(), (septets.octets(), septets.fill()));
+            assert_eq!(rt; septets.packed(), ([0xD0, 0x69].as_slice(), 1));
             assert_eq!(rt; septets.septet(0), Some(0x68));
             assert_eq!(rt; septets.septet(1), Some(0x69));
             assert_eq!(rt; septets.septet(2), None);

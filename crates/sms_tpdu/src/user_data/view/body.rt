@@ -93,18 +93,6 @@ impl<'a> Model for SeptetsView<'a> {
 }
 
 impl<'a> SeptetsView<'a> {
-    /// The octets in which the septets lie.
-    pub fn octets(&self) -> &'a [u8] {
-        self.octets
-    }
-
-    /// The bits before the first septet, 0 to 6.
-    pub fn fill(&self) -> u8
-        ensures { result < 7 }
-    {
-        self.fill
-    }
-
     /// The octets in which the septets lie, and the bits before the first septet, 0 to 6.
     pub fn packed(&self) -> (&'a [u8], u8)
         ensures few { result.1 < 7 }

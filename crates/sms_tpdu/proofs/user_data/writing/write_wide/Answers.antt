@@ -1,0 +1,19 @@
+use Rattle.std.proofs.Common.{◌≡◌, ◌+◌, ◌*◌, ◌++◌, ◌∷◌, [], ℕ, List, length, refl, ap, ◌∙◌, arith}
+use Rattle.sms_text.specs.Utf16.{octets_high_first}
+use Rattle.sms_text.specs.WideLaws.{length-octets_high_first}
+use Rattle.sms_tpdu.specs.UserData.{header_octets}
+use Rattle.sms_tpdu.specs.UserData.Lent.{place_header}
+use Rattle.sms_tpdu.proofs.user_data.writing.write_wide.Goals as goal
+
+pub returns : goal.returns
+returns c =
+    let header : List ℕ = header_octets (place_header c.args.place) in
+    let octets : List ℕ = octets_high_first c.args.units.now in
+    let count : ℕ = c.octets_of_place.result + 2 * length c.args.units.now in
+    let is : count ≡ length header + length octets = omega (arith, c.octets_of_place.ensures, length-octets_high_first c.args.units.now) in
+    let pushed : c.push.new.self.items ≡ count ∷ [] = c.in_ok-push.ensures.items ∙ ap (λ (l : List ℕ). l ++ count ∷ []) c.in_ok-out.ensures.items in
+    record {
+      written = octets;
+      spells_body = refl;
+      parts = c.in_ok-put_units.ensures.added ∙ ap (λ (l : List ℕ). l ++ octets) (c.in_ok-put_place.ensures ∙ ap (λ (l : List ℕ). l ++ header) pushed) ∙ ap (λ (n : ℕ). n ∷ (header ++ octets)) is;
+    }
