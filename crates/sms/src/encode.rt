@@ -6,13 +6,14 @@ ghost use Rattle.sms_tpdu.specs.UserData.{FitsAlphabet};
 ghost use Rattle.sms_tpdu.specs.Submit.ValidityPeriod.{IsInRange};
 ghost use Rattle.sms_tpdu.specs.declared.user_data.concat.Width.TheVariants.{Eight};
 ghost use Rattle.sms_join.specs.SegmentUser.{IsSendable, coding_of};
+ghost use Rattle.sms_join.specs.SegmentsValue.{seen_units};
 
 use crate::fault::Fault;
 use crate::words::{Draft, DraftKind};
 use hex::FromHex;
 use sms_field::{Address, AddressFault, Stamp, Validity};
-use sms_join::{Segment, SplitFault, Units, segment_user, split};
-use sms_tpdu::{Deliver, Submit, Unit, UserData, Width};
+use sms_join::{Segments, SplitFault, cut_text};
+use sms_tpdu::{Deliver, Submit, Unit, UnitsView, UserData, Width};
 use std::alloc::Global;
 
 /// The stamp of a delivery that is given none: the first second of 2000 in UTC.
@@ -44,20 +45,20 @@ struct Content {
 
 /// The data coding scheme that tells the alphabet of units.
 #[tactic(auto, unfolding(sms_field::specs::Coding::alphabet_at))]
-fn coding_scheme(units: &Units) -> u8
-    ensures { alphabet_at result ≡ coding_of units.now }
+fn coding_scheme(units: UnitsView<'_>) -> u8
+    ensures { alphabet_at result ≡ coding_of (seen_units units.entry) }
 {
     match units {
-        Units::Gsm(_) => 0x00,
-        Units::Ucs2(_) => 0x08,
+        UnitsView::Gsm(_) => 0x00,
+        UnitsView::Ucs2(_) => 0x08,
     }
 }
 
 /// The segments of a text.
-fn segments_of(alloc: Global, text: &str) -> Result<Vec<Segment>, Fault>
-    ensures { IfOk result (λ segments. All (IsSendable Eight) segments.items) }
+fn segments_of(alloc: Global, text: &str) -> Result<Segments, Fault>
+    ensures { IfOk result (λ segments. All (IsSendable Eight) segments) }
 {
-    match split(alloc, text, Width::Eight) {
+    match cut_text(alloc, text, Width::Eight) {
         Ok(segments) => Ok(segments),
         Err(SplitFault::TooManySegments) => Err(Fault::TextTooLong),
         Err(SplitFault::Memory) => Err(Fault::Memory),
@@ -69,11 +70,11 @@ fn content_of(alloc: Global, text: &str) -> Result<Content, Fault>
     ensures { IfOk result (λ content. FitsAlphabet (alphabet_at content.dcs) content.user) }
 {
     let segments = segments_of(alloc, text)?;
-    let [segment] = segments.as_slice() else {
+    let (1, Some(segment)) = (segments.len(), segments.get(0)) else {
         return Err(Fault::TextTooLong);
     };
-    let user = segment_user(alloc, segment, Width::Eight, 0)?;
-    let dcs = coding_scheme(&segment.units);
+    let user = segment.user(alloc, Width::Eight, 0)?;
+    let dcs = coding_scheme(segment.units());
     Ok(Content { dcs, user })
 }
 

@@ -7,8 +7,8 @@ ghost use Rattle.sms_join.specs.SegmentUser.{IsSendable};
 use crate::fault::Fault;
 use crate::printed::Hexadecimal;
 use crate::words::LongText;
-use sms_join::{Segment, SplitFault, Units, segment_user, split};
-use sms_tpdu::Width;
+use sms_join::{SegmentView, SplitFault, cut_text};
+use sms_tpdu::{UnitsView, Width};
 use std::alloc::Global;
 use std::io::Write;
 
@@ -22,17 +22,17 @@ impl From<SplitFault> for Fault {
 }
 
 /// The alphabet of units.
-fn alphabet_name(units: &Units) -> &'static str {
+fn alphabet_name(units: UnitsView<'_>) -> &'static str {
     match units {
-        Units::Gsm(_) => "gsm",
-        Units::Ucs2(_) => "ucs2",
+        UnitsView::Gsm(_) => "gsm",
+        UnitsView::Ucs2(_) => "ucs2",
     }
 }
 
 /// The line of a segment: its place, its alphabet, and its user data with their length.
 fn put_segment<W: Write>(
     alloc: Global,
-    segment: &Segment,
+    segment: &SegmentView<'_>,
     width: Width,
     reference: u16,
     output: &mut W,
@@ -40,13 +40,13 @@ fn put_segment<W: Write>(
     requires sendable { IsSendable width segment.now }
     requires reference { width ≡ Eight → reference < 256 }
 {
-    let user = segment_user(alloc, segment, width, reference)?;
-    let octets = user.write(alloc)?;
-    let alphabet = alphabet_name(&segment.units);
+    let octets = segment.write_user(alloc, width, reference)?;
+    let alphabet = alphabet_name(segment.units());
     write!(
         output,
         "{}/{} {alphabet} ",
-        segment.sequence, segment.maximum
+        segment.sequence(),
+        segment.maximum()
     )?;
     writeln!(output, "{} {}", octets[0], Hexadecimal(&octets[1..]))?;
     Ok(())
@@ -62,9 +62,11 @@ fn put_cut<W: Write>(
 ) -> Result<(), Fault>
     requires { width ≡ Eight → reference < 256 }
 {
-    let segments = split(alloc, text, width)?;
-    for segment in segments.as_slice() {
-        put_segment(alloc, segment, width, reference, output)?;
+    let segments = cut_text(alloc, text, width)?;
+    for index in 0..segments.len() {
+        if let Some(segment) = segments.get(index) {
+            put_segment(alloc, &segment, width, reference, output)?;
+        }
     }
     Ok(())
 }

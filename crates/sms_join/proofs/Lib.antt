@@ -24,7 +24,7 @@ pub mod GroupLaws
 pub mod OneCut
 pub mod ReadingLaws
 pub mod CutPlaces
-pub mod Numbering
+pub mod Ends
 pub mod TextUnits
 pub mod SegmentTexts
 pub mod Sendable

@@ -1,11 +1,11 @@
 -- The segments of a text can be sent: there is room for the units of each, and their user data fit.
-use Rattle.std.proofs.Common.{◌≡◌, ℕ, zero, suc, ◌+◌, ◌*◌, ◌<◌, ◌≤◌, ◌≢◌, ◌⊎◌, inl, inr, Bool, true, false, cond, List, [], ◌∷◌, length, map, Some, None, sym, ap, subst, ◌∙◌, arith}
+use Rattle.std.proofs.Common.{◌≡◌, ℕ, zero, suc, ◌+◌, ◌<◌, ◌≤◌, ◌≢◌, ◌⊎◌, inl, inr, Bool, true, false, cond, List, [], ◌∷◌, length, map, Some, None, sym, ap, subst, ◌∙◌, arith}
 use Rattle.std.specs.Prelude.{◌==◌, All}
 use Rattle.std.proofs.lemmas.Bool.{cases_lt}
 use Rattle.std.proofs.lemmas.Bool.Decides.{eqb_tells}
 use Rattle.std.proofs.lemmas.List.Elements.{All-from_recursion}
 use Rattle.std.specs.List.{flat_map, AllByRecursion, range_with_len}
-use Rattle.sms_text.specs.Utf16.{octets_high_first}
+use Rattle.sms_text.specs.WideLaws.{length-octets_high_first}
 use Rattle.sms_tpdu.specs.declared.user_data.concat.Width.{Width}
 use Rattle.sms_tpdu.specs.declared.user_data.concat.Width.TheVariants.{Eight, Sixteen}
 use Rattle.sms_tpdu.specs.UserData.Elements.{element_octets}
@@ -80,11 +80,6 @@ pub segments_sendable : (width : Width) (text : List ℕ) (pieces : List Units) 
 segments_sendable width text pieces segments cut h = All-from_recursion (IsSendable width) segments (numbered_sendable width text pieces segments cut h)
 
 -- ---- the user data
-
-length-octets_high_first : (units : List ℕ) → length (octets_high_first units) ≡ 2 * length units
-unfolding octets_high_first
-length-octets_high_first [] = omega arith
-length-octets_high_first (u ∷ units) = omega (arith, length-octets_high_first units)
 
 fits_alone : (units : Units) → length (numbers units) ≤ room_alone (alphabet_in units) → HasRange (body_of units) → BodyFits (coding_of units) 0 (body_of units)
 fits_alone (Gsm septets) le range = (omega (arith, le), range)

@@ -18,6 +18,7 @@ pub mod Cut
 pub mod Reading
 pub mod Segments
 pub mod SegmentUser
+pub mod SegmentsValue
 pub mod LastKeys
 pub mod Offering
 pub mod Slots

@@ -4,12 +4,14 @@ ghost use Rattle.std.specs.Prelude.{◌≡◌, ◌<◌, ◌≤◌, ◌↔◌, �
 ghost use Rattle.std.specs.Str.{chars};
 ghost use Rattle.sms_join.specs.declared.units.Units.{Units as TheUnits};
 ghost use Rattle.sms_join.specs.declared.cut.SplitFault.TheVariants.{TooManySegments, Memory};
-ghost use Rattle.sms_join.specs.UnitsOfText.{IsText, units_of_text};
+ghost use Rattle.sms_join.specs.UnitsOfText.{IsText, units_of_text, numbers};
 ghost use Rattle.sms_join.specs.Cut.{IsParted, IsCut, HasOneCut};
-ghost use Rattle.sms_join.specs.Segments.{AreNumbered, AreSegments};
+ghost use Rattle.sms_join.specs.Segments.{AreSegments};
+ghost use Rattle.sms_join.specs.SegmentsValue.{RiseTo, pieces_at};
 ghost use Rattle.sms_join.specs.SegmentUser.{IsSendable};
 
 use crate::segment::Segment;
+use crate::segments::Segments;
 use crate::units::{Ucs2Units, Units};
 use sms_text::{gsm_of, ucs2_of};
 use sms_tpdu::{Septets, Width};
@@ -88,57 +90,59 @@ fn count_pieces(units: &Units, width: Width) -> usize
     count_parts(units, units.room_beside(width))
 }
 
-/// The pieces of a text's units by a room. There are `many`, and room is made for all at once.
-fn parts(alloc: Global, units: &Units, room: usize, many: u8) -> Result<Vec<Units>, AllocError>
+/// Where the pieces of a text's units by a room end. There are `many`, and room is made for all at once.
+fn ends_by(alloc: Global, units: &Units, room: usize, many: u8) -> Result<Vec<usize>, AllocError>
     requires { 2 ≤ room }
-    ensures { (text : List ℕ) → IsText text → units.now ≡ units_of_text text
-        → IfOk result (λ pieces. IsParted room text pieces.items) }
+    ensures parted { (text : List ℕ) → IsText text → units.now ≡ units_of_text text
+        → IfOk result (λ ends. IsParted room text (pieces_at units.now 0 ends.items)) }
+    ensures rising { IfOk result (λ ends. RiseTo 0 ends.items (length (numbers units.now))) }
 {
     let count = units.len();
-    let mut pieces = Vec::with_capacity(alloc, usize::from(many))?;
+    let mut ends = Vec::with_capacity(alloc, usize::from(many))?;
     let mut start = 0;
     while start < count {
-        let end = units.piece_end(start, room);
-        pieces.push(units.part(alloc, start, end)?)?;
-        start = end;
+        start = units.piece_end(start, room);
+        ends.push(start)?;
     }
-    Ok(pieces)
+    Ok(ends)
 }
 
-/// The pieces in which a text's units are sent. There are `many`.
-fn pieces(alloc: Global, units: Units, width: Width, many: u8) -> Result<Vec<Units>, AllocError>
-    ensures { (text : List ℕ) → IsText text → units ≡ units_of_text text
-        → IfOk result (λ pieces. IsCut width text pieces.items) }
+/// Where the pieces end in which a text's units are sent. There are `many`.
+fn ends_of(alloc: Global, units: &Units, width: Width, many: u8) -> Result<Vec<usize>, AllocError>
+    ensures cut { (text : List ℕ) → IsText text → units.now ≡ units_of_text text
+        → IfOk result (λ ends. IsCut width text (pieces_at units.now 0 ends.items)) }
+    ensures rising { IfOk result (λ ends. RiseTo 0 ends.items (length (numbers units.now))) }
 {
     if units.len() <= units.room_alone() {
-        return Ok(vec![in alloc; units]?);
+        return Ok(vec![in alloc; units.len()]?);
     }
-    let room = units.room_beside(width);
-    parts(alloc, &units, room, many)
+    ends_by(alloc, units, units.room_beside(width), many)
 }
 
-/// The segments of these pieces, `maximum` of them.
-fn numbered(alloc: Global, pieces: Vec<Units>, maximum: u8) -> Result<Vec<Segment>, AllocError>
-    requires { length pieces.items ≡ maximum }
-    ensures { IfOk result (λ segments. AreNumbered pieces.items segments.items) }
-{
-    let mut segments = Vec::with_capacity(alloc, usize::from(maximum))?;
-    for units in pieces {
-        let sequence = segments.len() as u8 + 1;
-        segments.push(Segment {
-            units,
-            maximum,
-            sequence,
-        })?;
-    }
-    Ok(segments)
-}
-
-/// The segments of a text, in order, for references of this width (3GPP TS 23.040, 9.2.3.24.1 and 9.2.3.24.8).
+/// Cuts a text into its segments, which lend its units, for references of this width (3GPP TS 23.040, 9.2.3.24.1 and
+/// 9.2.3.24.8).
 ///
 /// The text is sent as septets where the default alphabet and its extension have all its characters, else as UTF-16
 /// units. It is one segment where it fits 160 septets or 70 units. Else each segment has as many whole characters as
 /// fit 153 septets or 67 units, or 152 and 66 with `Width::Sixteen`.
+pub fn cut_text(alloc: Global, text: &str, width: Width) -> Result<Segments, SplitFault>
+    ensures segments { IfOk result (λ segments.
+        AreSegments width (chars text.now) segments) }
+    ensures few { IfOk result (λ segments. length segments ≤ 255) }
+    ensures sendable { IfOk result (λ segments. All (IsSendable width) segments) }
+    ensures too_many { result ≡ Err TooManySegments
+        → (pieces : List TheUnits) × IsCut width (chars text.now) pieces
+        × (255 < length pieces) }
+{
+    let units = units_of(alloc, text)?;
+    let Ok(maximum) = u8::try_from(count_pieces(&units, width)) else {
+        return Err(SplitFault::TooManySegments);
+    };
+    let ends = ends_of(alloc, &units, width, maximum)?;
+    Ok(Segments::new(units, ends))
+}
+
+/// The segments of a text as `cut_text` cuts it, each with units of its own.
 pub fn split(alloc: Global, text: &str, width: Width) -> Result<Vec<Segment>, SplitFault>
     ensures segments { IfOk result (λ segments.
         AreSegments width (chars text.now) segments.items) }
@@ -148,10 +152,6 @@ pub fn split(alloc: Global, text: &str, width: Width) -> Result<Vec<Segment>, Sp
         → (pieces : List TheUnits) × IsCut width (chars text.now) pieces
         × (255 < length pieces) }
 {
-    let units = units_of(alloc, text)?;
-    let Ok(maximum) = u8::try_from(count_pieces(&units, width)) else {
-        return Err(SplitFault::TooManySegments);
-    };
-    let pieces = pieces(alloc, units, width, maximum)?;
-    Ok(numbered(alloc, pieces, maximum)?)
+    let segments = cut_text(alloc, text, width)?;
+    Ok(segments.to_vec(alloc)?)
 }

@@ -10,15 +10,17 @@ mod offer;
 mod open_sets;
 mod reading;
 mod segment;
+mod segments;
 mod slot;
 mod units;
 
-pub use cut::{SplitFault, split, texts_have_one_cut};
+pub use cut::{SplitFault, cut_text, split, texts_have_one_cut};
 pub use joiner::Joiner;
 pub use key::Key;
 pub use offer::{Offer, OfferFault};
 pub use reading::{cut_is_read_as_text, read_units};
-pub use segment::{Segment, segment_user};
+pub use segment::{Segment, SegmentView, segment_user};
+pub use segments::Segments;
 pub use units::{Ucs2Units, Units};
 
 #[cfg(test)]

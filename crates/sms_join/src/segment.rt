@@ -1,15 +1,19 @@
 //! One segment of a message.
 
-ghost use Rattle.std.specs.Prelude.{◌≡◌, ◌<◌, ◌≤◌, IfOk};
+ghost use Rattle.std.specs.Prelude.{◌≡◌, ◌<◌, ◌≤◌, None, Some, IfOk, IfSome, MatchOption};
 ghost use Rattle.sms_tpdu.specs.declared.user_data.concat.Width.TheVariants.{Eight};
 ghost use Rattle.sms_text.specs.Octets.{IsOctets};
-ghost use Rattle.sms_tpdu.specs.UserData.{FitsAlphabet, header_octets};
+ghost use Rattle.sms_tpdu.specs.UserData.{FitsAlphabet, SpellsUserData, header_octets};
+ghost use Rattle.sms_tpdu.specs.UserData.Lent.{place_header, IsReferenceInRange};
+ghost use Rattle.sms_tpdu.specs.UserData.Concatenation.{IsInOrder, IsConcatOf};
 ghost use Rattle.sms_join.specs.SegmentUser.{IsSendable, HasRange, coding_of, body_of, header_of, user_of, TellsPlace};
+ghost use Rattle.sms_join.specs.SegmentsValue.{seen_units, AreLent};
 
 use crate::units::Units;
 use sms_text::octets_of_units;
-use sms_tpdu::{Body, Concat, Header, Octets, Septets, UserData, Width};
+use sms_tpdu::{Body, Concat, Header, Octets, Septets, UnitsView, UserData, Width, write_units};
 use std::alloc::{AllocError, Global};
+use std::marker::Model;
 
 /// A part of a text, and its place: the sequence counts from 1 to the maximum, which is 1 for a text in one piece.
 #[derive(Drop)]
@@ -19,49 +23,182 @@ pub struct Segment {
     pub sequence: u8,
 }
 
+impl Segment {
+    /// The segment where it lies.
+    pub fn view(&self) -> SegmentView<'_>
+        ensures { result ≡ self.now }
+    {
+        SegmentView {
+            units: self.units.view(),
+            maximum: self.maximum,
+            sequence: self.sequence,
+        }
+    }
+}
+
+/// A segment whose units are lent. Contracts see it as the segment.
+#[derive(Drop)]
+pub struct SegmentView<'a> {
+    units: UnitsView<'a>,
+    maximum: u8,
+    sequence: u8,
+}
+
+impl<'a> Model for SegmentView<'a> {
+    ghost use Rattle.sms_join.specs.declared.segment.Segment.{Segment};
+    ghost use Rattle.sms_join.specs.SegmentsValue.{seen_units, AreLent};
+
+    ghost Value = { Segment };
+
+    ghost view = { λ s. record {
+      units = seen_units s.units;
+      maximum = s.maximum;
+      sequence = s.sequence;
+    } };
+
+    ghost invariant = { λ s. AreLent s.units };
+}
+
 /// The units as the body of user data.
-fn body_of_units(alloc: Global, units: &Units) -> Result<Body, AllocError>
-    ensures body { IfOk result (λ body. body ≡ body_of units.now) }
+fn body_of_units(alloc: Global, units: UnitsView<'_>) -> Result<Body, AllocError>
+    requires { AreLent units }
+    ensures body { IfOk result (λ body. body ≡ body_of (seen_units units.entry)) }
     ensures range { IfOk result HasRange }
 {
     match units {
-        Units::Gsm(septets) => {
-            let septets = Vec::from_slice(alloc, septets.as_slice())?;
+        UnitsView::Gsm(septets) => {
+            let septets = Vec::from_slice(alloc, septets)?;
             Ok(Body::Septets(Septets::new(septets)))
         }
-        Units::Ucs2(units) => {
-            let octets = octets_of_units(alloc, units.as_slice())?;
+        UnitsView::Ucs2(units) => {
+            let octets = octets_of_units(alloc, units)?;
             Ok(Body::Octets(Octets::new(octets)))
         }
     }
 }
 
-/// The header with this place, where it is one of several.
-fn header_of_place(
-    alloc: Global,
-    width: Width,
-    reference: u16,
-    maximum: u8,
-    sequence: u8,
-) -> Result<Option<Header>, AllocError>
-    requires reference { width ≡ Eight → reference < 256 }
-    requires first { 1 ≤ sequence }
-    requires last { sequence ≤ maximum }
-    ensures header { IfOk result (λ header.
-        header ≡ header_of width reference maximum sequence) }
+/// The header with a place, where one is given.
+fn header_of_place(alloc: Global, place: Option<Concat>) -> Result<Option<Header>, AllocError>
+    requires reference { IfSome place IsReferenceInRange }
+    requires order { IfSome place IsInOrder }
+    ensures header { IfOk result (λ header. header ≡ place_header place) }
     ensures octets { IfOk result (λ header. IsOctets (header_octets header)) }
-    ensures told { IfOk result (TellsPlace width reference maximum sequence) }
+    ensures told { IfOk result (λ header. MatchOption place (header ≡ None)
+        (λ place. MatchOption header ⊥ (λ header. IsConcatOf header (Some place)))) }
 {
-    if maximum == 1 {
-        return Ok(None);
+    match place {
+        Some(place) => Ok(Some(Header::of(alloc, place)?)),
+        None => Ok(None),
     }
-    let place = Concat {
-        width,
-        reference,
-        maximum,
-        sequence,
-    };
-    Ok(Some(Header::of(alloc, place)?))
+}
+
+impl<'a> SegmentView<'a> {
+    /// A segment of these units, which are septets where they are lent as septets.
+    pub(crate) fn new(units: UnitsView<'a>, maximum: u8, sequence: u8) -> SegmentView<'a>
+        requires { AreLent units }
+        ensures { result ≡ record {
+          units = seen_units units.entry;
+          maximum = maximum;
+          sequence = sequence;
+        } }
+    {
+        SegmentView {
+            units,
+            maximum,
+            sequence,
+        }
+    }
+
+    /// The units.
+    pub fn units(&self) -> UnitsView<'a>
+        ensures { seen_units result ≡ self.now.units }
+    {
+        self.units
+    }
+
+    /// How many segments the message has.
+    pub fn maximum(&self) -> u8
+        ensures { result ≡ self.now.maximum }
+    {
+        self.maximum
+    }
+
+    /// Which of them this is, from 1 on.
+    pub fn sequence(&self) -> u8
+        ensures { result ≡ self.now.sequence }
+    {
+        self.sequence
+    }
+
+    /// The place of the segment, where it is one of several.
+    fn place(&self, width: Width, reference: u16) -> Option<Concat>
+        requires reference { width ≡ Eight → reference < 256 }
+        requires first { 1 ≤ self.now.sequence }
+        requires last { self.now.sequence ≤ self.now.maximum }
+        ensures header { place_header result
+            ≡ header_of width reference self.now.maximum self.now.sequence }
+        ensures reference { IfSome result IsReferenceInRange }
+        ensures order { IfSome result IsInOrder }
+        ensures place { MatchOption result (self.now.maximum ≡ 1) (λ place. place ≡ record {
+          width = width;
+          reference = reference;
+          maximum = self.now.maximum;
+          sequence = self.now.sequence;
+        }) }
+    {
+        if self.maximum == 1 {
+            return None;
+        }
+        Some(Concat {
+            width,
+            reference,
+            maximum: self.maximum,
+            sequence: self.sequence,
+        })
+    }
+
+    /// The user data of the segment: its units after a header with its place, or its units alone where it is the only
+    /// one (3GPP TS 23.040, 9.2.3.24.1 and 9.2.3.24.8).
+    ///
+    /// All segments of a message have one reference, which is below 256 with `Width::Eight`.
+    pub fn user(&self, alloc: Global, width: Width, reference: u16) -> Result<UserData, AllocError>
+        requires sendable { IsSendable width self.now }
+        requires reference { width ≡ Eight → reference < 256 }
+        ensures user { IfOk result (λ user. user ≡ user_of width reference self.now) }
+        ensures told { IfOk result (λ user.
+            TellsPlace width reference self.now.maximum self.now.sequence user.header) }
+        ensures fits { IfOk result (FitsAlphabet (coding_of self.now.units)) }
+    {
+        let body = body_of_units(alloc, self.units)?;
+        let header = header_of_place(alloc, self.place(width, reference))?;
+        Ok(UserData { header, body })
+    }
+
+    /// The octets of the user data of the segment, written straight from its units.
+    pub fn write_user(
+        &self,
+        alloc: Global,
+        width: Width,
+        reference: u16,
+    ) -> Result<Vec<u8>, AllocError>
+        requires sendable { IsSendable width self.now }
+        requires reference { width ≡ Eight → reference < 256 }
+        ensures { IfOk result (λ octets.
+            SpellsUserData (user_of width reference self.now) octets.items) }
+    {
+        write_units(alloc, self.place(width, reference), self.units)
+    }
+
+    /// The segment itself, with a copy of the units.
+    pub fn to_value(&self, alloc: Global) -> Result<Segment, AllocError>
+        ensures { IfOk result (λ segment. segment ≡ self.now) }
+    {
+        Ok(Segment {
+            units: Units::copy_of(alloc, self.units)?,
+            maximum: self.maximum,
+            sequence: self.sequence,
+        })
+    }
 }
 
 /// The user data of a segment: its units after a header with its place, or its units alone where it is the only one
@@ -81,7 +218,5 @@ pub fn segment_user(
         TellsPlace width reference segment.now.maximum segment.now.sequence user.header) }
     ensures fits { IfOk result (FitsAlphabet (coding_of segment.now.units)) }
 {
-    let body = body_of_units(alloc, &segment.units)?;
-    let header = header_of_place(alloc, width, reference, segment.maximum, segment.sequence)?;
-    Ok(UserData { header, body })
+    segment.view().user(alloc, width, reference)
 }

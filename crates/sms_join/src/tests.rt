@@ -1,12 +1,16 @@
 //! Texts on both sides of each cut, and what their segments are sent and read as.
 
-use crate::{SplitFault, Ucs2Units, Units, read_units, segment_user, split};
+ghost use Rattle.std.specs.Prelude.{◌≡◌, ◌<◌};
+ghost use Rattle.sms_tpdu.specs.declared.user_data.concat.Width.TheVariants.{Eight};
+ghost use Rattle.sms_join.specs.SegmentUser.{IsSendable};
+
+use crate::{SegmentView, SplitFault, Ucs2Units, Units, cut_text, read_units, segment_user, split};
 use sms_tpdu::{Body, Septets, Width};
 use std::alloc::{AllocError, Global};
 use std::test::Fail;
 
-/// A text: a letter a number of times, another text, and the letter a number of times; and how many units its segments have
-/// with references of eight bits, and of sixteen.
+/// A text: a letter a number of times, another text, and the letter a number of times; and how many units its segments
+/// have with references of eight bits, and of sixteen.
 #[derive(Clone, Copy)]
 struct Cut {
     letter: &'static str,
@@ -169,11 +173,12 @@ fn cuts_texts(rt: HostRuntime) -> Result<(), Fail> {
         assert!(rt; eight && sixteen, "{text}");
     }
     let longest = repeated(alloc, "a", 39_015, "")?;
-    let segments = split(alloc, &longest, Width::Eight)?;
-    let last = segments.last().ok_or("no segment")?;
-    assert_eq!(rt; (last.sequence, last.maximum), (255, 255));
+    let segments = cut_text(alloc, &longest, Width::Eight)?;
+    let last = segments.get(254).ok_or("no segment")?;
+    assert_eq!(rt; (last.sequence(), last.maximum()), (255, 255));
+    assert!(rt; segments.get(255).is_none());
     let longer = repeated(alloc, &longest, 1, "a")?;
-    let fault = split(alloc, &longer, Width::Eight).err();
+    let fault = cut_text(alloc, &longer, Width::Eight).err();
     assert_eq!(rt; fault, Some(SplitFault::TooManySegments));
     Ok(())
 }
@@ -185,6 +190,47 @@ fn gives_user_data(rt: HostRuntime) -> Result<(), Fail> {
         let text = repeated(alloc, row.letter, row.times, row.then)?;
         let found = last_octets(alloc, &text, row.width)?;
         assert_eq!(rt; found.as_slice(), row.octets, "{text}");
+    }
+    Ok(())
+}
+
+/// Whether a segment is written as its user data are.
+fn is_written(
+    alloc: Global,
+    segment: &SegmentView<'_>,
+    width: Width,
+    reference: u16,
+) -> Result<bool, Fail>
+    requires sendable { IsSendable width segment.now }
+    requires reference { width ≡ Eight → reference < 256 }
+{
+    let octets = segment.write_user(alloc, width, reference)?;
+    let user = segment.user(alloc, width, reference)?;
+    let owned = segment.to_value(alloc)?;
+    let again = owned.view().write_user(alloc, width, reference)?;
+    Ok(octets == user.write(alloc)? && octets == again)
+}
+
+/// Whether all segments of a text are written as their user data are.
+fn are_written(alloc: Global, text: &str, width: Width) -> Result<bool, Fail> {
+    let segments = cut_text(alloc, text, width)?;
+    for place in 0..segments.len() {
+        let segment = segments.get(place).ok_or("no segment")?;
+        if !is_written(alloc, &segment, width, 200)? {
+            return Ok(false);
+        }
+    }
+    Ok(true)
+}
+
+#[test]
+fn writes_user_data(rt: HostRuntime) -> Result<(), Fail> {
+    let alloc = rt.alloc();
+    for row in cuts().as_slice() {
+        let text = repeated(alloc, row.letter, row.times, row.then)?;
+        let eight = are_written(alloc, &text, Width::Eight)?;
+        let sixteen = are_written(alloc, &text, Width::Sixteen)?;
+        assert!(rt; eight && sixteen, "{text}");
     }
     Ok(())
 }

@@ -1,15 +1,15 @@
 //! The units of a text: septets of the default alphabet, or 16-bit units.
 
-ghost use Rattle.std.specs.Prelude.{◌≡◌, ◌+◌, ◌-◌, ◌<◌, ◌≤◌, ◌↔◌, [], length, slice_index, slice_range, IfOk, IsTrue, if◌then◌else◌};
-ghost use Rattle.sms_join.specs.UnitsOfText.{numbers, alphabet_in, units_in, begins_pair};
+ghost use Rattle.std.specs.Prelude.{◌≡◌, ◌+◌, ◌-◌, ◌<◌, ◌≤◌, ◌↔◌, [], length, slice_index, IfOk, IsTrue, if◌then◌else◌};
+ghost use Rattle.sms_join.specs.UnitsOfText.{numbers, alphabet_in, begins_pair};
 ghost use Rattle.sms_join.specs.Cut.{room_alone, room_beside};
+ghost use Rattle.sms_join.specs.SegmentsValue.{seen_units, AreLent, part_of};
 
-use sms_tpdu::{Septets, Width};
+use sms_field::Alphabet;
+use sms_text::ESCAPE;
+use sms_tpdu::{Septets, UnitsView, Width, greatest_length, length_of_header};
 use std::alloc::{AllocError, Global};
 use std::marker::Model;
-
-/// The escape to the extension table (3GPP TS 23.038, 6.2.1.1).
-const ESCAPE: u8 = 27;
 
 /// 16-bit units of UCS-2 (3GPP TS 23.038, 6.2.3).
 #[derive(Drop)]
@@ -74,8 +74,8 @@ impl Units {
         ensures { result ≡ room_alone (alphabet_in self.now) }
     {
         match self {
-            Units::Gsm(_) => 160,
-            Units::Ucs2(_) => 70,
+            Units::Gsm(_) => greatest_length(Alphabet::Gsm7),
+            Units::Ucs2(_) => greatest_length(Alphabet::Ucs2) / 2,
         }
     }
 
@@ -83,11 +83,12 @@ impl Units {
     pub(crate) fn room_beside(&self, width: Width) -> usize
         ensures { result ≡ room_beside width (alphabet_in self.now) }
     {
-        match (self, width) {
-            (Units::Gsm(_), Width::Eight) => 153,
-            (Units::Gsm(_), Width::Sixteen) => 152,
-            (Units::Ucs2(_), Width::Eight) => 67,
-            (Units::Ucs2(_), Width::Sixteen) => 66,
+        let header = width.header_octets();
+        match self {
+            Units::Gsm(_) => {
+                greatest_length(Alphabet::Gsm7) - length_of_header(Alphabet::Gsm7, header)
+            }
+            Units::Ucs2(_) => (greatest_length(Alphabet::Ucs2) - header) / 2,
         }
     }
 
@@ -125,21 +126,43 @@ impl Units {
         }
     }
 
-    /// The units from one place up to another.
-    pub(crate) fn part(&self, alloc: Global, start: usize, end: usize) -> Result<Units, AllocError>
-        requires order { start ≤ end }
-        requires inside { end ≤ length (numbers self.now) }
-        ensures { IfOk result (λ part. part
-            ≡ units_in (alphabet_in self.now) (slice_range (numbers self.now) start end)) }
+    /// The units where they lie.
+    pub fn view(&self) -> UnitsView<'_>
+        ensures same { seen_units result ≡ self.now }
+        ensures lent { AreLent result }
     {
         match self {
-            Units::Gsm(septets) => {
-                let part = Vec::from_slice(alloc, &septets.as_slice()[start..end])?;
-                Ok(Units::Gsm(Septets::new(part)))
+            Units::Gsm(septets) => UnitsView::Gsm(septets.as_slice()),
+            Units::Ucs2(units) => UnitsView::Ucs2(units.as_slice()),
+        }
+    }
+
+    /// The units from one place up to another, where they lie.
+    pub(crate) fn part(&self, start: usize, end: usize) -> UnitsView<'_>
+        requires order { start ≤ end }
+        requires inside { end ≤ length (numbers self.now) }
+        ensures is { seen_units result ≡ part_of self.now start end }
+        ensures lent { AreLent result }
+    {
+        match self {
+            Units::Gsm(septets) => UnitsView::Gsm(&septets.as_slice()[start..end]),
+            Units::Ucs2(units) => UnitsView::Ucs2(&units.as_slice()[start..end]),
+        }
+    }
+
+    /// A copy of units that are lent.
+    pub(crate) fn copy_of(alloc: Global, units: UnitsView<'_>) -> Result<Units, AllocError>
+        requires { AreLent units }
+        ensures { IfOk result (λ copy. copy ≡ seen_units units.entry) }
+    {
+        match units {
+            UnitsView::Gsm(septets) => {
+                let copy = Vec::from_slice(alloc, septets)?;
+                Ok(Units::Gsm(Septets::new(copy)))
             }
-            Units::Ucs2(units) => {
-                let part = Vec::from_slice(alloc, &units.as_slice()[start..end])?;
-                Ok(Units::Ucs2(Ucs2Units::new(part)))
+            UnitsView::Ucs2(units) => {
+                let copy = Vec::from_slice(alloc, units)?;
+                Ok(Units::Ucs2(Ucs2Units::new(copy)))
             }
         }
     }

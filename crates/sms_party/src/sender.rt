@@ -20,7 +20,7 @@ use crate::message::{Message, Relay, Report, Tag};
 use crate::outcome::{Dropped, Outcome, Step};
 use crate::sender::typed_text::TypedText;
 use sms_field::Address;
-use sms_join::{Segment, split};
+use sms_join::{Segments, cut_text};
 use sms_relay::Side;
 use sms_tpdu::Width;
 use std::alloc::{AllocError, Global};
@@ -210,16 +210,16 @@ impl Sender {
         if self.pending.len() >= PENDING_MAX {
             return Err(Dropped::Busy);
         }
-        let segments = split(self.alloc, text, self.width)?;
+        let segments = cut_text(self.alloc, text, self.width)?;
         let text = self.text_of(target, segments)?;
         self.enter(text)
     }
 
     /// The text of these segments, with the next references.
-    fn text_of(&self, target: &Address, segments: Vec<Segment>) -> Result<TypedText, AllocError>
-        requires few { length segments.items ≤ 255 }
-        requires sendable { All (IsSendable self.now.width) segments.items }
-        ensures { IfOk result (λ text. text ≡ text_in self.now target.now segments.items) }
+    fn text_of(&self, target: &Address, segments: Segments) -> Result<TypedText, AllocError>
+        requires few { length segments ≤ 255 }
+        requires sendable { All (IsSendable self.now.width) segments }
+        ensures { IfOk result (λ text. text ≡ text_in self.now target.now segments) }
     {
         Ok(TypedText {
             target: target.copy(self.alloc)?,

@@ -3,8 +3,7 @@
 ghost use Rattle.sms_tpdu.specs.UserData.ConcatenationFound.{IsPlace};
 
 use super::*;
-use crate::cut::split;
-use crate::segment::Segment;
+use crate::cut::cut_text;
 use crate::units::Ucs2Units;
 use sms_text::gsm_of;
 use sms_tpdu::{Septets, Width};
@@ -86,35 +85,24 @@ fn units_of(alloc: Global, piece: PieceUnits) -> Result<Units, AllocError> {
     }
 }
 
-/// The same units.
-fn copied(alloc: Global, units: &Units) -> Result<Units, AllocError> {
-    match units {
-        Units::Gsm(septets) => {
-            let septets = Vec::from_slice(alloc, septets.as_slice())?;
-            Ok(Units::Gsm(Septets::new(septets)))
-        }
-        Units::Ucs2(units) => {
-            let units = Vec::from_slice(alloc, units.as_slice())?;
-            Ok(Units::Ucs2(Ucs2Units::new(units)))
-        }
-    }
-}
-
 /// Whether the text finishes just once, where its segments are offered in this order.
 fn finishes_once(alloc: Global, text: &str, order: &[usize]) -> Result<bool, Fail> {
-    let segments = split(alloc, text, Width::Eight)?;
+    let segments = cut_text(alloc, text, Width::Eight)?;
     let origin = Address::from_text(alloc, "+1001")?;
     let mut joiner = Joiner::new(alloc, 1, 1)?;
     let mut finished = Vec::new(alloc);
     for index in order {
-        let segment = segments.get(*index).ok_or("no such segment")?;
+        let segment = segments
+            .get(*index)
+            .ok_or("no such segment")?
+            .to_value(alloc)?;
         let place = Concat {
             width: Width::Eight,
             reference: 7,
             maximum: segment.maximum,
             sequence: segment.sequence,
         };
-        let units = copied(alloc, &segment.units)?;
+        let units = segment.units;
         let stamp = Stamp::new([0; 7]);
         let answer = joiner.offer(0, &origin, stamp, checked(Some(place)), units)?;
         if let Offer::Finished(text) = answer {

@@ -2,6 +2,7 @@
 
 ghost use Rattle.std.specs.Prelude.{◌≡◌, ◌<◌, Some, IfOk, IfErr};
 ghost use Rattle.sms_join.specs.SegmentUser.{IsSendable};
+ghost use Rattle.sms_join.specs.SegmentsValue.{seen_units};
 ghost use Rattle.sms_party.specs.Sender.Segments.{dcs_of};
 ghost use Rattle.sms_party.specs.Sender.Value.{submission_in, text_put, CarriesOptional};
 ghost use Rattle.sms_party.specs.declared.outcome.Dropped.TheVariants.{Memory};
@@ -10,9 +11,9 @@ use crate::message::Tag;
 use crate::message::packets::{address_of_centre, wrapped};
 use crate::outcome::Dropped;
 use sms_field::{Address, Validity};
-use sms_join::{Segment, Units, segment_user};
+use sms_join::{SegmentView, Segments};
 use sms_relay::{Side, wrap_transfer};
-use sms_tpdu::{Submit, Width};
+use sms_tpdu::{Submit, UnitsView, Width};
 use std::alloc::{AllocError, Global};
 use std::marker::Model;
 
@@ -21,7 +22,7 @@ use std::marker::Model;
 pub(crate) struct TypedText {
     pub target: Address,
     /// In order, 255 at most.
-    pub segments: Vec<Segment>,
+    pub segments: Segments,
     /// The TP-Message-Reference of the first segment.
     pub reference: u8,
     pub width: Width,
@@ -39,23 +40,23 @@ impl Model for TypedText {
 
     ghost view = { λ t. record {
       target = t.target;
-      segments = t.segments.items;
+      segments = t.segments;
       reference = t.reference;
       width = t.width;
       set_reference = t.set_reference;
     } };
 
     ghost invariant = { λ t. (t.width ≡ Eight → t.set_reference < 256)
-        × (length t.segments.items ≤ 255) × All (IsSendable t.width) t.segments.items };
+        × (length t.segments ≤ 255) × All (IsSendable t.width) t.segments };
 }
 
 /// The TP-DCS of units: the default alphabet, or UCS-2.
-fn dcs_of(units: &Units) -> u8
-    ensures { result ≡ dcs_of units.now }
+fn dcs_of(units: UnitsView<'_>) -> u8
+    ensures { result ≡ dcs_of (seen_units units.entry) }
 {
     match units {
-        Units::Gsm(_) => 0x00,
-        Units::Ucs2(_) => 0x08,
+        UnitsView::Gsm(_) => 0x00,
+        UnitsView::Ucs2(_) => 0x08,
     }
 }
 
@@ -65,7 +66,7 @@ impl TypedText {
         &self,
         alloc: Global,
         place: u8,
-        segment: &Segment,
+        segment: &SegmentView<'_>,
         reject: bool,
     ) -> Result<Submit, AllocError>
         requires { IsSendable self.now.width segment.now }
@@ -79,8 +80,8 @@ impl TypedText {
             reference: self.reference.wrapping_add(place),
             target: self.target.copy(alloc)?,
             pid: 0,
-            dcs: dcs_of(&segment.units),
-            user: segment_user(alloc, segment, self.width, self.set_reference)?,
+            dcs: dcs_of(segment.units()),
+            user: segment.user(alloc, self.width, self.set_reference)?,
         })
     }
 
@@ -100,7 +101,7 @@ impl TypedText {
         let Some(segment) = self.segments.get(usize::from(place)) else {
             return Ok(None);
         };
-        let submission = self.submission(alloc, place, segment, reject)?;
+        let submission = self.submission(alloc, place, &segment, reject)?;
         let address = address_of_centre(alloc)?;
         let packet = wrapped(wrap_transfer(
             alloc,

@@ -22,6 +22,6 @@ pub returns-clause-types : goal.returns-clause-types
 returns-clause-types c =
     let size : c.len.result ≡ length c.args.self.now.pending = c.len.ensures ∙ (c.self.inside.pending.ok.0 ∙ ap (λ (v : SenderValue). length v.pending) c.self.view_is) in
     let s = c.in_ok-segments.ensures.segments in
-    types_so c.args.self.now c.enter.new.self c.args.target.now _ s.0 c.in_ok-segments.segments.items
+    types_so c.args.self.now c.enter.new.self c.args.target.now _ s.0 c.in_ok-segments.segments
     (subst (λ (v : SenderValue). IsCut v.width (chars c.args.text.now) s.0) c.self.view_is s.1) s.2 c.in_ok-segments.ensures.few (omega (arith, size, c.if-len-ge-PENDING_MAX.false)) c.enter.result
     (subst (λ (t : TextValue). Did (enters c.args.self.now t) c.args.self.now c.enter.result c.enter.new.self) c.in_ok-text.ensures c.enter.ensures.did)

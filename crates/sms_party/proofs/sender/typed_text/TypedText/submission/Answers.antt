@@ -1,4 +1,4 @@
-use Rattle.std.proofs.Common.{◌≡◌, ◌<◌, refl, sym, subst, arith}
+use Rattle.std.proofs.Common.{◌≡◌, ◌<◌, refl, sym, ap, ◌∙◌, subst, arith}
 use Rattle.sms_field.specs.AddressValue.{HasSpelling}
 use Rattle.sms_field.specs.Coding.{alphabet_at}
 use Rattle.sms_field.specs.declared.coding.Alphabet.{Alphabet}
@@ -19,12 +19,14 @@ same_alphabet (Gsm s) = refl
 same_alphabet (Ucs2 s) = refl
 
 pub invariant_of-result : goal.invariant_of-result
-invariant_of-result c = record {
-  validity = tt;
-  reference = omega arith;
-  target = subst HasSpelling c.result.view_is c.result.invariant;
-  pid = omega arith;
-  dcs = subst (λ n. n < 256) (sym c.dcs_of.ensures) (dcs_range c.args.segment.now.units);
-  user = subst (λ n. FitsAlphabet (alphabet_at n) c.in_ok-segment_user.field-0) (sym c.dcs_of.ensures)
-      (subst (λ (a : Alphabet). FitsAlphabet a c.in_ok-segment_user.field-0) (same_alphabet c.args.segment.now.units) c.in_ok-segment_user.ensures.fits);
-}
+invariant_of-result c =
+    let dcs : c.dcs_of.result ≡ dcs_of c.args.segment.now.units = c.dcs_of.ensures ∙ ap dcs_of c.units.ensures in
+    record {
+      validity = tt;
+      reference = omega arith;
+      target = subst HasSpelling c.result.view_is c.result.invariant;
+      pid = omega arith;
+      dcs = subst (λ n. n < 256) (sym dcs) (dcs_range c.args.segment.now.units);
+      user = subst (λ n. FitsAlphabet (alphabet_at n) c.in_ok-user.field-0) (sym dcs)
+          (subst (λ (a : Alphabet). FitsAlphabet a c.in_ok-user.field-0) (same_alphabet c.args.segment.now.units) c.in_ok-user.ensures.fits);
+    }
