@@ -1,7 +1,6 @@
 -- How much a party puts out.
 use Rattle.std.proofs.Common.{◌≡◌, ℕ, ◌-◌, ◌≤◌, Bool, true, false, cond, nat_lt, List, [], ◌∷◌, length, Option, Some, None, refl, arith}
 use Rattle.std.specs.Prelude.{nat_le, ◌==◌, ◌&&◌}
-use Rattle.std.specs.List.{AllByRecursion}
 use Rattle.sms_field.specs.AddressValue.{AddressValue}
 use Rattle.sms_field.specs.Coding.{alphabet_at}
 use Rattle.sms_tpdu.specs.Deliver.{Delivery}
@@ -28,7 +27,6 @@ use Rattle.sms_party.specs.Does.{Does}
 use Rattle.sms_party.specs.Few.{AreFewTo, FewArePutOut}
 use Rattle.sms_party.specs.Centre.{centre_opened, centre_answered, centre_receives}
 use Rattle.sms_party.specs.Centre.State.{Acceptance, Pushing, CentreState}
-use Rattle.sms_party.specs.Centre.Checks.{checked_by}
 use Rattle.sms_party.specs.Centre.Held.{unended}
 use Rattle.sms_party.specs.Centre.Submissions.{checked, centre_takes}
 use Rattle.sms_party.specs.Centre.Pushes.{pushes_first, centre_pushes}
@@ -37,10 +35,10 @@ use Rattle.sms_party.specs.Receiver.{receiver_takes, receiver_opened, receiver_r
 use Rattle.sms_party.specs.Receiver.State.{ReceiverLimits, ReceiverState}
 use Rattle.sms_party.specs.Receiver.Pieces.{units_in}
 use Rattle.sms_party.specs.Receiver.Offers.{settles, is_full_for, receiver_offers, offers_units}
-use Rattle.sms_party.specs.Sender.Texts.{Text, Sender, SenderState, new_text, number_of, size_of}
+use Rattle.sms_party.specs.Sender.Texts.{Text, Sender, SenderState}
 use Rattle.sms_party.specs.Sender.Putting.{Puts, puts_text, puts_first, puts, sender_drops, does}
 use Rattle.sms_party.specs.Sender.Calls.{appended, typed, composes, repeats, times_out}
-use Rattle.sms_party.specs.Sender.Answers.{accepts, noted, hears, matches, sender_receives, sender_takes}
+use Rattle.sms_party.specs.Sender.Answers.{noted, hears, matches, sender_receives, sender_takes}
 
 -- ---- a sender
 

@@ -1,6 +1,7 @@
 pub mod Keys
 pub mod Keeping
 pub mod Lines
+pub mod Queues
 pub mod Pushing
 pub mod Read
 pub mod Replies

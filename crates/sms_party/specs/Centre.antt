@@ -11,6 +11,7 @@ pub mod Keys
 pub mod Value
 pub mod Kept
 pub mod Lines
+pub mod Queue
 pub mod Standing
 pub mod Calls
 use Rattle.std.specs.Prelude.{ℕ, true, false, List, Option, None}

@@ -45,7 +45,7 @@ books_in v now phone s =
       stamp = λ recipient. max (free_at v.lines recipient) now;
     }
 
--- causes are those of an RP-ERROR, and what is accepted has a recipient and a stamp
+-- causes are those of an RP-ERROR, and what is accepted has a recipient and a stamp that is free
 abbrev pub IsLawfulCheck : CentreValue → Check → Type 0
 IsLawfulCheck v (Refuse cause failure) = cause < 128
-IsLawfulCheck v (Accept recipient ends stamp) = (recipient < length (phones_of v)) × (stamp < 3155760000)
+IsLawfulCheck v (Accept recipient ends stamp) = (recipient < length (phones_of v)) × (stamp < 3155760000) × (free_at v.lines recipient ≤ stamp)

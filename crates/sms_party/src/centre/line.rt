@@ -1,14 +1,15 @@
 //! What the centre knows of one recipient.
 
-ghost use Rattle.std.specs.Prelude.{◌≡◌, ◌<◌, ◌≤◌, false, All, IfOk, IfErr};
+ghost use Rattle.std.specs.Prelude.{◌≡◌, ◌<◌, ◌≤◌, ◌++◌, false, List, All, slice_get, option_copied, IfOk, IfErr};
 ghost use Rattle.sms_relay.specs.declared.side.Side.TheVariants.{ToPhone};
 ghost use Rattle.sms_party.specs.declared.message.Message.TheVariants.{Data};
 ghost use Rattle.sms_party.specs.declared.message.Relay.TheVariants.{Transfer};
 ghost use Rattle.sms_party.specs.declared.message.TransferUnit.TheVariants.{Deliver};
 ghost use Rattle.sms_party.specs.Message.Carrying.{Carries};
 ghost use Rattle.sms_party.specs.Centre.Verdicts.{stays, verdict};
-ghost use Rattle.sms_party.specs.Centre.Value.{line_at};
+ghost use Rattle.sms_party.specs.Centre.Value.{line_at, WaitingValue};
 ghost use Rattle.sms_party.specs.Centre.Lines.{delivery_of, new_line, left_waiting, LinePushes, LineHears};
+ghost use Rattle.sms_party.specs.Centre.Queue.{is_last, StampsDiffer, IsLastOrGone};
 ghost use Rattle.sms_party.specs.declared.outcome.Dropped.TheVariants.{Memory};
 
 use crate::centre::waiting::{Push, WaitingMessage};
@@ -25,8 +26,11 @@ use std::marker::Model;
 #[derive(Drop)]
 pub(crate) struct Line {
     pub address: Address,
-    /// What is to be delivered, in order of its latest acceptance or push.
-    pub queue: VecDeque<WaitingMessage>,
+    /// What is to be delivered, in order of its latest acceptance or push, up to the latest push: its message is the
+    /// last of these while it waits, so that an answer finds it without looking at the others.
+    pub older: VecDeque<WaitingMessage>,
+    /// What was accepted since. The next push puts it after the others.
+    pub newer: VecDeque<WaitingMessage>,
     /// No stamp below this one is given any more.
     pub free: u64,
     /// The transaction value and the reference of the next push.
@@ -41,13 +45,14 @@ impl Model for Line {
 
     ghost Value = { LineValue };
 
-    ghost use Rattle.std.specs.Prelude.{◌<◌};
+    ghost use Rattle.std.specs.Prelude.{◌<◌, ◌++◌};
+    ghost use Rattle.sms_party.specs.Centre.Queue.{IsQueue};
 
-    ghost invariant = { λ l. l.value < 7 };
+    ghost invariant = { λ l. (l.value < 7) × IsQueue l.older.items l.newer.items l.free l.latest };
 
     ghost view = { λ l. record {
       address = l.address;
-      queue = l.queue.items;
+      queue = l.older.items ++ l.newer.items;
       free = l.free;
       value = l.value;
       reference = l.reference;
@@ -103,12 +108,39 @@ fn stays(cause: Option<u8>) -> bool
     }
 }
 
-/// Takes the message with this stamp from the queue, as the answer to its push says.
-fn take_out(queue: &mut VecDeque<WaitingMessage>, stamp: u64, cause: Option<u8>)
-    ensures { queue.new.items ≡ left_waiting queue.old.items stamp cause }
+/// A moment before which none of these messages ends.
+fn earliest_end(queue: &VecDeque<WaitingMessage>) -> u64
+    ensures { All (λ m. result ≤ m.ends) queue.now.items }
 {
-    if !stays(cause) {
-        queue.retain(|message| message.stamp != stamp);
+    let mut earliest = u64::MAX;
+    for place in 0..queue.len() {
+        earliest = earliest.min(queue[place].ends);
+    }
+    earliest
+}
+
+/// Whether the last of these messages has this stamp.
+fn is_last(queue: &VecDeque<WaitingMessage>, stamp: u64) -> bool
+    ensures { result ≡ is_last stamp queue.now.items }
+{
+    match queue.back() {
+        Some(last) => last.stamp == stamp,
+        None => false,
+    }
+}
+
+/// Takes out the message of the latest push, which has this stamp, as the answer says. It is the last one, or has
+/// ended.
+fn take_out(older: &mut VecDeque<WaitingMessage>, stamp: u64, cause: Option<u8>)
+    ensures { (newer : List WaitingValue) → StampsDiffer (older.old.items ++ newer)
+        → IsLastOrGone stamp older.old.items newer
+        → older.new.items ++ newer ≡ left_waiting (older.old.items ++ newer) stamp cause }
+{
+    if stays(cause) {
+        return;
+    }
+    if is_last(older, stamp) {
+        older.pop_back();
     }
 }
 
@@ -119,7 +151,8 @@ impl Line {
     {
         Ok(Line {
             address: phone.copy(alloc)?,
-            queue: VecDeque::new(alloc),
+            older: VecDeque::new(alloc),
+            newer: VecDeque::new(alloc),
             free: 0,
             value: 0,
             reference: 0,
@@ -131,31 +164,40 @@ impl Line {
     pub(crate) fn earliest(&self) -> u64
         ensures { All (λ m. result ≤ m.ends) self.now.queue }
     {
-        let mut earliest = u64::MAX;
-        for place in 0..self.queue.len() {
-            earliest = earliest.min(self.queue[place].ends);
-        }
-        earliest
+        let older = earliest_end(&self.older);
+        let newer = earliest_end(&self.newer);
+        older.min(newer)
     }
 
     /// Removes the messages whose validity has ended.
     pub(crate) fn advance(&mut self, now: u64)
         ensures { self.new ≡ line_at now self.old }
     {
-        self.queue.retain(|message| message.ends > now);
+        self.older.retain(|message| message.ends > now);
+        self.newer.retain(|message| message.ends > now);
+    }
+
+    /// The first message of the queue.
+    fn first(&self) -> Option<&WaitingMessage>
+        ensures { option_copied result ≡ slice_get self.now.queue 0 }
+    {
+        match self.older.front() {
+            Some(first) => Some(first),
+            None => self.newer.front(),
+        }
     }
 
     /// Puts out the first message of the queue, which goes to its end. If memory runs out, the line is as it was.
     pub(crate) fn push(&mut self, alloc: Global) -> Result<Step, Dropped>
         ensures { LinePushes self.old result self.new }
     {
-        let Some(first) = self.queue.front() else {
+        let Some(first) = self.first() else {
             return Ok(Step {
                 outcome: Outcome::NothingWaits,
                 packets: Vec::new(alloc),
             });
         };
-        let more = self.queue.len() > 1;
+        let more = self.older.len() + self.newer.len() > 1;
         let packet = delivery_packet(alloc, self.value, self.reference, first, more)?;
         let latest = Push {
             value: self.value,
@@ -164,7 +206,8 @@ impl Line {
             ends: first.ends,
         };
         let packets = vec![in alloc; packet]?;
-        self.queue.rotate_left(1);
+        self.older.append(&mut self.newer)?;
+        self.older.rotate_left(1);
         self.latest = Some(latest);
         self.value = (self.value + 1) % 7;
         self.reference = self.reference.wrapping_add(1);
@@ -195,7 +238,7 @@ impl Line {
         let packet = acknowledgement(alloc, false, tag.value)?;
         let packets = vec![in alloc; packet]?;
         self.latest = None;
-        take_out(&mut self.queue, stamp, cause);
+        take_out(&mut self.older, stamp, cause);
         Ok(Step {
             outcome: verdict(cause),
             packets,

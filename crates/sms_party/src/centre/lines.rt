@@ -1,6 +1,6 @@
 //! What the centre knows of all recipients.
 
-ghost use Rattle.std.specs.Prelude.{◌≡◌, ◌<◌, IsTrue, length, map, IfSome, IfOk, IfErr, OnOk, OnErr};
+ghost use Rattle.std.specs.Prelude.{◌≡◌, ◌<◌, ◌≤◌, IsTrue, length, map, IfSome, IfOk, IfErr, OnOk, OnErr};
 ghost use Rattle.sms_party.specs.Address.{are_distinct, phone_at, address_of};
 ghost use Rattle.sms_party.specs.Centre.Value.{line_at, addresses};
 ghost use Rattle.sms_party.specs.Centre.Lines.{new_line, accepting_line, LinePushes, LineHears, ChangesLine};
@@ -48,16 +48,17 @@ fn hold(
     key: HeldKey,
     message: WaitingMessage,
 ) -> Result<(), Dropped>
+    requires { line.old.free ≤ message.stamp }
     ensures held { OnOk result (HoldsAlso held.old key message.ends held.new) }
     ensures line { OnOk result (line.new ≡ accepting_line line.old message) }
     ensures err_held { OnErr result (held.new ≡ held.old) }
     ensures err_line { OnErr result (line.new ≡ line.old) }
     ensures memory { IfErr result (λ e. e ≡ Memory) }
 {
-    line.queue.reserve(1)?;
+    line.newer.reserve(1)?;
     held.hold(key, message.ends)?;
     line.free = message.stamp + 1;
-    line.queue.push_back_reserved(message);
+    line.newer.push_back_reserved(message);
     Ok(())
 }
 
@@ -153,7 +154,8 @@ impl Lines {
         key: HeldKey,
         message: WaitingMessage,
     ) -> Result<(), Dropped>
-        requires { recipient < length self.old }
+        requires recipient { recipient < length self.old }
+        requires stamp { free_at self.old recipient ≤ message.stamp }
         ensures held { OnOk result (HoldsAlso held.old key message.ends held.new) }
         ensures line { OnOk result (ChangesLine recipient self.old self.new
             (λ line new. new ≡ accepting_line line message)) }

@@ -7,7 +7,7 @@ ghost use Rattle.sms_party.specs.Centre.Value.{phones_of};
 use crate::centre::Centre;
 use crate::outcome::{Dropped, Outcome, Step};
 use crate::tests::centre_rows::{
-    Call, DELIVERED, DUPLICATES, ENDED, FULL, REFUSALS, Row, STAMPS, TURNS, TWO_ENDS,
+    BETWEEN, Call, DELIVERED, DUPLICATES, ENDED, FULL, GONE, REFUSALS, Row, STAMPS, TURNS, TWO_ENDS,
 };
 use sms_field::{Address, Digits, Symbols};
 use std::alloc::{AllocError, Global};
@@ -121,5 +121,12 @@ fn pushes_in_turn(rt: HostRuntime) -> Result<(), Fail> {
     assert_eq!(rt; differs(rt.alloc(), 1000, DELIVERED.as_slice())?, None);
     assert_eq!(rt; differs(rt.alloc(), 1000, TURNS.as_slice())?, None);
     assert_eq!(rt; differs(rt.alloc(), 1000, ENDED.as_slice())?, None);
+    Ok(())
+}
+
+#[test]
+fn takes_out_what_was_pushed(rt: HostRuntime) -> Result<(), Fail> {
+    assert_eq!(rt; differs(rt.alloc(), 1000, BETWEEN.as_slice())?, None);
+    assert_eq!(rt; differs(rt.alloc(), 1000, GONE.as_slice())?, None);
     Ok(())
 }

@@ -788,3 +788,253 @@ pub static ENDED: [Row; 4] = [
         packets: &[],
     },
 ];
+
+/// Messages are accepted between a push and its answer.
+pub static BETWEEN: [Row; 13] = [
+    Row {
+        name: "the first is accepted",
+        now: 0,
+        call: Call::Receive {
+            phone: 0,
+            octets: b"\x09\x01\x13\x00\x00\x00\x03\x91\x01\x00\x0B\x01\x00\x04\x91\x01\x20\x00\x00\x02\xE8\x34",
+        },
+        answer: Ok(Outcome::Held),
+        packets: &[
+            b"\x89\x04",
+            b"\x89\x01\x0D\x03\x00\x41\x09\x01\x00\x00\x10\x10\x00\x00\x00\x00",
+        ],
+    },
+    Row {
+        name: "it is pushed",
+        now: 0,
+        call: Call::Push { phone: 1 },
+        answer: Ok(Outcome::Pushed),
+        packets: &[
+            b"\x09\x01\x19\x01\x00\x03\x91\x01\x00\x00\x11\x04\x04\x91\x01\x10\x00\x00\x00\x10\x10\x00\x00\x00\x00\x02\xE8\x34",
+        ],
+    },
+    Row {
+        name: "the second is accepted before the answer",
+        now: 0,
+        call: Call::Receive {
+            phone: 0,
+            octets: b"\x19\x01\x13\x00\x01\x00\x03\x91\x01\x00\x0B\x01\x01\x04\x91\x01\x20\x00\x00\x02\xE8\x34",
+        },
+        answer: Ok(Outcome::Held),
+        packets: &[
+            b"\x99\x04",
+            b"\x99\x01\x0D\x03\x01\x41\x09\x01\x00\x00\x10\x10\x00\x00\x10\x00",
+        ],
+    },
+    Row {
+        name: "the first is refused for good",
+        now: 0,
+        call: Call::Receive {
+            phone: 1,
+            octets: b"\x89\x01\x04\x04\x00\x01\x6F",
+        },
+        answer: Ok(Outcome::Abandoned),
+        packets: &[b"\x09\x04"],
+    },
+    Row {
+        name: "the second is pushed, alone",
+        now: 0,
+        call: Call::Push { phone: 1 },
+        answer: Ok(Outcome::Pushed),
+        packets: &[
+            b"\x19\x01\x19\x01\x01\x03\x91\x01\x00\x00\x11\x04\x04\x91\x01\x10\x00\x00\x00\x10\x10\x00\x00\x10\x00\x02\xE8\x34",
+        ],
+    },
+    Row {
+        name: "the third is accepted before the answer",
+        now: 0,
+        call: Call::Receive {
+            phone: 0,
+            octets: b"\x29\x01\x13\x00\x02\x00\x03\x91\x01\x00\x0B\x01\x02\x04\x91\x01\x20\x00\x00\x02\xE8\x34",
+        },
+        answer: Ok(Outcome::Held),
+        packets: &[
+            b"\xA9\x04",
+            b"\xA9\x01\x0D\x03\x02\x41\x09\x01\x00\x00\x10\x10\x00\x00\x20\x00",
+        ],
+    },
+    Row {
+        name: "no room for the second",
+        now: 0,
+        call: Call::Receive {
+            phone: 1,
+            octets: b"\x99\x01\x09\x04\x01\x01\x16\x41\x03\x00\xD3\x00",
+        },
+        answer: Ok(Outcome::Returned),
+        packets: &[b"\x19\x04"],
+    },
+    Row {
+        name: "the second before the third",
+        now: 0,
+        call: Call::Push { phone: 1 },
+        answer: Ok(Outcome::Pushed),
+        packets: &[
+            b"\x29\x01\x19\x01\x02\x03\x91\x01\x00\x00\x11\x00\x04\x91\x01\x10\x00\x00\x00\x10\x10\x00\x00\x10\x00\x02\xE8\x34",
+        ],
+    },
+    Row {
+        name: "the third",
+        now: 0,
+        call: Call::Push { phone: 1 },
+        answer: Ok(Outcome::Pushed),
+        packets: &[
+            b"\x39\x01\x19\x01\x03\x03\x91\x01\x00\x00\x11\x00\x04\x91\x01\x10\x00\x00\x00\x10\x10\x00\x00\x20\x00\x02\xE8\x34",
+        ],
+    },
+    Row {
+        name: "the third is acknowledged",
+        now: 0,
+        call: Call::Receive {
+            phone: 1,
+            octets: b"\xB9\x01\x02\x02\x03",
+        },
+        answer: Ok(Outcome::Delivered),
+        packets: &[b"\x39\x04"],
+    },
+    Row {
+        name: "the second alone",
+        now: 0,
+        call: Call::Push { phone: 1 },
+        answer: Ok(Outcome::Pushed),
+        packets: &[
+            b"\x49\x01\x19\x01\x04\x03\x91\x01\x00\x00\x11\x04\x04\x91\x01\x10\x00\x00\x00\x10\x10\x00\x00\x10\x00\x02\xE8\x34",
+        ],
+    },
+    Row {
+        name: "the second is acknowledged",
+        now: 0,
+        call: Call::Receive {
+            phone: 1,
+            octets: b"\xC9\x01\x02\x02\x04",
+        },
+        answer: Ok(Outcome::Delivered),
+        packets: &[b"\x49\x04"],
+    },
+    Row {
+        name: "none waits",
+        now: 0,
+        call: Call::Push { phone: 1 },
+        answer: Ok(Outcome::NothingWaits),
+        packets: &[],
+    },
+];
+
+/// The message of the latest push has ended, and the clock is put back: its answer takes out no other one.
+pub static GONE: [Row; 11] = [
+    Row {
+        name: "one for two days",
+        now: 0,
+        call: Call::Receive {
+            phone: 0,
+            octets: b"\x09\x01\x13\x00\x00\x00\x03\x91\x01\x00\x0B\x01\x00\x04\x91\x01\x20\x00\x00\x02\xE8\x34",
+        },
+        answer: Ok(Outcome::Held),
+        packets: &[
+            b"\x89\x04",
+            b"\x89\x01\x0D\x03\x00\x41\x09\x01\x00\x00\x10\x10\x00\x00\x00\x00",
+        ],
+    },
+    Row {
+        name: "one for five minutes",
+        now: 0,
+        call: Call::Receive {
+            phone: 0,
+            octets: b"\x19\x01\x14\x00\x01\x00\x03\x91\x01\x00\x0C\x11\x01\x04\x91\x01\x20\x00\x00\x00\x02\xE8\x34",
+        },
+        answer: Ok(Outcome::Held),
+        packets: &[
+            b"\x99\x04",
+            b"\x99\x01\x0D\x03\x01\x41\x09\x01\x00\x00\x10\x10\x00\x00\x10\x00",
+        ],
+    },
+    Row {
+        name: "a push of the first",
+        now: 0,
+        call: Call::Push { phone: 1 },
+        answer: Ok(Outcome::Pushed),
+        packets: &[
+            b"\x09\x01\x19\x01\x00\x03\x91\x01\x00\x00\x11\x00\x04\x91\x01\x10\x00\x00\x00\x10\x10\x00\x00\x00\x00\x02\xE8\x34",
+        ],
+    },
+    Row {
+        name: "a push of the one that ends",
+        now: 0,
+        call: Call::Push { phone: 1 },
+        answer: Ok(Outcome::Pushed),
+        packets: &[
+            b"\x19\x01\x19\x01\x01\x03\x91\x01\x00\x00\x11\x00\x04\x91\x01\x10\x00\x00\x00\x10\x10\x00\x00\x10\x00\x02\xE8\x34",
+        ],
+    },
+    Row {
+        name: "a third before the answer",
+        now: 0,
+        call: Call::Receive {
+            phone: 0,
+            octets: b"\x29\x01\x13\x00\x02\x00\x03\x91\x01\x00\x0B\x01\x02\x04\x91\x01\x20\x00\x00\x02\xE8\x34",
+        },
+        answer: Ok(Outcome::Held),
+        packets: &[
+            b"\xA9\x04",
+            b"\xA9\x01\x0D\x03\x02\x41\x09\x01\x00\x00\x10\x10\x00\x00\x20\x00",
+        ],
+    },
+    Row {
+        name: "five minutes are over",
+        now: 300,
+        call: Call::Advance,
+        answer: Ok(Outcome::Ticked),
+        packets: &[],
+    },
+    Row {
+        name: "an answer of the second before",
+        now: 299,
+        call: Call::Receive {
+            phone: 1,
+            octets: b"\x99\x01\x02\x02\x01",
+        },
+        answer: Ok(Outcome::Delivered),
+        packets: &[b"\x19\x04"],
+    },
+    Row {
+        name: "the first still waits",
+        now: 300,
+        call: Call::Push { phone: 1 },
+        answer: Ok(Outcome::Pushed),
+        packets: &[
+            b"\x29\x01\x19\x01\x02\x03\x91\x01\x00\x00\x11\x00\x04\x91\x01\x10\x00\x00\x00\x10\x10\x00\x00\x00\x00\x02\xE8\x34",
+        ],
+    },
+    Row {
+        name: "and so does the third",
+        now: 300,
+        call: Call::Push { phone: 1 },
+        answer: Ok(Outcome::Pushed),
+        packets: &[
+            b"\x39\x01\x19\x01\x03\x03\x91\x01\x00\x00\x11\x00\x04\x91\x01\x10\x00\x00\x00\x10\x10\x00\x00\x20\x00\x02\xE8\x34",
+        ],
+    },
+    Row {
+        name: "the third is taken out alone",
+        now: 300,
+        call: Call::Receive {
+            phone: 1,
+            octets: b"\xB9\x01\x02\x02\x03",
+        },
+        answer: Ok(Outcome::Delivered),
+        packets: &[b"\x39\x04"],
+    },
+    Row {
+        name: "the first is left",
+        now: 300,
+        call: Call::Push { phone: 1 },
+        answer: Ok(Outcome::Pushed),
+        packets: &[
+            b"\x49\x01\x19\x01\x04\x03\x91\x01\x00\x00\x11\x04\x04\x91\x01\x10\x00\x00\x00\x10\x10\x00\x00\x00\x00\x02\xE8\x34",
+        ],
+    },
+];

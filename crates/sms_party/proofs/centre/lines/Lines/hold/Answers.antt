@@ -6,14 +6,35 @@ use Rattle.sms_party.specs.Centre.Value.{LineValue}
 use Rattle.sms_party.specs.Centre.Value.{WaitingValue}
 use Rattle.std.proofs.Common.{◌≤◌}
 use Rattle.std.specs.Prelude.{All}
-use Rattle.sms_party.proofs.Lines.{addresses_set}
+use Rattle.sms_party.specs.Centre.Kept.{free_at}
+use Rattle.sms_party.proofs.Lines.{addresses_set, free_is}
 use Rattle.sms_party.proofs.Earliest.{set_end, line_ends, lower_more}
 use Rattle.sms_party.proofs.centre.lines.Lines.hold.Goals as goal
+
+pub hold-requires : goal.hold-requires
+hold-requires c =
+    let items = c.self.inside.lines.items in
+    let within = subst (λ (l : List LineValue). c.args.recipient < length l) (sym c.self.view_is) c.requires.recipient in
+    let there = slice_get_read items (length items) c.args.recipient c.index_mut-line.result.now refl within c.index_mut-line.ensures.value in
+    subst (λ n. n ≤ c.args.message.stamp) (free_is items c.args.recipient c.index_mut-line.result.now there)
+    (subst (λ (l : List LineValue). free_at l c.args.recipient ≤ c.args.message.stamp) (sym c.self.view_is) c.requires.stamp)
+
+pub invariant_of-self : goal.invariant_of-self
+invariant_of-self c =
+    let items = c.self.inside.lines.items in
+    let within = subst (λ (l : List LineValue). c.args.recipient < length l) (sym c.self.view_is) c.requires.recipient in
+    let there = slice_get_read items (length items) c.args.recipient c.index_mut-line.result.now refl within c.index_mut-line.ensures.value in
+    let queue = line_ends items c.args.recipient c.index_mut-line.result.now c.self.inside.earliest within c.index_mut-line.ensures.value c.self.invariant.1 in
+    let same = c.in_err-hold.ensures.err_line in (
+      c.self.invariant.0 ∙ sym (addresses_set items c.args.recipient c.index_mut-line.result.now c.hold.new.line there (ap (λ (l : LineValue). l.address) same)),
+      set_end items c.args.recipient c.hold.new.line c.self.inside.earliest c.self.inside.earliest (omega arith) c.self.invariant.1
+          (subst (λ (l : LineValue). All (λ m. c.self.inside.earliest ≤ m.ends) l.queue) (sym same) queue),
+    )
 
 pub invariant_of-self-2 : goal.invariant_of-self-2
 invariant_of-self-2 c =
     let items = c.self.inside.lines.items in
-    let within = subst (λ (l : List LineValue). c.args.recipient < length l) (sym c.self.view_is) c.requires in
+    let within = subst (λ (l : List LineValue). c.args.recipient < length l) (sym c.self.view_is) c.requires.recipient in
     let there = slice_get_read items (length items) c.args.recipient c.index_mut-line.result.now refl within c.index_mut-line.ensures.value in
     let queue = line_ends items c.args.recipient c.index_mut-line.result.now c.self.inside.earliest within c.index_mut-line.ensures.value c.self.invariant.1 in
     let least = c.min-self-inside.ensures in (
@@ -26,7 +47,7 @@ invariant_of-self-2 c =
 pub returns-clause-line : goal.returns-clause-line
 returns-clause-line c =
     let items = c.self.inside.lines.items in
-    let within = subst (λ (l : List LineValue). c.args.recipient < length l) (sym c.self.view_is) c.requires in
+    let within = subst (λ (l : List LineValue). c.args.recipient < length l) (sym c.self.view_is) c.requires.recipient in
     let there = slice_get_read items (length items) c.args.recipient c.index_mut-line.result.now refl within c.index_mut-line.ensures.value in
     record {
       before = c.index_mut-line.result.now;
