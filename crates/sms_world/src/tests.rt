@@ -2,10 +2,13 @@
 
 ghost use Rattle.std.specs.Prelude.{◌≡◌, ◌<◌, [], ◌∷◌, length, IfOk};
 ghost use Rattle.sms_field.specs.declared.symbols.Symbols.TheVariants as symbols;
+ghost use Rattle.sms_script.specs.declared.meaning.statement.Limit.TheVariants as limits;
+ghost use Rattle.sms_script.specs.Script.Limits.{IsIn};
 
 use crate::{Entry, Event, Limits, Octets, Text, World, WorldFault, run};
 use sms_field::{Address, Digits, Symbols};
 use sms_party::{Dropped, Outcome, Status};
+use sms_script::Limit;
 use std::alloc::{AllocError, Global};
 use std::test::Fail;
 
@@ -30,12 +33,21 @@ struct Two {
     ghost two: { length world.parties.phones ≡ 2 },
 }
 
-/// A world with the phones +1001 and +1002.
+/// A world with the phones +1001 and +1002, each of which has room for that many texts.
 #[tactic(auto, unfolding(sms_field::specs::SameAddress::same_address))]
-fn new_two(alloc: Global) -> Result<Two, Fail> {
+fn two_with_room(alloc: Global, store: u64) -> Result<Two, Fail>
+    requires { IsIn limits.Store store }
+{
+    let mut limits = Limits::new();
+    limits.set(Limit::Store, store);
     let phones = [address(alloc, 1)?, address(alloc, 2)?];
-    let world = World::new(alloc, Limits::new(), &phones)?;
+    let world = World::new(alloc, limits, &phones)?;
     Ok(Two { world })
+}
+
+/// A world with the phones +1001 and +1002.
+fn new_two(alloc: Global) -> Result<Two, Fail> {
+    two_with_room(alloc, 500)
 }
 
 /// Someone types a text at the first phone, to the second one.
@@ -74,6 +86,14 @@ const ANSWERS: [Outcome; 6] = [
 fn is_stored(store: &[Entry], text: &str) -> bool {
     match store {
         [entry] => entry.text.as_str() == text,
+        _ => false,
+    }
+}
+
+/// Whether a store has these two texts, in this order.
+fn are_stored(store: &[Entry], first: &str, second: &str) -> bool {
+    match store {
+        [one, other] => one.text.as_str() == first && other.text.as_str() == second,
         _ => false,
     }
 }
@@ -191,9 +211,8 @@ fn at_last(two: &mut Two, event: &Event) -> Result<Outcome, WorldFault> {
     }
 }
 
-/// A world in which a text of three segments was accepted and pushed: its segments are packets 13 to 15.
-fn pushed_text(alloc: Global, text: &str) -> Result<Two, Fail> {
-    let mut two = new_two(alloc)?;
+/// Lets a text of three segments be accepted and pushed: its segments are packets 13 to 15.
+fn pushed_text(alloc: Global, mut two: Two, text: &str) -> Result<Two, Fail> {
     let events = [
         typing(alloc, text)?,
         Event::Carry(1),
@@ -214,7 +233,7 @@ fn pushed_text(alloc: Global, text: &str) -> Result<Two, Fail> {
 
 /// Carries each of these packets twice, and says whether each second time is a repeat and the text is stored once.
 fn is_stored_once(alloc: Global, text: &str, order: [u64; 3]) -> Result<bool, Fail> {
-    let mut two = pushed_text(alloc, text)?;
+    let mut two = pushed_text(alloc, new_two(alloc)?, text)?;
     for number in order {
         let _ = at_last(&mut two, &Event::Carry(number));
         let again = at_last(&mut two, &Event::Carry(number));
@@ -242,6 +261,90 @@ fn segments_come_in_any_order_and_twice(rt: HostRuntime) -> Result<(), Fail> {
     for order in ORDERS {
         let stored = is_stored_once(alloc, text.as_str(), order)?;
         assert!(rt; stored, "{order:?}");
+    }
+    Ok(())
+}
+
+/// The delivery of `one` to the second phone.
+fn delivery_of_one(alloc: Global) -> Result<Event, AllocError> {
+    let octets: &[u8] =
+        b"\x09\x01\x1A\x01\x00\x03\x91\x01\x00\x00\x12\x04\x04\x91\x01\x10\x00\x00\x00\x10\x10\x00\x00\x00\x00\x03\x6F\x77\x19";
+    Ok(Event::Inject {
+        up: false,
+        phone: 1,
+        octets: Octets::new(octets.to_vec(alloc)?),
+    })
+}
+
+/// Such a world, where the second phone has stored `one` before the segments come.
+fn pushed_after_one(alloc: Global, store: u64, text: &str) -> Result<Two, Fail>
+    requires { IsIn limits.Store store }
+{
+    let two = two_with_room(alloc, store)?;
+    let mut two = pushed_text(alloc, two, text)?;
+    let _ = at_last(&mut two, &delivery_of_one(alloc)?);
+    Ok(two)
+}
+
+/// Carries a packet twice, and says whether both times have this answer.
+fn is_twice(two: &mut Two, number: u64, wanted: Outcome) -> bool {
+    let first = at_last(two, &Event::Carry(number));
+    let second = at_last(two, &Event::Carry(number));
+    first == Ok(wanted) && second == Ok(wanted)
+}
+
+/// Carries a packet twice: the first time with this answer, then as a repeat.
+fn is_taken(two: &mut Two, number: u64, wanted: Outcome) -> bool {
+    let first = at_last(two, &Event::Carry(number));
+    let second = at_last(two, &Event::Carry(number));
+    first == Ok(wanted) && second == Ok(Outcome::Repeat)
+}
+
+/// Pushes all three segments once more.
+fn push_again(two: &mut Two) {
+    for _ in 0..3u8 {
+        let _ = at_last(two, &Event::Push(1));
+    }
+}
+
+/// Whether a store that is full refuses the last segment of a text, also at a later push, and nothing changes: the
+/// later packets are those of before, 17 further on.
+fn is_refused_when_full(alloc: Global, text: &str, order: [u64; 3]) -> Result<bool, Fail> {
+    let refused = Outcome::Refused {
+        cause: 22,
+        failure: Some(0xD3),
+    };
+    let mut two = pushed_after_one(alloc, 1, text)?;
+    let [first, second, last] = order;
+    let kept = is_taken(&mut two, first, Outcome::Kept)
+        && is_taken(&mut two, second, Outcome::Kept);
+    let full = is_twice(&mut two, last, refused);
+    push_again(&mut two);
+    let again = is_twice(&mut two, last + 17, refused)
+        && is_twice(&mut two, first + 17, Outcome::Repeat);
+    Ok(kept && full && again && is_stored(two.world.store(1), "one"))
+}
+
+/// Whether a phone that has room takes the last segment of a text at a later push.
+fn is_taken_with_room(alloc: Global, text: &str, order: [u64; 3]) -> Result<bool, Fail> {
+    let mut two = pushed_after_one(alloc, 2, text)?;
+    let [first, second, last] = order;
+    let kept = is_taken(&mut two, first, Outcome::Kept)
+        && is_taken(&mut two, second, Outcome::Kept);
+    push_again(&mut two);
+    let taken = is_taken(&mut two, last + 13, Outcome::Finished);
+    Ok(kept && taken && are_stored(two.world.store(1), "one", text))
+}
+
+#[test]
+fn a_last_segment_wants_room(rt: HostRuntime) -> Result<(), Fail> {
+    let alloc = rt.alloc();
+    let text = "a".repeat(alloc, 307)?;
+    for order in ORDERS {
+        let refused = is_refused_when_full(alloc, text.as_str(), order)?;
+        assert!(rt; refused, "{order:?}, no room");
+        let taken = is_taken_with_room(alloc, text.as_str(), order)?;
+        assert!(rt; taken, "{order:?}, room");
     }
     Ok(())
 }
