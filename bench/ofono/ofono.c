@@ -61,6 +61,16 @@ size_t ofono_septets(const char *text, uint8_t *out, size_t room)
 	return length;
 }
 
+/* a bare parse: the length of the user data */
+size_t ofono_parse(const uint8_t *unit, size_t length, uint8_t *out, size_t room)
+{
+	struct sms sms;
+
+	if (!sms_decode(unit, length, FALSE, length - 1, &sms))
+		return 0;
+	return hand_out(&sms.deliver.udl, 1, out, room);
+}
+
 size_t ofono_deliver(const uint8_t *unit, size_t length, uint8_t *out, size_t room)
 {
 	struct sms sms;

@@ -17,6 +17,7 @@ unsafe extern "C" {
     fn sms_septets(text: *const u8, length: usize, out: *mut u8, room: usize) -> usize;
     fn sms_deliver(unit: *const u8, length: usize, out: *mut u8, room: usize) -> usize;
     fn sms_see(unit: *const u8, length: usize, out: *mut u8, room: usize) -> usize;
+    fn sms_glance(unit: *const u8, length: usize, out: *mut u8, room: usize) -> usize;
     fn sms_parse(unit: *const u8, length: usize, out: *mut u8, room: usize) -> usize;
     fn sms_submit(
         to: *const u8,
@@ -65,6 +66,10 @@ pub fn deliver(unit: &[u8], out: &mut [u8]) -> usize {
 
 pub fn see(unit: &[u8], out: &mut [u8]) -> usize {
     unsafe { sms_see(unit.as_ptr(), unit.len(), out.as_mut_ptr(), out.len()) }
+}
+
+pub fn glance(unit: &[u8], out: &mut [u8]) -> usize {
+    unsafe { sms_glance(unit.as_ptr(), unit.len(), out.as_mut_ptr(), out.len()) }
 }
 
 pub fn parse(unit: &[u8], out: &mut [u8]) -> usize {

@@ -303,6 +303,16 @@ fn time_parts(bench: &Bench, inputs: &Inputs) {
         });
     }
     let (unit, septets) = (&inputs.deliver, inputs.text.as_bytes());
+    bench.row(
+        &[160],
+        Task {
+            name: "(DELIVER of 160 parsed where it lies)",
+            sms: Side::handing_out(|out| library::glance(black_box(unit), out)),
+            ofono: ofono::parse(unit),
+            plain: None,
+            tuned: None,
+        },
+    );
     time_alone(
         bench,
         "(DELIVER of 160 read, no text made)",

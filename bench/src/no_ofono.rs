@@ -17,6 +17,10 @@ pub fn septets_of(_text: &str) -> Option<Side<'_>> {
     None
 }
 
+pub fn parse(_unit: &[u8]) -> Option<Side<'_>> {
+    None
+}
+
 pub fn deliver(_unit: &[u8]) -> Option<Side<'_>> {
     None
 }

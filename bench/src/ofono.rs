@@ -14,6 +14,7 @@ unsafe extern "C" {
     ) -> usize;
     fn ofono_text(septets: *const u8, count: usize, out: *mut u8, room: usize) -> usize;
     fn ofono_septets(text: *const c_char, out: *mut u8, room: usize) -> usize;
+    fn ofono_parse(unit: *const u8, length: usize, out: *mut u8, room: usize) -> usize;
     fn ofono_deliver(unit: *const u8, length: usize, out: *mut u8, room: usize) -> usize;
     fn ofono_submit(text: *const c_char, out: *mut u8, room: usize) -> usize;
     fn ofono_split(text: *const c_char, index: usize, out: *mut u8, room: usize) -> usize;
@@ -74,6 +75,18 @@ pub fn septets_of(text: &str) -> Option<Side<'_>> {
     let text = zero_ended(text);
     side(move |out| unsafe {
         ofono_septets(black_box(&text).as_ptr(), out.as_mut_ptr(), out.len())
+    })
+}
+
+pub fn parse(unit: &[u8]) -> Option<Side<'_>> {
+    let unit = led(unit, unit.len());
+    side(move |out| unsafe {
+        ofono_parse(
+            black_box(&unit).as_ptr(),
+            unit.len(),
+            out.as_mut_ptr(),
+            out.len(),
+        )
     })
 }
 
