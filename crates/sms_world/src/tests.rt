@@ -320,8 +320,8 @@ fn is_refused_when_full(alloc: Global, text: &str, order: [u64; 3]) -> Result<bo
         && is_taken(&mut two, second, Outcome::Kept);
     let full = is_twice(&mut two, last, refused);
     push_again(&mut two);
-    let again = is_twice(&mut two, last + 17, refused)
-        && is_twice(&mut two, first + 17, Outcome::Repeat);
+    let again = is_twice(&mut two, last.saturating_add(17), refused)
+        && is_twice(&mut two, first.saturating_add(17), Outcome::Repeat);
     Ok(kept && full && again && is_stored(two.world.store(1), "one"))
 }
 
@@ -332,7 +332,7 @@ fn is_taken_with_room(alloc: Global, text: &str, order: [u64; 3]) -> Result<bool
     let kept = is_taken(&mut two, first, Outcome::Kept)
         && is_taken(&mut two, second, Outcome::Kept);
     push_again(&mut two);
-    let taken = is_taken(&mut two, last + 13, Outcome::Finished);
+    let taken = is_taken(&mut two, last.saturating_add(13), Outcome::Finished);
     Ok(kept && taken && are_stored(two.world.store(1), "one", text))
 }
 
