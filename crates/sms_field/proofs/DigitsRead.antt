@@ -5,7 +5,8 @@ use Rattle.std.specs.List.{AllByRecursion}
 use Rattle.std.proofs.lemmas.Bool.{ltb-true}
 use Rattle.sms_field.specs.Field.{Outcome, found, refused, Field, octet_at, found_if, judged, always, read_then, ◌>>=◌}
 use Rattle.sms_field.specs.declared.fault.FieldFault.{FieldFault}
-use Rattle.sms_field.specs.declared.fault.FieldFault.TheVariants.{Short, BadDigit}
+use Rattle.sms_field.specs.declared.fault.FieldFault.TheVariants.{Short}
+use Rattle.sms_field.specs.AddressFaults.{bad_digit}
 use Rattle.sms_field.specs.Digits.{AreDigits}
 use Rattle.sms_field.specs.DigitOctets.{low_digit, both_digits, digits}
 
@@ -47,12 +48,12 @@ digits_fit zero at input v after rest e = subst (λ (l : List ℕ). (length l �
 digits_fit (suc zero) at input v after rest e =
     let a = then_found (judged low_digit at (octet_at Short at input)) (λ digit. always (digit ∷ [])) v after rest e in
     let b = judged_found low_digit at (octet_at Short at input) a.0 a.1 a.2 a.3 in
-    let c = chosen (ltb (b.0 % 16) 15) (b.0 % 16) a.0 BadDigit b.1 in
+    let c = chosen (ltb (b.0 % 16) 15) (b.0 % 16) a.0 bad_digit b.1 in
     subst (λ (l : List ℕ). (length l ≡ 1) × AllByRecursion IsDigit l) (same_value (a.0 ∷ []) v a.1 after a.2 rest a.4) (refl, (rw (← c.1) (ltb-true _ _ c.0), tt))
 digits_fit (suc (suc n)) at input v after rest e =
     let a = then_found (judged both_digits at (octet_at Short at input)) (λ two. digits n >>= λ others. always (two.0 ∷ two.1 ∷ others)) v after rest e in
     let b = judged_found both_digits at (octet_at Short at input) a.0 a.1 a.2 a.3 in
-    let c = chosen (ltb (b.0 % 16) 15 && ltb (b.0 / 16) 15) (b.0 % 16, b.0 / 16) a.0 BadDigit b.1 in
+    let c = chosen (ltb (b.0 % 16) 15 && ltb (b.0 / 16) 15) (b.0 % 16, b.0 / 16) a.0 bad_digit b.1 in
     let d = both (ltb (b.0 % 16) 15) (ltb (b.0 / 16) 15) c.0 in
     let f = then_found ((digits n).read a.1 a.2) (λ others. always (a.0.0 ∷ a.0.1 ∷ others)) v after rest a.4 in
     let g = digits_fit n a.1 a.2 f.0 f.1 f.2 f.3 in

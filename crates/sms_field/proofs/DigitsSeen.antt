@@ -1,11 +1,11 @@
 -- Digits seen in their octets.
-use Rattle.std.proofs.Common.{◌≡◌, ◌≢◌, ℕ, zero, suc, ◌+◌, ◌-◌, ◌*◌, ◌/◌, ◌%◌, ◌<◌, ◌≤◌, Bool, true, false, cond, ltb, eqb, List, [], ◌∷◌, ◌++◌, length, take, drop, get_or, Result, Ok, Err, refl, sym, ap, subst, ◌∙◌, arith}
+use Rattle.std.proofs.Common.{◌≡◌, ◌≢◌, ℕ, zero, suc, ◌+◌, ◌-◌, ◌*◌, ◌/◌, ◌%◌, ◌<◌, ◌≤◌, Bool, true, false, cond, ltb, eqb, List, [], ◌∷◌, ◌++◌, length, take, drop, get_or, Ok, Err, refl, sym, ap, subst, ◌∙◌, arith}
 use Rattle.std.specs.Prelude.{◌&&◌}
 use Rattle.std.proofs.lemmas.List.{get_or-take}
-use Rattle.sms_field.specs.Field.{Outcome, found, refused, octet_by, found_if}
+use Rattle.sms_field.specs.Field.{Outcome, found, refused, found_if}
 use Rattle.sms_field.specs.declared.fault.FieldFault.{FieldFault}
-use Rattle.sms_field.specs.declared.fault.FieldFault.TheVariants.{Short, BadDigit}
-use Rattle.sms_field.specs.DigitOctets.{low_digit, both_digits, digits}
+use Rattle.sms_field.specs.AddressFaults.{bad_digit}
+use Rattle.sms_field.specs.DigitOctets.{digits}
 use Rattle.std.specs.Prelude.{◌==◌}
 use Rattle.std.proofs.lemmas.Bool.{eqb-true}
 use Rattle.sms_text.specs.Bits.{unpacked}
@@ -27,14 +27,14 @@ at_drop (suc i) (x ∷ xs) o more e =
 pub two_is : (at o : ℕ) (more : List ℕ) (two : ℕ × ℕ) (after : ℕ) (rest : List ℕ) → two_at at (o ∷ more) ≡ found two after rest → ((o % 16, o / 16) ≡ two) × (more ≡ rest) × (at + 1 ≡ after)
 two_is at o more two after rest = go (ltb (o % 16) 15 && ltb (o / 16) 15)
   where
-    go : (b : Bool) → found_if (cond b (Ok (o % 16, o / 16)) (Err BadDigit)) at (at + 1) more ≡ found two after rest → ((o % 16, o / 16) ≡ two) × (more ≡ rest) × (at + 1 ≡ after)
+    go : (b : Bool) → found_if (cond b (Ok (o % 16, o / 16)) (Err bad_digit)) at (at + 1) more ≡ found two after rest → ((o % 16, o / 16) ≡ two) × (more ≡ rest) × (at + 1 ≡ after)
     go true e = (cc, cc, cc)
     go false e = absurd cc
 
 one_is : (at o : ℕ) (more : List ℕ) (digit after : ℕ) (rest : List ℕ) → one_at at (o ∷ more) ≡ found digit after rest → (o % 16 ≡ digit) × (more ≡ rest) × (at + 1 ≡ after)
 one_is at o more digit after rest = go (ltb (o % 16) 15)
   where
-    go : (b : Bool) → found_if (cond b (Ok (o % 16)) (Err BadDigit)) at (at + 1) more ≡ found digit after rest → (o % 16 ≡ digit) × (more ≡ rest) × (at + 1 ≡ after)
+    go : (b : Bool) → found_if (cond b (Ok (o % 16)) (Err bad_digit)) at (at + 1) more ≡ found digit after rest → (o % 16 ≡ digit) × (more ≡ rest) × (at + 1 ≡ after)
     go true e = (cc, cc, cc)
     go false e = absurd cc
 

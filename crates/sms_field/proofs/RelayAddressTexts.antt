@@ -1,12 +1,9 @@
 -- The relay address of a text, with + in front and without.
-use Rattle.std.proofs.Common.{◌≡◌, ◌≢◌, ℕ, Bool, true, false, cond, eqb, List, [], ◌∷◌, refl, ap, ◌∙◌, Result, Err}
+use Rattle.std.proofs.Common.{◌≡◌, ◌≢◌, ℕ, Bool, true, false, cond, eqb, List, [], ◌∷◌, refl, ap}
 use Rattle.std.proofs.lemmas.Bool.{eqb-true}
 use Rattle.sms_field.specs.DigitText.{digits_of_text}
 use Rattle.sms_field.specs.AddressText.{few_digits}
 use Rattle.sms_field.specs.RelayAddressText.{relay_telephone_of, relay_address_of_text}
-use Rattle.sms_field.specs.RelayAddressValue.{RelayAddressValue}
-use Rattle.sms_field.specs.declared.fault.AddressFault.{AddressFault}
-use Rattle.sms_field.specs.declared.fault.AddressFault.TheVariants.{Memory}
 
 pub after_plus : (text rest : List ℕ) → text ≡ 43 ∷ rest → relay_address_of_text text ≡ relay_telephone_of 1 (few_digits (digits_of_text rest))
 unfolding relay_address_of_text
@@ -20,6 +17,3 @@ no_plus (c ∷ text) other = go (eqb c 43) refl
     go : (b : Bool) → eqb c 43 ≡ b → cond b (relay_telephone_of 1 (few_digits (digits_of_text text))) (relay_telephone_of 0 (few_digits (digits_of_text (c ∷ text)))) ≡ relay_telephone_of 0 (few_digits (digits_of_text (c ∷ text)))
     go true is = absurd (other text (ap (λ (n : ℕ). n ∷ text) (eqb-true c 43 is)))
     go false is = refl
-
-pub says_telephone : (r : Result RelayAddressValue AddressFault) (digits found : Result (List ℕ) AddressFault) (kind : ℕ) → r ≡ relay_telephone_of kind digits → (digits ≢ Err Memory → digits ≡ found) → r ≢ Err Memory → r ≡ relay_telephone_of kind found
-says_telephone r digits found kind is h other = is ∙ ap (relay_telephone_of kind) (h (λ e. other (is ∙ ap (relay_telephone_of kind) e)))

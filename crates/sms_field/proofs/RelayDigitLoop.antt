@@ -7,7 +7,8 @@ use Rattle.std.proofs.lemmas.List.{append-nil}
 use Rattle.sms_field.specs.declared.refusal.Refusal.{Refusal}
 use Rattle.sms_field.specs.declared.refusal.Refusal.TheVariants.{Memory, At}
 use Rattle.sms_field.specs.declared.fault.FieldFault.{FieldFault}
-use Rattle.sms_field.specs.declared.fault.FieldFault.TheVariants.{Short, BadDigit}
+use Rattle.sms_field.specs.declared.fault.FieldFault.TheVariants.{Short}
+use Rattle.sms_field.specs.AddressFaults.{bad_digit}
 use Rattle.sms_field.specs.Field.{Outcome, found, refused, octet_at, octet_by, judged, always, ◌>>=◌}
 use Rattle.sms_field.specs.Answer.{Refuses}
 use Rattle.sms_field.specs.Digits.{AreDigits}
@@ -76,12 +77,12 @@ unfolding relay_digits
 relay_digits_fit zero at input v after rest e = subst (AreUpTo 0) (same_value [] v at after input rest e) (omega arith, tt)
 relay_digits_fit (suc zero) at input v after rest e =
     let b = judged_found last_digits at (octet_at Short at input) v after rest e in
-    let c = chosen (ltb (b.0 % 16) 15) (cond (ltb (b.0 / 16) 15) (b.0 % 16 ∷ b.0 / 16 ∷ []) (b.0 % 16 ∷ [])) v BadDigit b.1 in
+    let c = chosen (ltb (b.0 % 16) 15) (cond (ltb (b.0 / 16) 15) (b.0 % 16 ∷ b.0 / 16 ∷ []) (b.0 % 16 ∷ [])) v bad_digit b.1 in
     subst (AreUpTo 2) c.1 (one_or_two (b.0 % 16) (b.0 / 16) (ltb (b.0 / 16) 15) (ltb-true _ _ c.0) (λ is. ltb-true _ _ is))
 relay_digits_fit (suc (suc n)) at input v after rest e =
     let a = then_found (judged both_digits at (octet_at Short at input)) (λ two. relay_digits (suc n) >>= λ others. always (two.0 ∷ two.1 ∷ others)) v after rest e in
     let b = judged_found both_digits at (octet_at Short at input) a.0 a.1 a.2 a.3 in
-    let c = chosen (ltb (b.0 % 16) 15 && ltb (b.0 / 16) 15) (b.0 % 16, b.0 / 16) a.0 BadDigit b.1 in
+    let c = chosen (ltb (b.0 % 16) 15 && ltb (b.0 / 16) 15) (b.0 % 16, b.0 / 16) a.0 bad_digit b.1 in
     let d = both (ltb (b.0 % 16) 15) (ltb (b.0 / 16) 15) c.0 in
     let f = then_found ((relay_digits (suc n)).read a.1 a.2) (λ others. always (a.0.0 ∷ a.0.1 ∷ others)) v after rest a.4 in
     let g = relay_digits_fit (suc n) a.1 a.2 f.0 f.1 f.2 f.3 in

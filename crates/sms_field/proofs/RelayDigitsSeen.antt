@@ -2,7 +2,7 @@
 use Rattle.std.proofs.Common.{◌≡◌, ℕ, suc, ◌-◌, ◌+◌, ◌*◌, ◌/◌, ◌%◌, ◌<◌, ◌≤◌, Bool, true, false, cond, ltb, List, [], ◌∷◌, ◌++◌, length, take, drop, get_or, Ok, Err, refl, sym, ap, subst, ◌∙◌, arith}
 use Rattle.std.proofs.lemmas.List.{get_or-take, length-take}
 use Rattle.sms_field.specs.Field.{found, found_if}
-use Rattle.sms_field.specs.declared.fault.FieldFault.TheVariants.{BadDigit}
+use Rattle.sms_field.specs.AddressFaults.{bad_digit}
 use Rattle.sms_field.specs.AddressSeen.{digits_in}
 use Rattle.sms_field.specs.RelayAddress.{relay_digits}
 use Rattle.sms_field.specs.RelayAddressSeen.{last_digits_in, relay_count, relay_digits_in}
@@ -47,7 +47,7 @@ sees_none all count i at input start none le s =
 last_is : (at o : ℕ) (more last : List ℕ) (after : ℕ) (rest : List ℕ) → last_at at (o ∷ more) ≡ found last after rest → last_digits_in o ≡ last
 last_is at o more last after rest = go (ltb (o % 16) 15)
   where
-    go : (b : Bool) → found_if (cond b (Ok (last_digits_in o)) (Err BadDigit)) at (at + 1) more ≡ found last after rest → last_digits_in o ≡ last
+    go : (b : Bool) → found_if (cond b (Ok (last_digits_in o)) (Err bad_digit)) at (at + 1) more ≡ found last after rest → last_digits_in o ≡ last
     go true e = cc
     go false e = absurd cc
 

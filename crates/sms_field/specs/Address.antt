@@ -7,7 +7,8 @@ use Rattle.sms_field.specs.AddressValue.{AddressValue, alphanumeric}
 use Rattle.sms_field.specs.declared.symbols.Symbols.{Symbols}
 use Rattle.sms_field.specs.declared.symbols.Symbols.TheVariants.{Digits, Name}
 use Rattle.sms_field.specs.declared.fault.FieldFault.{FieldFault}
-use Rattle.sms_field.specs.declared.fault.FieldFault.TheVariants.{Short, AddressTooLong}
+use Rattle.sms_field.specs.declared.fault.FieldFault.TheVariants.{Short}
+use Rattle.sms_field.specs.AddressFaults.{too_long}
 pub use Rattle.sms_field.specs.SingleFields.{up_to}
 
 -- semi-octets, as many as are counted: a name, or digits
@@ -26,8 +27,8 @@ symbols_of kind count = symbols_by (kind == alphanumeric) count
 -- the number of semi-octets; the type octet, of which bits 6 to 4 are the type of number and bits 3 to 0 the plan; the symbols
 unfoldable pub address : Field AddressValue FieldFault
 address = do
-  -- AddressTooLong: the number is above 20
-  count ← octet_by Short (up_to 20 AddressTooLong)
+  -- too_long: the number is above 20
+  count ← octet_by Short (up_to 20 too_long)
   kind ← octet Short
   symbols ← symbols_by (kind / 16 % 8 == alphanumeric) count
   always (record { kind = kind / 16 % 8; plan = kind % 16; symbols = symbols })

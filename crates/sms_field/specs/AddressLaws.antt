@@ -4,7 +4,8 @@ use Rattle.std.specs.Prelude.{◌==◌}
 use Rattle.sms_text.specs.Bits.{unpacked}
 use Rattle.sms_field.specs.Field.{IsLawful, IsSelfContained, up_to}
 use Rattle.sms_field.specs.declared.fault.FieldFault.{FieldFault}
-use Rattle.sms_field.specs.declared.fault.FieldFault.TheVariants.{Short, AddressTooLong}
+use Rattle.sms_field.specs.declared.fault.FieldFault.TheVariants.{Short}
+use Rattle.sms_field.specs.AddressFaults.{too_long}
 use Rattle.sms_field.specs.declared.symbols.Symbols.{Symbols}
 use Rattle.sms_field.specs.declared.symbols.Symbols.TheVariants.{Digits, Name}
 use Rattle.sms_field.specs.AddressValue.{AddressValue, alphanumeric}
@@ -32,8 +33,8 @@ unfolding symbols_by
 symbols_lawful true count = chain_lawful _ _ Short (name_self count) (name_lawful count) (λ septets _ _ _. always_lawful Short (Name septets))
 symbols_lawful false count = chain_lawful _ _ Short (digits_self count) (digits_lawful count) (λ values _ _ _. always_lawful Short (Digits values))
 
-count_apart : (o : ℕ) → up_to 20 AddressTooLong o ≡ Err Short → ⊥
-count_apart o = apart_else Short (leb o 20) o AddressTooLong (λ e. cc)
+count_apart : (o : ℕ) → up_to 20 too_long o ≡ Err Short → ⊥
+count_apart o = apart_else Short (leb o 20) o too_long (λ e. cc)
 
 abbrev with_kind : ℕ → Symbols → AddressValue
 with_kind kind symbols = record { kind = kind / 16 % 8; plan = kind % 16; symbols = symbols }
@@ -41,7 +42,7 @@ with_kind kind symbols = record { kind = kind / 16 % 8; plan = kind % 16; symbol
 pub address_self : IsSelfContained address
 unfolding address
 address_self =
-    chain_self_contained _ _ (octet_by_self Short (up_to 20 AddressTooLong))
+    chain_self_contained _ _ (octet_by_self Short (up_to 20 too_long))
     (λ count. chain_self_contained _ _ (octet_self Short)
     (λ kind. chain_self_contained _ _ (symbols_self (kind / 16 % 8 == alphanumeric) count)
     (λ symbols. always_self FieldFault (with_kind kind symbols))))
@@ -49,7 +50,7 @@ address_self =
 pub address_lawful : IsLawful Short address
 unfolding address
 address_lawful =
-    chain_lawful _ _ Short (octet_by_self Short (up_to 20 AddressTooLong)) (octet_by_lawful Short (up_to 20 AddressTooLong) (0, lit< tt, 0, refl) count_apart)
+    chain_lawful _ _ Short (octet_by_self Short (up_to 20 too_long)) (octet_by_lawful Short (up_to 20 too_long) (0, lit< tt, 0, refl) count_apart)
     (λ count _ _ _. chain_lawful _ _ Short (octet_self Short) (octet_lawful Short)
     (λ kind _ _ _. chain_lawful _ _ Short (symbols_self (kind / 16 % 8 == alphanumeric) count) (symbols_lawful (kind / 16 % 8 == alphanumeric) count)
     (λ symbols _ _ _. always_lawful Short (with_kind kind symbols))))

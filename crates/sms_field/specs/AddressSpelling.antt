@@ -4,7 +4,7 @@ use Rattle.std.specs.Prelude.{◌==◌}
 use Rattle.std.proofs.lemmas.Bool.{le-leb, eqb-true, eqb-false}
 use Rattle.std.proofs.lemmas.List.{append-nil}
 use Rattle.sms_text.specs.Octets.{IsOctets}
-use Rattle.sms_field.specs.declared.fault.FieldFault.TheVariants.{AddressTooLong}
+use Rattle.sms_field.specs.AddressFaults.{too_long}
 use Rattle.sms_field.specs.declared.symbols.Symbols.{Symbols}
 use Rattle.sms_field.specs.declared.symbols.Symbols.TheVariants.{Digits, Name}
 use Rattle.sms_field.specs.AddressValue.{AddressValue, HasSpelling, AreSymbolsOf, alphanumeric}
@@ -18,7 +18,7 @@ length_fits : (kind : ℕ) (symbols : Symbols) → AreSymbolsOf kind symbols →
 length_fits kind (Digits values) fits = fits.1.few
 length_fits kind (Name septets) fits = omega (arith, fits.1.few)
 
-count_again : (count : ℕ) → count ≤ 20 → up_to 20 AddressTooLong count ≡ Ok count
+count_again : (count : ℕ) → count ≤ 20 → up_to 20 too_long count ≡ Ok count
 count_again count le = rw (le-leb count 20 le) refl
 
 named_as : (kind : ℕ) (named : Bool) (symbols : Symbols) (rest : List ℕ) → eqb kind 5 ≡ named → AreSymbolsOf kind symbols → (symbols_by named (symbols_length symbols)).reads symbols (symbols_octets symbols) rest

@@ -7,7 +7,8 @@ use Rattle.std.proofs.lemmas.List.{append-nil}
 use Rattle.sms_text.specs.Octets.{IsOctets}
 use Rattle.sms_field.specs.Field.{IsLawful, IsSelfContained, octet_by, always, ◌>>=◌}
 use Rattle.sms_field.specs.declared.fault.FieldFault.{FieldFault}
-use Rattle.sms_field.specs.declared.fault.FieldFault.TheVariants.{Short, BadDigit}
+use Rattle.sms_field.specs.declared.fault.FieldFault.TheVariants.{Short}
+use Rattle.sms_field.specs.AddressFaults.{bad_digit}
 use Rattle.sms_field.specs.DigitOctets.{low_digit, both_digits, digits, digit_octets}
 use Rattle.sms_field.specs.ChainLaws.{chain_lawful, chain_self_contained}
 use Rattle.sms_field.specs.SingleLaws.{always_self, always_lawful, octet_by_self, octet_by_lawful, apart_else}
@@ -21,10 +22,10 @@ digits_self (suc (suc n)) =
     (λ two. chain_self_contained (digits n) (λ others. always (two.0 ∷ two.1 ∷ others)) (digits_self n) (λ others. always_self FieldFault (two.0 ∷ two.1 ∷ others)))
 
 low_apart : (o : ℕ) → low_digit o ≡ Err Short → ⊥
-low_apart o = apart_else Short (ltb (o % 16) 15) (o % 16) BadDigit (λ e. cc)
+low_apart o = apart_else Short (ltb (o % 16) 15) (o % 16) bad_digit (λ e. cc)
 
 pub both_apart : (o : ℕ) → both_digits o ≡ Err Short → ⊥
-both_apart o = apart_else Short (ltb (o % 16) 15 && ltb (o / 16) 15) (o % 16, o / 16) BadDigit (λ e. cc)
+both_apart o = apart_else Short (ltb (o % 16) 15 && ltb (o / 16) 15) (o % 16, o / 16) bad_digit (λ e. cc)
 
 pub digits_lawful : (n : ℕ) → IsLawful Short (digits n)
 unfolding digits
@@ -42,7 +43,7 @@ chooses b x why e = rw e refl
 one_digit : (d : ℕ) → d < 15 → low_digit (240 + d) ≡ Ok d
 one_digit d h =
     let low : (240 + d) % 16 ≡ d = omega arith in
-    rw low (chooses (ltb d 15) d BadDigit (lt-ltb d 15 h))
+    rw low (chooses (ltb d 15) d bad_digit (lt-ltb d 15 h))
 
 pub two_digits : (d e : ℕ) → d < 15 → e < 15 → both_digits (16 * e + d) ≡ Ok (d, e)
 two_digits d e h k =

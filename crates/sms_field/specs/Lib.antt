@@ -20,6 +20,7 @@ pub mod AnswerLaws
 pub mod Optional
 pub mod OptionalLaws
 pub mod Digits
+pub mod AddressFaults
 pub mod DigitOctets
 pub mod DigitLaws
 pub mod DigitText

@@ -17,7 +17,8 @@ use Rattle.sms_field.specs.Address.{symbols_by, address}
 use Rattle.sms_field.specs.AddressValue.{alphanumeric}
 use Rattle.sms_field.specs.RelayAddress.{last_digits, relay_digits, relay_part, relay_address}
 use Rattle.sms_field.specs.declared.fault.FieldFault.{FieldFault}
-use Rattle.sms_field.specs.declared.fault.FieldFault.TheVariants.{Short, AddressTooLong, BadDigit}
+use Rattle.sms_field.specs.declared.fault.FieldFault.TheVariants.{Short, Address}
+use Rattle.sms_field.specs.AddressFaults.{too_long}
 
 -- ---- one way of reading
 
@@ -201,14 +202,14 @@ one_reason_symbols false count = one_reason_chain _ _ (one_way_digits count) (on
 pub one_way_address : ReadsOneWay address
 unfolding address
 one_way_address =
-    one_way_chain _ _ (one_way_by Short (up_to 20 AddressTooLong)) (λ count.
+    one_way_chain _ _ (one_way_by Short (up_to 20 too_long)) (λ count.
     one_way_chain _ _ (one_way_octet Short) (λ kind.
     one_way_chain _ _ (one_way_symbols (kind / 16 % 8 == alphanumeric) count) (λ symbols. one_way_always FieldFault _)))
 
 pub one_reason_address : HasOneReason address
 unfolding address
 one_reason_address =
-    one_reason_chain _ _ (one_way_by Short (up_to 20 AddressTooLong)) (one_reason_by Short (up_to 20 AddressTooLong)) (λ count.
+    one_reason_chain _ _ (one_way_by Short (up_to 20 too_long)) (one_reason_by Short (up_to 20 too_long)) (λ count.
     one_reason_chain _ _ (one_way_octet Short) (one_reason_octet Short) (λ kind.
     one_reason_chain _ _ (one_way_symbols (kind / 16 % 8 == alphanumeric) count) (one_reason_symbols (kind / 16 % 8 == alphanumeric) count) (λ symbols. λ f o w b p q. absurd p)))
 
@@ -240,17 +241,16 @@ one_reason_relay_part false count =
 
 pub one_way_relay_address : ReadsOneWay relay_address
 unfolding relay_address
-one_way_relay_address = one_way_chain _ _ (one_way_by Short (up_to 11 AddressTooLong)) (λ count. one_way_relay_part (count == 0) (count - 1))
+one_way_relay_address = one_way_chain _ _ (one_way_by Short (up_to 11 too_long)) (λ count. one_way_relay_part (count == 0) (count - 1))
 
 pub one_reason_relay_address : HasOneReason relay_address
 unfolding relay_address
 one_reason_relay_address =
-    one_reason_chain _ _ (one_way_by Short (up_to 11 AddressTooLong)) (one_reason_by Short (up_to 11 AddressTooLong)) (λ count. one_reason_relay_part (count == 0) (count - 1))
+    one_reason_chain _ _ (one_way_by Short (up_to 11 too_long)) (one_reason_by Short (up_to 11 too_long)) (λ count. one_reason_relay_part (count == 0) (count - 1))
 
 is_short : IsKnown Short
 is_short Short = inl refl
-is_short AddressTooLong = inr (λ e. cc)
-is_short BadDigit = inr (λ e. cc)
+is_short (Address why) = inr (λ e. cc)
 
 pub address_refused_once : HasOneRefusal (Reads address) address.reason Short
 address_refused_once = one_refusal Short address is_short one_reason_address

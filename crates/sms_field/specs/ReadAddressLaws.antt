@@ -15,7 +15,8 @@ use Rattle.sms_field.specs.Address.{symbols_by, address}
 use Rattle.sms_field.specs.AddressValue.{HasSpelling, AreSymbolsOf, alphanumeric}
 use Rattle.sms_field.specs.RelayAddress.{last_digits, relay_digits, relay_part, relay_address}
 use Rattle.sms_field.specs.RelayAddressValue.{HasOptionalSpelling}
-use Rattle.sms_field.specs.declared.fault.FieldFault.TheVariants.{Short, AddressTooLong, BadDigit}
+use Rattle.sms_field.specs.declared.fault.FieldFault.TheVariants.{Short}
+use Rattle.sms_field.specs.AddressFaults.{too_long, bad_digit}
 
 -- ---- single fields
 
@@ -50,7 +51,7 @@ AreSome n values = (length values ≡ n) × EachDigit values
 
 has_low : Has (λ digit. digit < 15) (octet_by Short low_digit)
 has_low v octets rest are r =
-    let c = chosen (ltb (r.0 % 16) 15) (r.0 % 16) v BadDigit r.2 in
+    let c = chosen (ltb (r.0 % 16) 15) (r.0 % 16) v bad_digit r.2 in
     let few : r.0 % 16 < 15 = ltb-true (r.0 % 16) 15 c.tested in
     subst (λ (n : ℕ). n < 15) (sym c.value) few
 
@@ -59,7 +60,7 @@ BothDigits two = (two.0 < 15) × (two.1 < 15)
 
 has_both : Has BothDigits (octet_by Short both_digits)
 has_both v octets rest are r =
-    let c = chosen (ltb (r.0 % 16) 15 && ltb (r.0 / 16) 15) (r.0 % 16, r.0 / 16) v BadDigit r.2 in
+    let c = chosen (ltb (r.0 % 16) 15 && ltb (r.0 / 16) 15) (r.0 % 16, r.0 / 16) v bad_digit r.2 in
     let p = and_parts (ltb (r.0 % 16) 15) (ltb (r.0 / 16) 15) c.tested in
     subst BothDigits (sym c.value) (ltb-true (r.0 % 16) 15 p.0, ltb-true (r.0 / 16) 15 p.1)
 
@@ -88,7 +89,7 @@ has_symbols kind count false is few =
 pub has_address : Has HasSpelling address
 unfolding address
 has_address =
-    has_chain (λ count. count ≤ 20) HasSpelling _ _ (has_up_to Short 20 AddressTooLong) (λ count few.
+    has_chain (λ count. count ≤ 20) HasSpelling _ _ (has_up_to Short 20 too_long) (λ count few.
     has_chain (λ kind. kind < 256) HasSpelling _ _ (has_octet Short) (λ kind small.
     has_chain (AreSymbolsOf (kind / 16 % 8)) HasSpelling _ _ (has_symbols (kind / 16 % 8) count (kind / 16 % 8 == alphanumeric) refl few) (λ symbols are_symbols.
     λ v octets rest are r. subst HasSpelling (sym r.0) (record { kind = omega arith; plan = omega arith; symbols = are_symbols }))))
@@ -104,7 +105,7 @@ last_by low high false h e = (omega arith, (h, tt))
 
 has_last : Has (AreFew 1) (octet_by Short last_digits)
 has_last v octets rest are r =
-    let c = chosen (ltb (r.0 % 16) 15) _ v BadDigit r.2 in
+    let c = chosen (ltb (r.0 % 16) 15) _ v bad_digit r.2 in
     let few : r.0 % 16 < 15 = ltb-true (r.0 % 16) 15 c.tested in
     subst (AreFew 1) (sym c.value) (last_by (r.0 % 16) (r.0 / 16) (ltb (r.0 / 16) 15) few refl)
 
@@ -127,4 +128,4 @@ has_relay_part false count few =
 
 pub has_relay_address : Has HasOptionalSpelling relay_address
 unfolding relay_address
-has_relay_address = has_chain (λ count. count ≤ 11) HasOptionalSpelling _ _ (has_up_to Short 11 AddressTooLong) (λ count few. has_relay_part (count == 0) (count - 1) (omega (arith, few)))
+has_relay_address = has_chain (λ count. count ≤ 11) HasOptionalSpelling _ _ (has_up_to Short 11 too_long) (λ count few. has_relay_part (count == 0) (count - 1) (omega (arith, few)))

@@ -4,19 +4,20 @@ use Rattle.sms_field.specs.Field.{Field, ◌>>=◌, always, octet, octet_by, up_
 use Rattle.sms_field.specs.DigitOctets.{both_digits, digit_octets}
 use Rattle.sms_field.specs.RelayAddressValue.{RelayAddressValue}
 use Rattle.sms_field.specs.declared.fault.FieldFault.{FieldFault}
-use Rattle.sms_field.specs.declared.fault.FieldFault.TheVariants.{Short, AddressTooLong, BadDigit}
+use Rattle.sms_field.specs.declared.fault.FieldFault.TheVariants.{Short}
+use Rattle.sms_field.specs.AddressFaults.{too_long, bad_digit}
 
 -- the digits in the last octet: a high half of 15 marks an odd number
 abbrev pub last_digits : ℕ → Result (List ℕ) FieldFault
-last_digits octet = if nat_lt (octet % 16) 15 then Ok (if nat_lt (octet / 16) 15 then octet % 16 ∷ octet / 16 ∷ [] else octet % 16 ∷ []) else Err BadDigit
+last_digits octet = if nat_lt (octet % 16) 15 then Ok (if nat_lt (octet / 16) 15 then octet % 16 ∷ octet / 16 ∷ [] else octet % 16 ∷ []) else Err bad_digit
 
 -- the digits in octets, as many as are counted
 unfoldable pub relay_digits : ℕ → Field (List ℕ) FieldFault
 relay_digits zero = always []
--- BadDigit: the low half is 15
+-- bad_digit: the low half is 15
 relay_digits (suc zero) = octet_by Short last_digits
 relay_digits (suc (suc n)) = do
-  -- BadDigit: one of the halves is 15
+  -- bad_digit: one of the halves is 15
   two ← octet_by Short both_digits
   others ← relay_digits (suc n)
   always (two.0 ∷ two.1 ∷ others)
@@ -32,8 +33,8 @@ relay_part false count = do
 -- the number of octets that follow: 0 is no address
 unfoldable pub relay_address : Field (Option RelayAddressValue) FieldFault
 relay_address = do
-  -- AddressTooLong: the number is above 11
-  count ← octet_by Short (up_to 11 AddressTooLong)
+  -- too_long: the number is above 11
+  count ← octet_by Short (up_to 11 too_long)
   relay_part (count == 0) (count - 1)
 
 -- how an address is written: the number of octets, the type octet with bit 7 set, the digits

@@ -7,7 +7,8 @@ use Rattle.std.proofs.lemmas.List.{append-nil}
 use Rattle.sms_text.specs.Octets.{IsOctets}
 use Rattle.sms_field.specs.Field.{IsLawful, IsSelfContained, octet_by, always, ◌>>=◌, up_to}
 use Rattle.sms_field.specs.declared.fault.FieldFault.{FieldFault}
-use Rattle.sms_field.specs.declared.fault.FieldFault.TheVariants.{Short, AddressTooLong, BadDigit}
+use Rattle.sms_field.specs.declared.fault.FieldFault.TheVariants.{Short}
+use Rattle.sms_field.specs.AddressFaults.{too_long, bad_digit}
 use Rattle.sms_field.specs.DigitOctets.{both_digits, digit_octets}
 use Rattle.sms_field.specs.DigitLaws.{both_apart, two_digits, digits_are_octets}
 use Rattle.sms_field.specs.RelayAddressValue.{RelayAddressValue, HasRelaySpelling, HasOptionalSpelling}
@@ -16,7 +17,7 @@ use Rattle.sms_field.specs.ChainLaws.{chain_lawful, chain_self_contained}
 use Rattle.sms_field.specs.SingleLaws.{always_self, always_lawful, octet_self, octet_lawful, octet_by_self, octet_by_lawful, apart_else}
 
 last_apart : (o : ℕ) → last_digits o ≡ Err Short → ⊥
-last_apart o = apart_else Short (ltb (o % 16) 15) (if nat_lt (o / 16) 15 then o % 16 ∷ o / 16 ∷ [] else o % 16 ∷ []) BadDigit (λ e. cc)
+last_apart o = apart_else Short (ltb (o % 16) 15) (if nat_lt (o / 16) 15 then o % 16 ∷ o / 16 ∷ [] else o % 16 ∷ []) bad_digit (λ e. cc)
 
 relay_digits_self : (n : ℕ) → IsSelfContained (relay_digits n)
 unfolding relay_digits
@@ -53,17 +54,17 @@ relay_part_lawful false count =
     (λ kind _ _ _. chain_lawful _ _ Short (relay_digits_self count) (relay_digits_lawful count)
     (λ values _ _ _. always_lawful Short (with_kind kind values)))
 
-count_apart : (o : ℕ) → up_to 11 AddressTooLong o ≡ Err Short → ⊥
-count_apart o = apart_else Short (leb o 11) o AddressTooLong (λ e. cc)
+count_apart : (o : ℕ) → up_to 11 too_long o ≡ Err Short → ⊥
+count_apart o = apart_else Short (leb o 11) o too_long (λ e. cc)
 
 pub relay_address_self : IsSelfContained relay_address
 unfolding relay_address
-relay_address_self = chain_self_contained _ _ (octet_by_self Short (up_to 11 AddressTooLong)) (λ count. relay_part_self (count == 0) (count - 1))
+relay_address_self = chain_self_contained _ _ (octet_by_self Short (up_to 11 too_long)) (λ count. relay_part_self (count == 0) (count - 1))
 
 pub relay_address_lawful : IsLawful Short relay_address
 unfolding relay_address
 relay_address_lawful =
-    chain_lawful _ _ Short (octet_by_self Short (up_to 11 AddressTooLong)) (octet_by_lawful Short (up_to 11 AddressTooLong) (0, lit< tt, 0, refl) count_apart)
+    chain_lawful _ _ Short (octet_by_self Short (up_to 11 too_long)) (octet_by_lawful Short (up_to 11 too_long) (0, lit< tt, 0, refl) count_apart)
     (λ count _ _ _. relay_part_lawful (count == 0) (count - 1))
 
 -- ---- what is written is read
@@ -101,7 +102,7 @@ relay_digits_again (d ∷ e ∷ f ∷ v) rest (suc (suc n)) is fits = record {
   of_second = record { choice = f ∷ v; front = digit_octets (f ∷ v); back = []; parts = sym (append-nil (digit_octets (f ∷ v))); of_first = relay_digits_again (f ∷ v) rest (suc n) (omega (arith, is)) fits.1.1; of_second = (refl, refl) };
 }
 
-count_again : (count : ℕ) → count ≤ 11 → up_to 11 AddressTooLong count ≡ Ok count
+count_again : (count : ℕ) → count ≤ 11 → up_to 11 too_long count ≡ Ok count
 count_again count le = rw (le-leb count 11 le) refl
 
 relay_part_again : (a : RelayAddressValue) (rest : List ℕ) (count : ℕ) → count ≡ (length a.digits + 1) / 2 → HasRelaySpelling a → (relay_part false count).reads (Some a) ((128 + 16 * a.kind + a.plan) ∷ digit_octets a.digits) rest

@@ -1,16 +1,16 @@
 //! The text of an address.
 
-ghost use Rattle.std.specs.Prelude.{◌≡◌, ◌≢◌, ◌<◌, ℕ, List, ◌∷◌, ◌++◌, Ok, Err, IfOk, MatchOption};
+ghost use Rattle.std.specs.Prelude.{◌≡◌, ◌≢◌, ◌<◌, ℕ, List, ◌∷◌, ◌++◌, IfOk, MatchOption};
 ghost use Rattle.std.specs.Str.{chars};
 ghost use Rattle.std.specs.String.{string_bytes};
 ghost use Rattle.sms_text.specs.SeptetsOfText.{septets_of_text};
 ghost use Rattle.sms_field.specs.DigitText.{digits_of_text, text_of_digits};
 ghost use Rattle.sms_field.specs.AddressText.{plus, prefix, address_text, few_digits, telephone as telephone_with, telephone_of, name_of, without_plus, address_of_text};
-ghost use Rattle.sms_field.specs.declared.fault.AddressFault.TheVariants.{Memory};
+ghost use Rattle.sms_field.specs.AddressFaults.{Gives};
 
 use crate::address::Address;
 use crate::digits::{Digits, digits_of, push_digits};
-use crate::fault::AddressFault;
+use crate::fault::{AddressFault, TextFault};
 use crate::name::Name;
 use crate::symbols::Symbols;
 use sms_text::{gsm_of, text_of_gsm};
@@ -25,14 +25,14 @@ pub fn international(text: &str) -> Option<&str>
 }
 
 /// The digits of a text, up to 20.
-pub fn digits_of_telephone(alloc: Global, text: &str) -> Result<Digits, AddressFault>
-    ensures { result ≢ Err Memory → result ≡ few_digits (digits_of_text (chars text.now)) }
+pub fn digits_of_telephone(alloc: Global, text: &str) -> Result<Digits, TextFault>
+    ensures { Gives result (few_digits (digits_of_text (chars text.now))) }
 {
     let Some(values) = digits_of(alloc, text)? else {
-        return Err(AddressFault::BadDigit);
+        return Err(TextFault::Address(AddressFault::BadDigit));
     };
     if values.len() > 20 {
-        return Err(AddressFault::AddressTooLong);
+        return Err(TextFault::Address(AddressFault::AddressTooLong));
     }
     Ok(Digits::new(values))
 }
@@ -67,25 +67,23 @@ fn telephone(type_of_number: u8, digits: Digits) -> Address
     }
 }
 
-/// An international telephone number of these digits.
-fn international_telephone(digits: Result<Digits, AddressFault>) -> Result<Address, AddressFault>
-    ensures { result ≡ telephone_of 1 digits }
+/// An international telephone number, of the digits of a text.
+fn international_telephone(alloc: Global, text: &str) -> Result<Address, TextFault>
+    ensures { Gives result (telephone_of 1 (few_digits (digits_of_text (chars text.now)))) }
 {
-    match digits {
-        Ok(digits) => Ok(telephone(1, digits)),
-        Err(why) => Err(why),
-    }
+    let digits = digits_of_telephone(alloc, text)?;
+    Ok(telephone(1, digits))
 }
 
 /// A name.
-fn name(alloc: Global, text: &str) -> Result<Address, AddressFault>
-    ensures { result ≢ Err Memory → result ≡ name_of (septets_of_text (chars text.now)) }
+fn name(alloc: Global, text: &str) -> Result<Address, TextFault>
+    ensures { Gives result (name_of (septets_of_text (chars text.now))) }
 {
     let Some(septets) = gsm_of(alloc, text)? else {
-        return Err(AddressFault::BadDigit);
+        return Err(TextFault::Address(AddressFault::BadDigit));
     };
     if septets.len() > 11 {
-        return Err(AddressFault::AddressTooLong);
+        return Err(TextFault::Address(AddressFault::AddressTooLong));
     }
     Ok(Address {
         type_of_number: 5,
@@ -95,14 +93,13 @@ fn name(alloc: Global, text: &str) -> Result<Address, AddressFault>
 }
 
 /// A telephone number of unknown type, or a name where the text has another character than digits.
-fn telephone_or_name(alloc: Global, text: &str) -> Result<Address, AddressFault>
-    ensures { result ≢ Err Memory → result ≡ without_plus (chars text.now) }
+fn telephone_or_name(alloc: Global, text: &str) -> Result<Address, TextFault>
+    ensures { Gives result (without_plus (chars text.now)) }
 {
     match digits_of_telephone(alloc, text) {
         Ok(digits) => Ok(telephone(0, digits)),
-        Err(AddressFault::BadDigit) => name(alloc, text),
-        Err(AddressFault::AddressTooLong) => Err(AddressFault::AddressTooLong),
-        Err(AddressFault::Memory) => Err(AddressFault::Memory),
+        Err(TextFault::Address(AddressFault::BadDigit)) => name(alloc, text),
+        Err(why) => Err(why),
     }
 }
 
@@ -110,11 +107,11 @@ impl Address {
     /// The address that a text says: `+` and digits are a telephone number of type 1, digits alone one of type 0,
     /// both in plan 1; another text that does not begin with `+` is a name, of type 5 in plan 0.
     /// Digits are `0` to `9`, `*`, `#`, `a`, `b` and `c`. A bad character is found before too many.
-    pub fn from_text(alloc: Global, text: &str) -> Result<Address, AddressFault>
-        ensures { result ≢ Err Memory → result ≡ address_of_text (chars text.now) }
+    pub fn from_text(alloc: Global, text: &str) -> Result<Address, TextFault>
+        ensures { Gives result (address_of_text (chars text.now)) }
     {
         match international(text) {
-            Some(digits) => international_telephone(digits_of_telephone(alloc, digits)),
+            Some(digits) => international_telephone(alloc, digits),
             None => telephone_or_name(alloc, text),
         }
     }

@@ -13,7 +13,7 @@ ghost use Rattle.sms_field.specs.DigitOctets.{digits};
 use crate::address::{ALPHANUMERIC, Address};
 use crate::cursor::Cursor;
 use crate::digits::{Digits, both_digits_of, low_digit_of};
-use crate::fault::FieldFault;
+use crate::fault::{AddressFault, FieldFault};
 use crate::name::Name;
 use crate::refusal::Fault;
 use crate::symbols::Symbols;
@@ -117,7 +117,7 @@ impl<'a> AddressView<'a> {
         ensures read { Sees address input.old result input.new }
         ensures fits { IfOk result HasSpelling }
     {
-        let count = input.take_octet_up_to(20, FieldFault::AddressTooLong)?;
+        let count = input.take_octet_up_to(20, FieldFault::Address(AddressFault::AddressTooLong))?;
         let kind = input.take_octet()?;
         let type_of_number = kind / 16 % 8;
         let octets = symbols_seen_at(input, type_of_number, count)?;

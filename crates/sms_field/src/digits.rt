@@ -13,7 +13,7 @@ ghost use Rattle.std.specs.Cmp.Rules.{comparing, hashing};
 ghost use Rattle.std.specs.Hash as fed;
 ghost use Rattle.std.proofs.Common.{rules};
 
-use crate::fault::FieldFault;
+use crate::fault::{AddressFault, FieldFault};
 use std::alloc::{AllocError, Global};
 use std::hash::{Hash, Hasher};
 use std::marker::Model;
@@ -95,7 +95,7 @@ pub fn low_digit_of(octet: u8) -> Result<u8, FieldFault>
     if low < 15 {
         Ok(low)
     } else {
-        Err(FieldFault::BadDigit)
+        Err(FieldFault::Address(AddressFault::BadDigit))
     }
 }
 
@@ -107,7 +107,7 @@ pub fn both_digits_of(octet: u8) -> Result<(u8, u8), FieldFault>
     if low < 15 && high < 15 {
         Ok((low, high))
     } else {
-        Err(FieldFault::BadDigit)
+        Err(FieldFault::Address(AddressFault::BadDigit))
     }
 }
 

@@ -29,7 +29,7 @@ pub use chain::{Chain, law_of_chains};
 pub use coding::{Alphabet, alphabet_of};
 pub use cursor::Cursor;
 pub use digits::Digits;
-pub use fault::{AddressFault, FieldFault};
+pub use fault::{AddressFault, FieldFault, TextFault};
 pub use name::Name;
 pub use octets::Octets;
 pub use refusal::{Fault, Reason, Refusal};

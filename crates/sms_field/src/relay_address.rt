@@ -1,15 +1,17 @@
 //! Addresses of the relay layer (3GPP TS 24.011, 8.2.5.1 and 8.2.5.2).
 
-ghost use Rattle.std.specs.Prelude.{◌≡◌, ◌≢◌, ◌<◌, ◌++◌, Ok, Err, IfOk, IfErr, OnOk, OnErr};
+ghost use Rattle.std.specs.Prelude.{◌≡◌, ◌<◌, ◌++◌, IfOk, IfErr, OnOk, OnErr};
 ghost use Rattle.std.specs.Str.{chars};
 ghost use Rattle.std.specs.String.{string_bytes};
 ghost use Rattle.sms_field.specs.Field.{IsLawful, IsSelfContained};
 ghost use Rattle.sms_field.specs.RelayAddressValue.{HasOptionalSpelling};
 ghost use Rattle.sms_field.specs.RelayAddress.{relay_address, relay_address_octets, optional_address_octets};
+ghost use Rattle.sms_field.specs.DigitText.{digits_of_text};
+ghost use Rattle.sms_field.specs.AddressText.{few_digits};
 ghost use Rattle.sms_field.specs.RelayAddressText.{relay_address_text, relay_telephone_of, relay_address_of_text};
 ghost use Rattle.sms_field.specs.Written.{AreAtMost, AreOctetsOf, AreReadBack};
 ghost use Rattle.sms_field.specs.declared.fault.FieldFault.TheVariants.{Short};
-ghost use Rattle.sms_field.specs.declared.fault.AddressFault.TheVariants.{Memory};
+ghost use Rattle.sms_field.specs.AddressFaults.{Gives};
 ghost use Rattle.sms_field.specs.Reading.{Reads};
 ghost use Rattle.sms_field.specs.WholeAnswer.{IsRefusedBy, ReadsExactly};
 ghost use Rattle.std.specs.Prelude.{nat_eq, ◌&&◌};
@@ -23,7 +25,7 @@ use crate::address::OCTETS_MAX;
 use crate::address_text::{digits_of_telephone, international, text_of_telephone};
 use crate::cursor::Cursor;
 use crate::digits::{Digits, put_telephone};
-use crate::fault::{AddressFault, FieldFault};
+use crate::fault::{FieldFault, TextFault};
 use crate::refusal::Refusal;
 use crate::relay_address_view::RpAddressView;
 use std::alloc::{AllocError, Global};
@@ -85,22 +87,18 @@ impl Hash for RpAddress {
     }
 }
 
-/// A telephone number.
-fn telephone(
-    type_of_number: u8,
-    digits: Result<Digits, AddressFault>,
-) -> Result<RpAddress, AddressFault>
+/// A telephone number, of the digits of a text.
+fn telephone(alloc: Global, type_of_number: u8, text: &str) -> Result<RpAddress, TextFault>
     requires { type_of_number < 2 }
-    ensures { result ≡ relay_telephone_of type_of_number digits }
+    ensures { Gives result
+        (relay_telephone_of type_of_number (few_digits (digits_of_text (chars text.now)))) }
 {
-    match digits {
-        Ok(digits) => Ok(RpAddress {
-            type_of_number,
-            plan: 1,
-            digits,
-        }),
-        Err(why) => Err(why),
-    }
+    let digits = digits_of_telephone(alloc, text)?;
+    Ok(RpAddress {
+        type_of_number,
+        plan: 1,
+        digits,
+    })
 }
 
 /// Does nothing: its contract says that a relay address, or none, is a lawful field that does not
@@ -117,12 +115,12 @@ pub fn relay_address_laws()
 impl RpAddress {
     /// The telephone number that a text says, in plan 1: `+` and digits are of type 1, digits alone of type 0.
     /// Digits are `0` to `9`, `*`, `#`, `a`, `b` and `c`. A bad digit is found before too many.
-    pub fn from_text(alloc: Global, text: &str) -> Result<RpAddress, AddressFault>
-        ensures { result ≢ Err Memory → result ≡ relay_address_of_text (chars text.now) }
+    pub fn from_text(alloc: Global, text: &str) -> Result<RpAddress, TextFault>
+        ensures { Gives result (relay_address_of_text (chars text.now)) }
     {
         match international(text) {
-            Some(digits) => telephone(1, digits_of_telephone(alloc, digits)),
-            None => telephone(0, digits_of_telephone(alloc, text)),
+            Some(digits) => telephone(alloc, 1, digits),
+            None => telephone(alloc, 0, text),
         }
     }
 

@@ -13,7 +13,7 @@ ghost use Rattle.sms_field.specs.declared.fault.FieldFault.TheVariants.{Short};
 use crate::address_view::digits_from;
 use crate::cursor::Cursor;
 use crate::digits::{Digits, both_digits_of};
-use crate::fault::FieldFault;
+use crate::fault::{AddressFault, FieldFault};
 use crate::refusal::Fault;
 use crate::relay_address::RpAddress;
 use std::alloc::{AllocError, Global};
@@ -49,7 +49,7 @@ fn last_octet_at(input: &mut Cursor) -> Result<u8, Fault<FieldFault>>
     if octet % 16 == 15 {
         return Err(Fault {
             place,
-            why: FieldFault::BadDigit,
+            why: FieldFault::Address(AddressFault::BadDigit),
         });
     }
     Ok(octet)
@@ -120,7 +120,7 @@ impl<'a> RpAddressView<'a> {
     pub fn read_at(input: &mut Cursor<'a>) -> Result<Option<RpAddressView<'a>>, Fault<FieldFault>>
         ensures { Sees relay_address input.old result input.new }
     {
-        let count = input.take_octet_up_to(11, FieldFault::AddressTooLong)?;
+        let count = input.take_octet_up_to(11, FieldFault::Address(AddressFault::AddressTooLong))?;
         if count == 0 {
             return Ok(None);
         }

@@ -1,5 +1,5 @@
 use super::*;
-use crate::fault::AddressFault;
+use crate::fault::{AddressFault, TextFault};
 use std::test::Fail;
 
 const NINETEEN: &[u8] = b"\x13\x81\x21\x43\x65\x87\x09\x21\x43\x65\x87\xF9";
@@ -131,47 +131,47 @@ const REFUSED: [Refused; 16] = [
     Refused {
         octets: b"\x15",
         place: 0,
-        why: FieldFault::AddressTooLong,
+        why: FieldFault::Address(AddressFault::AddressTooLong),
     },
     Refused {
         octets: b"\xFF\xD0",
         place: 0,
-        why: FieldFault::AddressTooLong,
+        why: FieldFault::Address(AddressFault::AddressTooLong),
     },
     Refused {
         octets: b"\x02\x81\x1F",
         place: 2,
-        why: FieldFault::BadDigit,
+        why: FieldFault::Address(AddressFault::BadDigit),
     },
     Refused {
         octets: b"\x02\x81\xF1",
         place: 2,
-        why: FieldFault::BadDigit,
+        why: FieldFault::Address(AddressFault::BadDigit),
     },
     Refused {
         octets: b"\x01\x81\x1F",
         place: 2,
-        why: FieldFault::BadDigit,
+        why: FieldFault::Address(AddressFault::BadDigit),
     },
     Refused {
         octets: b"\x03\x81\x21\xFF",
         place: 3,
-        why: FieldFault::BadDigit,
+        why: FieldFault::Address(AddressFault::BadDigit),
     },
     Refused {
         octets: b"\x04\x81\x21\xF3",
         place: 3,
-        why: FieldFault::BadDigit,
+        why: FieldFault::Address(AddressFault::BadDigit),
     },
     Refused {
         octets: b"\x04\x81\xF1",
         place: 2,
-        why: FieldFault::BadDigit,
+        why: FieldFault::Address(AddressFault::BadDigit),
     },
     Refused {
         octets: b"\x15\xD0",
         place: 0,
-        why: FieldFault::AddressTooLong,
+        why: FieldFault::Address(AddressFault::AddressTooLong),
     },
     Refused {
         octets: b"\x0D\xD0\xE8\x32\x9B\xFD\x46\x97",
@@ -264,7 +264,7 @@ fn is_text_of(alloc: Global, text: &str, octets: &[u8]) -> Result<bool, Fail> {
 fn is_refused(alloc: Global, text: &str, fault: AddressFault) -> bool {
     match Address::from_text(alloc, text) {
         Ok(_) => false,
-        Err(why) => why == fault,
+        Err(why) => why == TextFault::Address(fault),
     }
 }
 

@@ -1,4 +1,5 @@
 use super::*;
+use crate::fault::AddressFault;
 use std::test::Fail;
 
 /// A text that says an address, and the address's octets.
@@ -93,27 +94,27 @@ const REFUSED: [Refused; 9] = [
     Refused {
         octets: b"\x0C",
         place: 0,
-        why: FieldFault::AddressTooLong,
+        why: FieldFault::Address(AddressFault::AddressTooLong),
     },
     Refused {
         octets: b"\xFF\x91",
         place: 0,
-        why: FieldFault::AddressTooLong,
+        why: FieldFault::Address(AddressFault::AddressTooLong),
     },
     Refused {
         octets: b"\x02\x91\x1F",
         place: 2,
-        why: FieldFault::BadDigit,
+        why: FieldFault::Address(AddressFault::BadDigit),
     },
     Refused {
         octets: b"\x02\x91\xFF",
         place: 2,
-        why: FieldFault::BadDigit,
+        why: FieldFault::Address(AddressFault::BadDigit),
     },
     Refused {
         octets: b"\x04\x91\xF1",
         place: 2,
-        why: FieldFault::BadDigit,
+        why: FieldFault::Address(AddressFault::BadDigit),
     },
 ];
 
@@ -135,7 +136,7 @@ fn is_text_of(alloc: Global, text: &str, octets: &[u8]) -> Result<bool, Fail> {
 fn is_refused(alloc: Global, text: &str, fault: AddressFault) -> bool {
     match RpAddress::from_text(alloc, text) {
         Ok(_) => false,
-        Err(why) => why == fault,
+        Err(why) => why == TextFault::Address(fault),
     }
 }
 

@@ -1,4 +1,4 @@
-use Rattle.std.proofs.Common.{◌≡◌, ◌-◌, ◌+◌, length, take, drop, arith, length-take, length-drop}
+use Rattle.std.proofs.Common.{◌-◌, length, drop, arith, length-take, length-drop}
 use Rattle.sms_field.proofs.DigitWriting.{two_written, none_written, one_written, digits_left}
 use Rattle.sms_field.proofs.digits.put_digits.Goals as goal
 

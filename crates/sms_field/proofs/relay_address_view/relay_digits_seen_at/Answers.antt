@@ -1,4 +1,4 @@
-use Rattle.std.proofs.Common.{Ok, Err, ◌≡◌, ◌*◌, arith}
+use Rattle.std.proofs.Common.{Ok, Err, ◌*◌, arith}
 use Rattle.std.proofs.lemmas.Result.{err_from_is_err_and}
 use Rattle.sms_field.specs.declared.fault.FieldFault.TheVariants.{Short}
 use Rattle.sms_field.specs.declared.refusal.Refusal.TheVariants.{At}
