@@ -6,5 +6,4 @@ use Rattle.sms_relay.specs.declared.fault.RelayFault.TheVariants.{Short, BadAddr
 
 abbrev pub relay_fault : FieldFault → RelayFault
 relay_fault fields.Short = Short
-relay_fault fields.AddressTooLong = BadAddress
-relay_fault fields.BadDigit = BadAddress
+relay_fault (fields.Address why) = BadAddress

@@ -6,5 +6,4 @@ use Rattle.sms_relay.specs.Fault.{relay_fault}
 
 pub fault_apart : (why : FieldFault) → relay_fault fields.Short ≡ relay_fault why → fields.Short ≡ why
 fault_apart fields.Short e = refl
-fault_apart fields.AddressTooLong e = absurd cc
-fault_apart fields.BadDigit e = absurd cc
+fault_apart (fields.Address why) e = absurd cc

@@ -24,8 +24,7 @@ use Rattle.sms_relay.specs.declared.fault.RelayFault.TheVariants.{Short, Unknown
 
 field_apart : (f : FieldFault) → UnknownType ≡ relay_fault f → ⊥
 field_apart fields.Short e = cc
-field_apart fields.AddressTooLong e = cc
-field_apart fields.BadDigit e = cc
+field_apart (fields.Address why) e = cc
 
 never_none : Never UnknownType (octet_by Short (up_to 0 BadAddress))
 never_none = never_by _ Short _ (λ o e. up_to_apart BadAddress UnknownType 0 o (λ s. cc) e)

@@ -50,7 +50,7 @@ impl From<FieldFault> for RelayFault {
     fn from(fault: FieldFault) -> RelayFault {
         match fault {
             FieldFault::Short => RelayFault::Short,
-            _ => RelayFault::BadAddress,
+            FieldFault::Address(_) => RelayFault::BadAddress,
         }
     }
 }

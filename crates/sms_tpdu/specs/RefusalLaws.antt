@@ -7,6 +7,7 @@ use Rattle.sms_field.specs.ReadableLaws.{unread}
 use Rattle.sms_field.specs.Reasons.{Never}
 use Rattle.sms_field.specs.ReasonLaws.{never_chain, never_by, never_map_reason, up_to_apart, starts_as, no_other, starts_apart}
 use Rattle.sms_field.specs.declared.coding.Alphabet.{Alphabet}
+use Rattle.sms_field.specs.declared.fault.AddressFault.TheVariants as addresses
 use Rattle.sms_field.specs.declared.fault.FieldFault.{FieldFault}
 use Rattle.sms_field.specs.declared.fault.FieldFault.TheVariants as fields
 use Rattle.sms_tpdu.specs.Fault.{unit_fault}
@@ -42,8 +43,8 @@ tells_by first second never = record {
 
 field_apart : (f : FieldFault) → WrongType ≡ unit_fault f → ⊥
 field_apart fields.Short e = cc
-field_apart fields.AddressTooLong e = cc
-field_apart fields.BadDigit e = cc
+field_apart (fields.Address addresses.AddressTooLong) e = cc
+field_apart (fields.Address addresses.BadDigit) e = cc
 
 length_apart : (a b : Bool) (n : ℕ) → cond a (cond b (Ok n) (Err HeaderTooLong)) (Err DataTooLong) ≡ Err WrongType → ⊥
 length_apart true true n e = cc
