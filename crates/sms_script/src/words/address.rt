@@ -6,7 +6,7 @@ ghost use Rattle.sms_script.specs.Reasons.{Gives};
 ghost use Rattle.sms_script.specs.Words.Addresses.{address, can_be_phone};
 
 use crate::fault::{MeaningFault, ScriptFault};
-use sms_field::{Address, AddressFault, Symbols};
+use sms_field::{Address, Symbols, TextFault};
 use std::alloc::Global;
 
 /// The address of which a word is the text.
@@ -15,8 +15,8 @@ pub fn address_of(alloc: Global, word: &str) -> Result<Address, MeaningFault>
 {
     match Address::from_text(alloc, word) {
         Ok(address) => Ok(address),
-        Err(AddressFault::Memory) => Err(MeaningFault::Memory),
-        Err(_) => Err(MeaningFault::Script(ScriptFault::BadAddress)),
+        Err(TextFault::Memory) => Err(MeaningFault::Memory),
+        Err(TextFault::Address(_)) => Err(MeaningFault::Script(ScriptFault::BadAddress)),
     }
 }
 
