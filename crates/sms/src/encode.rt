@@ -11,7 +11,7 @@ ghost use Rattle.sms_join.specs.SegmentsValue.{seen_units};
 use crate::fault::Fault;
 use crate::words::{Draft, DraftKind};
 use hex::FromHex;
-use sms_field::{Address, AddressFault, Stamp, Validity};
+use sms_field::{Address, Stamp, TextFault, Validity};
 use sms_join::{Segments, SplitFault, cut_text};
 use sms_tpdu::{Deliver, Submit, Unit, UnitsView, UserData, Width};
 use std::alloc::Global;
@@ -19,11 +19,11 @@ use std::alloc::Global;
 /// The stamp of a delivery that is given none: the first second of 2000 in UTC.
 const FIRST_SECOND: [u8; 7] = [0x00, 0x10, 0x10, 0x00, 0x00, 0x00, 0x00];
 
-impl From<AddressFault> for Fault {
-    fn from(fault: AddressFault) -> Fault {
+impl From<TextFault> for Fault {
+    fn from(fault: TextFault) -> Fault {
         match fault {
-            AddressFault::Memory => Fault::Memory,
-            AddressFault::BadDigit | AddressFault::AddressTooLong => Fault::BadAddress,
+            TextFault::Memory => Fault::Memory,
+            TextFault::Address(_) => Fault::BadAddress,
         }
     }
 }
