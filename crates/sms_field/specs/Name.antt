@@ -1,6 +1,6 @@
 -- The name in an alphanumeric address (3GPP TS 23.040, 9.1.2.5): characters of the 7-bit default alphabet, packed into octets.
 use Rattle.std.specs.Prelude.{ℕ, zero, suc, ◌+◌, ◌*◌, ◌/◌, ◌≤◌, List, [], ◌∷◌, ◌++◌, length, take, drop, replicate}
-use Rattle.sms_text.specs.Bits.{AreSeptets, number, septet_bits, unpacked}
+use Rattle.sms_text.specs.Bits.{AreSeptets, from_bits, septet_bits, unpacked}
 use Rattle.sms_field.specs.Field.{Field, ◌>>=◌, always, octets_of}
 use Rattle.sms_field.specs.declared.fault.FieldFault.{FieldFault}
 use Rattle.sms_field.specs.declared.fault.FieldFault.TheVariants.{Short}
@@ -20,7 +20,7 @@ name count = do
 -- the octets of a list of bits, the lowest bit first
 unfoldable pub octets_from : ℕ → List ℕ → List ℕ
 octets_from zero rest = []
-octets_from (suc count) rest = number (take 8 rest) ∷ octets_from count (drop 8 rest)
+octets_from (suc count) rest = from_bits (take 8 rest) ∷ octets_from count (drop 8 rest)
 
 -- how a name is written: its bits, and then 0 to the end of the last octet
 unfoldable pub name_octets : List ℕ → List ℕ

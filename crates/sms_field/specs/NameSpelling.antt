@@ -4,9 +4,9 @@ use Rattle.std.specs.List.{AllByRecursion}
 use Rattle.std.proofs.Math.Nat.{pow-succ', pow-le-pow_right}
 use Rattle.std.proofs.Math.Seq.{take-add, take-append-add, take_at, drop_at}
 use Rattle.std.proofs.lemmas.List.{append-nil, length-take, length-drop, length-replicate, take-replicate}
-use Rattle.sms_text.specs.Bits.{bits, number, octet_bits, septet_bits, AreSeptets, PackedPlain, unpacked}
+use Rattle.sms_text.specs.Bits.{bits, from_bits, octet_bits, septet_bits, AreSeptets, PackedPlain, unpacked}
 use Rattle.sms_text.specs.Octets.{IsOctets}
-use Rattle.sms_text.specs.PackingLaws.{length-bits, number-bits, length-octet_bits, length-septet_bits, plain_is_packed, unpacked-packed, unpacked_septets}
+use Rattle.sms_text.specs.PackingLaws.{length-bits, from_bits-bits, length-octet_bits, length-septet_bits, plain_is_packed, unpacked-packed, unpacked_septets}
 use Rattle.sms_field.specs.Name.{IsName, name, octets_from, name_octets, name_length}
 
 abbrev AreBits : List ℕ → Type 0
@@ -40,24 +40,24 @@ bits-drop zero xs p = p
 bits-drop (suc n) [] p = tt
 bits-drop (suc n) (x ∷ xs) p = bits-drop n xs p.1
 
-number_below : (xs : List ℕ) → AreBits xs → number xs < 2 ^ length xs
-unfolding number
-number_below [] p = omega arith
-number_below (x ∷ xs) p = let e : 2 ^ suc (length xs) ≡ 2 * 2 ^ length xs = pow-succ' 2 (length xs) in let h = number_below xs p.1 in omega (arith, p.0, e, h)
+from_bits_below : (xs : List ℕ) → AreBits xs → from_bits xs < 2 ^ length xs
+unfolding from_bits
+from_bits_below [] p = omega arith
+from_bits_below (x ∷ xs) p = let e : 2 ^ suc (length xs) ≡ 2 * 2 ^ length xs = pow-succ' 2 (length xs) in let h = from_bits_below xs p.1 in omega (arith, p.0, e, h)
 
-bits-number : (xs : List ℕ) → AreBits xs → bits (length xs) (number xs) ≡ xs
-unfolding bits number
-bits-number [] p = refl
-bits-number (x ∷ xs) p =
-    let low : (x + 2 * number xs) % 2 ≡ x = omega (arith, p.0) in
-    let high : (x + 2 * number xs) / 2 ≡ number xs = omega (arith, p.0) in
-    rw (low, high) (ap (λ (l : List ℕ). x ∷ l) (bits-number xs p.1))
+bits-from_bits : (xs : List ℕ) → AreBits xs → bits (length xs) (from_bits xs) ≡ xs
+unfolding bits from_bits
+bits-from_bits [] p = refl
+bits-from_bits (x ∷ xs) p =
+    let low : (x + 2 * from_bits xs) % 2 ≡ x = omega (arith, p.0) in
+    let high : (x + 2 * from_bits xs) / 2 ≡ from_bits xs = omega (arith, p.0) in
+    rw (low, high) (ap (λ (l : List ℕ). x ∷ l) (bits-from_bits xs p.1))
 
 -- ---- octets taken from bits
 
-octet_below : (xs : List ℕ) → AreBits xs → number (take 8 xs) < 256
+octet_below : (xs : List ℕ) → AreBits xs → from_bits (take 8 xs) < 256
 octet_below xs p =
-    let h = number_below (take 8 xs) (bits-take 8 xs p) in
+    let h = from_bits_below (take 8 xs) (bits-take 8 xs p) in
     let short : length (take 8 xs) ≤ 8 = omega (arith, length-take 8 xs) in
     let two : 0 < 2 = omega arith in
     let le : 2 ^ length (take 8 xs) ≤ 2 ^ 8 = pow-le-pow_right two short in
@@ -86,10 +86,10 @@ unfolding octets_from
 bits_of_octets zero xs le p = octet_bits-nil
 bits_of_octets (suc k) xs le p =
     let eight : length (take 8 xs) ≡ 8 = omega (arith, length-take 8 xs) in
-    let first : bits 8 (number (take 8 xs)) ≡ take 8 xs = ap (λ (w : ℕ). bits w (number (take 8 xs))) (sym eight) ∙ bits-number (take 8 xs) (bits-take 8 xs p) in
+    let first : bits 8 (from_bits (take 8 xs)) ≡ take 8 xs = ap (λ (w : ℕ). bits w (from_bits (take 8 xs))) (sym eight) ∙ bits-from_bits (take 8 xs) (bits-take 8 xs p) in
     let rest : octet_bits (octets_from k (drop 8 xs)) ≡ take (8 * k) (drop 8 xs) = bits_of_octets k (drop 8 xs) (omega (arith, length-drop 8 xs)) (bits-drop 8 xs p) in
     let sum : 8 * suc k ≡ 8 + 8 * k = omega arith in
-    octet_bits-cons (number (take 8 xs)) (octets_from k (drop 8 xs)) ∙ ap (λ (l : List ℕ). l ++ octet_bits (octets_from k (drop 8 xs))) first ∙ ap (λ (l : List ℕ). take 8 xs ++ l) rest ∙ sym (ap (λ (n : ℕ). take n xs) sum ∙ take-add 8 (8 * k) xs)
+    octet_bits-cons (from_bits (take 8 xs)) (octets_from k (drop 8 xs)) ∙ ap (λ (l : List ℕ). l ++ octet_bits (octets_from k (drop 8 xs))) first ∙ ap (λ (l : List ℕ). take 8 xs ++ l) rest ∙ sym (ap (λ (n : ℕ). take n xs) sum ∙ take-add 8 (8 * k) xs)
 
 -- octets with the same bits are the same
 same_octets : (xs ys : List ℕ) → IsOctets xs → IsOctets ys → octet_bits xs ≡ octet_bits ys → xs ≡ ys
@@ -100,7 +100,7 @@ same_octets (x ∷ xs) (y ∷ ys) p q e =
     let whole : bits 8 x ++ octet_bits xs ≡ bits 8 y ++ octet_bits ys = sym (octet_bits-cons x xs) ∙ e ∙ octet_bits-cons y ys in
     let first : bits 8 x ≡ bits 8 y = sym (take_at (bits 8 x) (octet_bits xs) 8 (length-bits 8 x)) ∙ ap (take 8) whole ∙ take_at (bits 8 y) (octet_bits ys) 8 (length-bits 8 y) in
     let rest : octet_bits xs ≡ octet_bits ys = sym (drop_at (bits 8 x) (octet_bits xs) 8 (length-bits 8 x)) ∙ ap (drop 8) whole ∙ drop_at (bits 8 y) (octet_bits ys) 8 (length-bits 8 y) in
-    let head : x ≡ y = sym (number-bits 8 x p.0) ∙ ap number first ∙ number-bits 8 y q.0 in
+    let head : x ≡ y = sym (from_bits-bits 8 x p.0) ∙ ap from_bits first ∙ from_bits-bits 8 y q.0 in
     ap (λ (n : ℕ). n ∷ xs) head ∙ ap (λ (l : List ℕ). y ∷ l) (same_octets xs ys p.1 q.1 rest)
 
 -- ---- the octets of a name

@@ -42,7 +42,7 @@ year_after (suc n) year days =
 
 -- two decimal digits, the tens in the low half
 abbrev pub two_digits : ℕ → ℕ
-two_digits number = number % 10 * 16 + number / 10
+two_digits value = value % 10 * 16 + value / 10
 
 -- year, month, day, hour, minute, second, and the zone, which is 0
 abbrev pub stamp_of_day : Day → ℕ → List ℕ

@@ -43,9 +43,9 @@ pub plain_is : (code : ℕ) → code < 128 → get_or characters code 0 ≡ plai
 unfolding character_of
 plain_is code small = eqb-true (get_or characters code 0) (plain_character code) (each_passes plain_test 128 code refl small)
 
--- ---- the numbers that are the code of their own character
+-- ---- the codes that are those of the same characters in ASCII
 
--- letters, signs and line ends
+-- letters, marks and line ends
 abbrev pub is_plain : ℕ → Bool
 is_plain c =
     ((((nat_le 65 c && nat_le c 90) || (nat_le 97 c && nat_le c 122)) || ((nat_le 32 c && nat_le c 63) && not (c == 36))) || (c == 10 || c == 13))

@@ -2,7 +2,7 @@
 use Rattle.std.proofs.Common.{◌≡◌, ℕ, zero, suc, ◌+◌, ◌*◌, ◌/◌, ◌%◌, ◌≤◌, ◌^◌, List, [], ◌∷◌, ◌++◌, take, drop, get_or, refl, sym, ap, ◌∙◌, arith}
 use Rattle.std.proofs.Math.Seq.{drop-nil}
 use Rattle.std.proofs.lemmas.List.{drop-drop, drop_at}
-use Rattle.sms_text.specs.Bits.{bits, number, octet_bits, septets_of}
+use Rattle.sms_text.specs.Bits.{bits, from_bits, octet_bits, septets_of}
 use Rattle.sms_text.specs.Words.{low_octets, low_septets}
 use Rattle.sms_text.specs.PackingLaws.{length-bits}
 use Rattle.sms_text.proofs.Words.{cut_last}
@@ -23,8 +23,8 @@ from_place first octets =
     ap (drop (first % 8)) (drop_octets (first / 8) octets) ∙ drop-drop (first % 8) (8 * (first / 8)) (octet_bits octets) ∙ ap (λ (n : ℕ). drop n (octet_bits octets)) sum
 
 -- the septet at a place, in the word of the octets there
-pub septet_there : (first word m : ℕ) (octets rest : List ℕ) → rest ≡ drop (first / 8) octets → first % 8 + 7 ≤ 8 * m → low_octets m word ≡ take m rest → (word / 2 ^ (first % 8)) % 128 ≡ number (take 7 (drop first (octet_bits octets)))
+pub septet_there : (first word m : ℕ) (octets rest : List ℕ) → rest ≡ drop (first / 8) octets → first % 8 + 7 ≤ 8 * m → low_octets m word ≡ take m rest → (word / 2 ^ (first % 8)) % 128 ≡ from_bits (take 7 (drop first (octet_bits octets)))
 unfolding septets_of low_septets
 septet_there first word m octets rest is room low =
-    let one : number (take 7 (drop (first % 8) (octet_bits rest))) ≡ (word / 2 ^ (first % 8)) % 128 = ap (λ (l : List ℕ). get_or l 0 0) (cut_last (first % 8) 1 m word rest (omega (arith, room)) low) in
-    sym one ∙ ap (λ (l : List ℕ). number (take 7 (drop (first % 8) (octet_bits l)))) is ∙ ap (λ (l : List ℕ). number (take 7 l)) (from_place first octets)
+    let one : from_bits (take 7 (drop (first % 8) (octet_bits rest))) ≡ (word / 2 ^ (first % 8)) % 128 = ap (λ (l : List ℕ). get_or l 0 0) (cut_last (first % 8) 1 m word rest (omega (arith, room)) low) in
+    sym one ∙ ap (λ (l : List ℕ). from_bits (take 7 (drop (first % 8) (octet_bits l)))) is ∙ ap (λ (l : List ℕ). from_bits (take 7 l)) (from_place first octets)

@@ -1,4 +1,4 @@
--- A number as octets and as septets: its bits, cut in eights and in sevens.
+-- A word as octets and as septets: its bits, cut in eights and in sevens.
 use Rattle.std.proofs.Common.{◌≡◌, ℕ, zero, suc, ◌+◌, ◌-◌, ◌*◌, ◌/◌, ◌%◌, ◌^◌, ◌<◌, ◌≤◌, ◌⊎◌, inl, inr, Bool, true, false, ltb, min, List, [], ◌∷◌, ◌++◌, length, take, drop, get_or, replicate, refl, sym, ap, subst, ◌∙◌, append_assoc, arith}
 use Rattle.std.proofs.Math.Nat.{pow-succ', div-div-eq-div-mul}
 use Rattle.std.proofs.lemmas.List.{append-nil, take_at, drop_at, take_rest, drop_more, take-append-drop, length-take-le, take-take, drop-drop}
@@ -6,13 +6,13 @@ use Rattle.std.proofs.lemmas.Bool.{ltb-true, ltb-false}
 use Rattle.std.proofs.lemmas.Nat.{shl-shr, shl_whole, pow-add}
 use Rattle.std.proofs.lemmas.Grind.{flat_map-append}
 use Rattle.std.proofs.Math.Nat.{pow-le-pow_right}
-use Rattle.sms_text.specs.Bits.{bits, number, octet_bits, septet_bits, septets_of, AreSeptets, PackedPlain}
+use Rattle.sms_text.specs.Bits.{bits, from_bits, octet_bits, septet_bits, septets_of, AreSeptets, PackedPlain}
 use Rattle.sms_text.specs.Octets.{IsOctets}
 use Rattle.sms_text.specs.Words.{low_octets, low_septets}
 use Rattle.sms_text.proofs.BitLists.{bits-of_zero, bits-more, doubled, low_same, high_more}
-use Rattle.sms_text.specs.PackingLaws.{length-bits, number-bits, length-octet_bits, octet_bits-cons, septet_bits-cons}
+use Rattle.sms_text.specs.PackingLaws.{length-bits, from_bits-bits, length-octet_bits, octet_bits-cons, septet_bits-cons}
 
--- ---- the bits of a number in two parts
+-- ---- the bits of a word in two parts
 
 pub bits-split : (v w n : ℕ) → bits (v + w) n ≡ bits v n ++ bits w (n / 2 ^ v)
 unfolding bits
@@ -33,7 +33,7 @@ bits-octet n = let e : n ≡ n % 256 + n / 256 * 2 ^ 8 = omega arith in sym (ap 
 bits-septet : (n : ℕ) → bits 7 (n % 128) ≡ bits 7 n
 bits-septet n = let e : n ≡ n % 128 + n / 128 * 2 ^ 7 = omega arith in sym (ap (bits 7) e ∙ bits-high 7 (n % 128) (n / 128))
 
--- ---- the law that a block rests on: both lists have the bits of the number
+-- ---- the law that a block rests on: both lists have the bits of the word
 
 no_octets : octet_bits [] ≡ []
 unfolding octet_bits
@@ -71,7 +71,7 @@ unfolding low_septets
 septets-low zero n = tt
 septets-low (suc k) n = (omega arith, septets-low k (n / 128))
 
--- ---- a number that is made octet by octet, or septet by septet
+-- ---- a word that is made octet by octet, or septet by septet
 
 pub low_octets-cons : (k o w : ℕ) → o < 256 → low_octets (suc k) (o + 256 * w) ≡ o ∷ low_octets k w
 unfolding low_octets
@@ -95,7 +95,7 @@ septets_first [] back k j fits len = let none : k + j ≡ j = omega arith in rw 
 septets_first (s ∷ rest) back k j fits len =
     let sum : k + j ≡ suc (length rest + j) = omega arith in
     let whole : septet_bits (s ∷ rest) ++ back ≡ bits 7 s ++ (septet_bits rest ++ back) = ap (λ (l : List ℕ). l ++ back) (septet_bits-cons s rest) ∙ append_assoc (bits 7 s) (septet_bits rest) back in
-    let first : number (take 7 (septet_bits (s ∷ rest) ++ back)) ≡ s = ap (λ (l : List ℕ). number (take 7 l)) whole ∙ ap number (take_at (bits 7 s) (septet_bits rest ++ back) 7 (length-bits 7 s)) ∙ number-bits 7 s fits.0 in
+    let first : from_bits (take 7 (septet_bits (s ∷ rest) ++ back)) ≡ s = ap (λ (l : List ℕ). from_bits (take 7 l)) whole ∙ ap from_bits (take_at (bits 7 s) (septet_bits rest ++ back) 7 (length-bits 7 s)) ∙ from_bits-bits 7 s fits.0 in
     let others : drop 7 (septet_bits (s ∷ rest) ++ back) ≡ septet_bits rest ++ back = ap (drop 7) whole ∙ drop_at (bits 7 s) (septet_bits rest ++ back) 7 (length-bits 7 s) in
     ap (λ (n : ℕ). septets_of n (septet_bits (s ∷ rest) ++ back)) sum ∙ ap (λ (x : ℕ). x ∷ septets_of (length rest + j) (drop 7 (septet_bits (s ∷ rest) ++ back))) first ∙ ap (λ (l : List ℕ). s ∷ septets_of (length rest + j) l) others ∙ ap (λ (l : List ℕ). s ∷ l) (septets_first rest back (length rest) j fits.1 refl)
 
@@ -129,7 +129,7 @@ no_low_octets : (w : ℕ) → low_octets 0 w ≡ []
 unfolding low_octets
 no_low_octets w = refl
 
--- ---- a block is the number of its septets, or of its octets
+-- ---- a block is the word of its septets, or of its octets
 
 pub word_of_eight_octets : (xs : List ℕ) (w v : ℕ) → ((k : ℕ) → get_or xs k 0 < 256) → w ≡ get_or xs 0 0 + 256 * get_or xs 1 0 + 65536 * get_or xs 2 0 + 16777216 * get_or xs 3 0 + 4294967296 * get_or xs 4 0 + 1099511627776 * get_or xs 5 0 + 281474976710656 * get_or xs 6 0 + 72057594037927936 * v → low_octets 7 w ≡ get_or xs 0 0 ∷ get_or xs 1 0 ∷ get_or xs 2 0 ∷ get_or xs 3 0 ∷ get_or xs 4 0 ∷ get_or xs 5 0 ∷ get_or xs 6 0 ∷ []
 word_of_eight_octets xs w v small is =
@@ -164,7 +164,7 @@ pub first_fits : (xs : List ℕ) → 1 ≤ length xs → AreSeptets xs → get_o
 first_fits [] some are = absurd (omega arith)
 first_fits (x ∷ xs) some are = are.0
 
--- a number of few bits fits
+-- a word of few bits fits
 pub few_bits : (w k n : ℕ) → w < 2 ^ k → k ≤ n → w < 2 ^ n
 few_bits w k n small le =
     let two : 0 < 2 = omega arith in
@@ -443,7 +443,7 @@ septets_of-add zero n bs = let z : 0 + n ≡ n = omega arith in let d : 7 * 0 �
 septets_of-add (suc m) n bs =
     let sum : suc m + n ≡ suc (m + n) = omega arith in
     let width : 7 + 7 * m ≡ 7 * suc m = omega arith in
-    ap (λ (k : ℕ). septets_of k bs) sum ∙ ap (λ (l : List ℕ). number (take 7 bs) ∷ l) (septets_of-add m n (drop 7 bs)) ∙ ap (λ (l : List ℕ). number (take 7 bs) ∷ (septets_of m (drop 7 bs) ++ septets_of n l)) (drop-drop (7 * m) 7 bs ∙ ap (λ (k : ℕ). drop k bs) width)
+    ap (λ (k : ℕ). septets_of k bs) sum ∙ ap (λ (l : List ℕ). from_bits (take 7 bs) ∷ l) (septets_of-add m n (drop 7 bs)) ∙ ap (λ (l : List ℕ). from_bits (take 7 bs) ∷ (septets_of m (drop 7 bs) ++ septets_of n l)) (drop-drop (7 * m) 7 bs ∙ ap (λ (k : ℕ). drop k bs) width)
 
 drop_octets : (k : ℕ) (xs : List ℕ) → k ≤ length xs → drop (8 * k) (octet_bits xs) ≡ octet_bits (drop k xs)
 drop_octets k xs enough =

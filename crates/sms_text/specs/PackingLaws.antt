@@ -3,7 +3,7 @@ use Rattle.std.proofs.Common.{◌≡◌, ℕ, zero, suc, ◌+◌, ◌*◌, ◌/�
 use Rattle.std.proofs.Math.Nat.{pow-succ', pow-le-pow_right}
 use Rattle.std.proofs.lemmas.List.{drop-drop, take_at, drop_at, length-take, length-replicate}
 use Rattle.std.specs.List.{AllByRecursion}
-use Rattle.sms_text.specs.Bits.{bits, number, octet_bits, septet_bits, septets_of, unpacked, Packed, PackedPlain, AreSeptets}
+use Rattle.sms_text.specs.Bits.{bits, from_bits, octet_bits, septet_bits, septets_of, unpacked, Packed, PackedPlain, AreSeptets}
 
 pub length-bits : (w n : ℕ) → length (bits w n) ≡ w
 unfolding bits
@@ -24,12 +24,12 @@ pub length-octet_bits : (xs : List ℕ) → length (octet_bits xs) ≡ 8 * lengt
 length-octet_bits [] = no_octets
 length-octet_bits (x ∷ xs) = ap length (octet_bits-cons x xs) ∙ length-append (bits 8 x) (octet_bits xs) ∙ omega (arith, length-bits 8 x, length-octet_bits xs)
 
-pub number-bits : (w n : ℕ) → n < 2 ^ w → number (bits w n) ≡ n
-unfolding number bits
-number-bits zero n h = omega (arith, h)
-number-bits (suc w) n h =
+pub from_bits-bits : (w n : ℕ) → n < 2 ^ w → from_bits (bits w n) ≡ n
+unfolding from_bits bits
+from_bits-bits zero n h = omega (arith, h)
+from_bits-bits (suc w) n h =
     let e : 2 ^ suc w ≡ 2 * 2 ^ w = pow-succ' 2 w in
-    let rest = number-bits w (n / 2) (omega arith) in
+    let rest = from_bits-bits w (n / 2) (omega arith) in
     omega (arith, rest)
 
 -- ---- what is packed is unpacked
@@ -43,7 +43,7 @@ unfolding septets_of
 septets_again [] back fits = refl
 septets_again (s ∷ rest) back fits =
     let whole : septet_bits (s ∷ rest) ++ back ≡ bits 7 s ++ (septet_bits rest ++ back) = ap (λ (l : List ℕ). l ++ back) (septet_bits-cons s rest) ∙ append_assoc (bits 7 s) (septet_bits rest) back in
-    let first : number (take 7 (septet_bits (s ∷ rest) ++ back)) ≡ s = ap (λ (l : List ℕ). number (take 7 l)) whole ∙ ap number (take_at (bits 7 s) (septet_bits rest ++ back) 7 (length-bits 7 s)) ∙ number-bits 7 s fits.0 in
+    let first : from_bits (take 7 (septet_bits (s ∷ rest) ++ back)) ≡ s = ap (λ (l : List ℕ). from_bits (take 7 l)) whole ∙ ap from_bits (take_at (bits 7 s) (septet_bits rest ++ back) 7 (length-bits 7 s)) ∙ from_bits-bits 7 s fits.0 in
     let others : drop 7 (septet_bits (s ∷ rest) ++ back) ≡ septet_bits rest ++ back = ap (drop 7) whole ∙ drop_at (bits 7 s) (septet_bits rest ++ back) 7 (length-bits 7 s) in
     ap (λ (x : ℕ). x ∷ septets_of (length rest) (drop 7 (septet_bits (s ∷ rest) ++ back))) first ∙ ap (λ (l : List ℕ). s ∷ septets_of (length rest) l) others ∙ ap (λ (l : List ℕ). s ∷ l) (septets_again rest back fits.1)
 
@@ -105,14 +105,14 @@ bits-take zero xs p = tt
 bits-take (suc n) [] p = tt
 bits-take (suc n) (x ∷ xs) p = (p.0, bits-take n xs p.1)
 
-number_below : (xs : List ℕ) → AreBits xs → number xs < 2 ^ length xs
-unfolding number
-number_below [] p = omega arith
-number_below (x ∷ xs) p = let e : 2 ^ suc (length xs) ≡ 2 * 2 ^ length xs = pow-succ' 2 (length xs) in let h = number_below xs p.1 in omega (arith, p.0, e, h)
+from_bits_below : (xs : List ℕ) → AreBits xs → from_bits xs < 2 ^ length xs
+unfolding from_bits
+from_bits_below [] p = omega arith
+from_bits_below (x ∷ xs) p = let e : 2 ^ suc (length xs) ≡ 2 * 2 ^ length xs = pow-succ' 2 (length xs) in let h = from_bits_below xs p.1 in omega (arith, p.0, e, h)
 
-septet_below : (xs : List ℕ) → AreBits xs → number (take 7 xs) < 128
+septet_below : (xs : List ℕ) → AreBits xs → from_bits (take 7 xs) < 128
 septet_below xs p =
-    let h = number_below (take 7 xs) (bits-take 7 xs p) in
+    let h = from_bits_below (take 7 xs) (bits-take 7 xs p) in
     let short : length (take 7 xs) ≤ 7 = omega (arith, length-take 7 xs) in
     let two : 0 < 2 = omega arith in
     let le : 2 ^ length (take 7 xs) ≤ 2 ^ 7 = pow-le-pow_right two short in
@@ -134,14 +134,14 @@ unpacked_septets fill count octets = (septets_are count (drop fill (octet_bits o
 
 -- ---- one of those that are unpacked
 
-nth : (count i : ℕ) (rest : List ℕ) → i < count → get_or (septets_of count rest) i 0 ≡ number (take 7 (drop (7 * i) rest))
+nth : (count i : ℕ) (rest : List ℕ) → i < count → get_or (septets_of count rest) i 0 ≡ from_bits (take 7 (drop (7 * i) rest))
 unfolding septets_of
 nth zero i rest lt = absurd (omega (arith, lt))
 nth (suc count) zero rest lt = refl
 nth (suc count) (suc i) rest lt =
     let size : 7 * suc i ≡ 7 + 7 * i = omega arith in
-    nth count i (drop 7 rest) (omega (arith, lt)) ∙ ap (λ (l : List ℕ). number (take 7 l)) (drop-drop (7 * i) 7 rest ∙ ap (λ (n : ℕ). drop n rest) (sym size))
+    nth count i (drop 7 rest) (omega (arith, lt)) ∙ ap (λ (l : List ℕ). from_bits (take 7 l)) (drop-drop (7 * i) 7 rest ∙ ap (λ (n : ℕ). drop n rest) (sym size))
 
-pub septet_in : (fill count i : ℕ) (octets : List ℕ) → i < count → get_or (unpacked fill count octets) i 0 ≡ number (take 7 (drop (fill + 7 * i) (octet_bits octets)))
+pub septet_in : (fill count i : ℕ) (octets : List ℕ) → i < count → get_or (unpacked fill count octets) i 0 ≡ from_bits (take 7 (drop (fill + 7 * i) (octet_bits octets)))
 unfolding unpacked
-septet_in fill count i octets lt = nth count i (drop fill (octet_bits octets)) lt ∙ ap (λ (l : List ℕ). number (take 7 l)) (drop-drop (7 * i) fill (octet_bits octets))
+septet_in fill count i octets lt = nth count i (drop fill (octet_bits octets)) lt ∙ ap (λ (l : List ℕ). from_bits (take 7 l)) (drop-drop (7 * i) fill (octet_bits octets))
