@@ -11,7 +11,7 @@ use Rattle.sms_field.specs.declared.fault.FieldFault.TheVariants.{Short}
 use Rattle.sms_field.specs.AddressFaults.{too_long}
 pub use Rattle.sms_field.specs.SingleFields.{up_to}
 
--- semi-octets, as many as are counted: a name, or digits
+-- Address-Value: as many semi-octets as are counted, a name or digits
 unfoldable pub symbols_by : Bool → ℕ → Field Symbols FieldFault
 symbols_by true count = do
   septets ← name count
@@ -24,12 +24,13 @@ symbols_by false count = do
 abbrev pub symbols_of : ℕ → ℕ → Field Symbols FieldFault
 symbols_of kind count = symbols_by (kind == alphanumeric) count
 
--- the number of semi-octets; the type octet, of which bits 6 to 4 are the type of number and bits 3 to 0 the plan; the symbols
+-- Address-Length, the number of semi-octets; Type-of-Address, of which bits 6 to 4 are the type of number and bits 3 to 0 the plan; Address-Value, the symbols
 unfoldable pub address : Field AddressValue FieldFault
 address = do
   -- too_long: the number is above 20
   count ← octet_by Short (up_to 20 too_long)
   kind ← octet Short
+  -- Address-Value
   symbols ← symbols_by (kind / 16 % 8 == alphanumeric) count
   always (record { kind = kind / 16 % 8; plan = kind % 16; symbols = symbols })
 
@@ -41,6 +42,6 @@ abbrev pub symbols_octets : Symbols → List ℕ
 symbols_octets (Digits values) = digit_octets values
 symbols_octets (Name septets) = name_octets septets
 
--- how an address is written: the number of semi-octets, the type octet with bit 7 set, the symbols
+-- how an address is written: Address-Length, Type-of-Address with bit 7 set, Address-Value
 unfoldable pub address_octets : AddressValue → List ℕ
 address_octets n = symbols_length n.symbols ∷ (128 + 16 * n.kind + n.plan) ∷ symbols_octets n.symbols

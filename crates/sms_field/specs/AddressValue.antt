@@ -7,8 +7,11 @@ use Rattle.sms_field.specs.declared.symbols.Symbols.TheVariants.{Digits, Name}
 
 -- the type of number, the plan, and digits or a name
 pub record AddressValue : Type 0 where
+  -- Type-of-number
   pub kind : ℕ
+  -- Numbering-plan-identification
   pub plan : ℕ
+  -- Address-Value
   pub symbols : Symbols
 
 -- the type of number of a name

@@ -22,7 +22,7 @@ relay_digits (suc (suc n)) = do
   others ← relay_digits (suc n)
   always (two.0 ∷ two.1 ∷ others)
 
--- no address; or the type octet, of which bits 6 to 4 are the type of number and bits 3 to 0 the plan, and digits
+-- no address; or an octet whose bits 6 to 4 are the Type of number and bits 3 to 0 the Numbering plan identification, and the Number digits
 unfoldable pub relay_part : Bool → ℕ → Field (Option RelayAddressValue) FieldFault
 relay_part true count = always None
 relay_part false count = do
@@ -30,14 +30,14 @@ relay_part false count = do
   values ← relay_digits count
   always (Some (record { kind = kind / 16 % 8; plan = kind % 16; digits = values }))
 
--- the number of octets that follow: 0 is no address
+-- the Length, which is the number of octets that follow: 0 is no address
 unfoldable pub relay_address : Field (Option RelayAddressValue) FieldFault
 relay_address = do
   -- too_long: the number is above 11
   count ← octet_by Short (up_to 11 too_long)
   relay_part (count == 0) (count - 1)
 
--- how an address is written: the number of octets, the type octet with bit 7 set, the digits
+-- how an address is written: the Length, the type of number and the plan with bit 7 set, the Number digits
 unfoldable pub relay_address_octets : RelayAddressValue → List ℕ
 relay_address_octets a = ((length a.digits + 1) / 2 + 1) ∷ (128 + 16 * a.kind + a.plan) ∷ digit_octets a.digits
 

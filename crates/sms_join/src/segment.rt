@@ -18,8 +18,11 @@ use std::marker::Model;
 /// A part of a text, and its place: the sequence counts from 1 to the maximum, which is 1 for a text in one piece.
 #[derive(Drop)]
 pub struct Segment {
+    /// What stands after TP-UDH in TP-UD, before it is packed.
     pub units: Units,
+    /// The maximum number of short messages in the concatenated short message (3GPP TS 23.040, 9.2.3.24.1).
     pub maximum: u8,
+    /// The sequence number of this short message.
     pub sequence: u8,
 }
 

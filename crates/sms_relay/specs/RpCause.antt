@@ -4,23 +4,26 @@ use Rattle.sms_field.specs.Field.{Field, ◌>>=◌, always, octet, octet_by}
 use Rattle.sms_relay.specs.declared.fault.RelayFault.{RelayFault}
 use Rattle.sms_relay.specs.declared.fault.RelayFault.TheVariants.{Short, BadCause}
 
--- whether a diagnostic follows the cause: the length is 1 or 2
+-- the length of RP-Cause, 1 or 2: whether a diagnostic field follows the cause value
 abbrev pub has_diagnostic : ℕ → Result Bool RelayFault
 has_diagnostic count =
     if count == 1 then Ok false else (if count == 2 then Ok true else Err BadCause)
 
+-- the diagnostic field
 unfoldable pub diagnostic : Bool → Field (Option ℕ) RelayFault
 diagnostic false = always None
 diagnostic true = do
   octet ← octet Short
   always (Some octet)
 
--- a length, the cause, and a diagnostic where the length is 2
+-- the length of RP-Cause, the cause value with an extension bit, and the diagnostic field where the length is 2
 unfoldable pub rp_cause : Field (ℕ × Option ℕ) RelayFault
 rp_cause = do
-  -- the length of RP-Cause; another: BadCause
+  -- the length of RP-Cause; neither 1 nor 2: BadCause
   more ← octet_by Short has_diagnostic
+  -- the extension bit and the cause value
   cause ← octet Short
+  -- the diagnostic field
   added ← diagnostic more
   always (cause % 128, added)
 

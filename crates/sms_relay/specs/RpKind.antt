@@ -9,7 +9,7 @@ use Rattle.sms_relay.specs.declared.rp_kind.RpType.{RpType}
 use Rattle.sms_relay.specs.declared.fault.RelayFault.{RelayFault}
 use Rattle.sms_relay.specs.declared.fault.RelayFault.TheVariants.{UnknownType}
 
--- by bits 2, 1 and 0
+-- RP-MTI, by bits 2, 1 and 0
 abbrev pub type_of_bits : Bool → Bool → Bool → Result RpType RelayFault
 type_of_bits false false false = Ok (record { kind = Data; side = FromPhone })
 type_of_bits false false true = Ok (record { kind = Data; side = ToPhone })

@@ -8,11 +8,12 @@ use Rattle.sms_relay.specs.declared.fault.RelayFault.TheVariants.{Short, DataToo
 
 unfoldable pub user_data : Field (List ℕ) RelayFault
 user_data = do
-  -- more than 233: DataTooLong
+  -- the length of RP-User data; more than 233: DataTooLong
   count ← octet_by Short (up_to 233 DataTooLong)
+  -- the transfer unit (TPDU)
   octets_of Short count
 
--- after the tag 41 hexadecimal, or not there
+-- after its information element identifier (IEI), 41 hexadecimal, or not there
 abbrev pub user_data_tag : ℕ
 user_data_tag = 65
 

@@ -8,7 +8,9 @@ use Rattle.sms_relay.specs.declared.rp.RpBody.{RpBody}
 use Rattle.sms_relay.specs.declared.rp.RpBody.TheVariants.{Transfer, Ack, Fail}
 
 pub record RpValue : Type 0 where
+  -- the direction, of RP-MTI
   pub side : Side
+  -- RP-Message Reference
   pub reference : ℕ
   pub body : RpBody
 

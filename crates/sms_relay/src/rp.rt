@@ -34,8 +34,9 @@ pub enum RpBody {
     },
     /// RP-ERROR (7.3.4).
     Fail {
-        /// RP-Cause, 0 to 127.
+        /// The cause value of RP-Cause (8.2.5.4), 0 to 127.
         cause: u8,
+        /// The diagnostic field of RP-Cause.
         diagnostic: Option<u8>,
         user: Option<Octets>,
     },
@@ -44,6 +45,7 @@ pub enum RpBody {
 /// A message of the relay between phone and network (3GPP TS 24.011, 7.3).
 #[derive(Drop)]
 pub struct RpMessage {
+    /// The direction, which RP-MTI tells (8.2.2).
     pub side: Side,
     /// RP-Message Reference, which an answer repeats to tell what it answers.
     pub reference: u8,

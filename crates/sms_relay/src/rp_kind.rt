@@ -21,7 +21,9 @@ pub enum RpKind {
 /// The type of an RP message, RP-MTI (3GPP TS 24.011, 8.2.2).
 #[derive(Clone, Copy)]
 pub struct RpType {
+    /// Which message it is: bits 2 and 1 of RP-MTI.
     pub kind: RpKind,
+    /// The direction: bit 0 of RP-MTI.
     pub side: Side,
 }
 

@@ -17,14 +17,23 @@ use Rattle.sms_field.specs.Stamp.{IsStamp}
 use Rattle.sms_tpdu.specs.declared.user_data.UserData.{UserData}
 
 pub record Delivery : Type 0 where
+  -- TP-MMS
   pub more : Bool
+  -- TP-LP
   pub looped : Bool
+  -- TP-SRI
   pub report : Bool
+  -- TP-RP
   pub reply : Bool
+  -- TP-OA
   pub origin : AddressValue
+  -- TP-PID
   pub pid : ℕ
+  -- TP-DCS
   pub dcs : ℕ
+  -- TP-SCTS
   pub stamp : List ℕ
+  -- TP-UDHI, TP-UDL and TP-UD
   pub user : UserData
 
 -- what has a spelling

@@ -19,14 +19,23 @@ use Rattle.sms_field.specs.declared.validity.Validity.{Validity}
 use Rattle.sms_tpdu.specs.declared.user_data.UserData.{UserData}
 
 pub record Submission : Type 0 where
+  -- TP-RD
   pub reject : Bool
+  -- TP-VPF and TP-VP
   pub validity : Validity
+  -- TP-SRR
   pub report : Bool
+  -- TP-RP
   pub reply : Bool
+  -- TP-MR
   pub reference : ℕ
+  -- TP-DA
   pub target : AddressValue
+  -- TP-PID
   pub pid : ℕ
+  -- TP-DCS
   pub dcs : ℕ
+  -- TP-UDHI, TP-UDL and TP-UD
   pub user : UserData
 
 -- what has a spelling

@@ -18,7 +18,9 @@ use std::alloc::{AllocError, Global};
 /// What a unit carries, TP-UD (TS 23.040, 9.2.3.24): a header, if TP-UDHI says so, and what stands after it.
 #[derive(Drop)]
 pub struct UserData {
+    /// TP-UDH: the user data header.
     pub header: Option<Header>,
+    /// What stands after TP-UDH in TP-UD, or the whole TP-UD.
     pub body: Body,
 }
 

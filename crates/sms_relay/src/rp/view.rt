@@ -39,8 +39,9 @@ pub enum RpBodyView<'a> {
     },
     /// RP-ERROR (7.3.4).
     Fail {
-        /// RP-Cause, 0 to 127.
+        /// The cause value of RP-Cause (8.2.5.4), 0 to 127.
         cause: u8,
+        /// The diagnostic field of RP-Cause.
         diagnostic: Option<u8>,
         user: Option<OctetsView<'a>>,
     },
@@ -49,6 +50,7 @@ pub enum RpBodyView<'a> {
 /// A message of the relay, in its octets. Contracts see it as the message.
 #[derive(Drop)]
 pub struct RpView<'a> {
+    /// The direction, which RP-MTI tells (8.2.2).
     pub side: Side,
     /// RP-Message Reference, which an answer repeats to tell what it answers.
     pub reference: u8,

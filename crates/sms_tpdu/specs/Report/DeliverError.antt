@@ -9,10 +9,15 @@ use Rattle.sms_tpdu.specs.declared.fault.UnitFault.{UnitFault}
 use Rattle.sms_tpdu.specs.declared.fault.UnitFault.TheVariants.{Short}
 
 pub record DeliverErrorValue : Type 0 where
+  -- TP-UDHI
   pub has_header : Bool
+  -- TP-FCS
   pub cause : ℕ
+  -- TP-PID
   pub pid : Option ℕ
+  -- TP-DCS
   pub dcs : Option ℕ
+  -- TP-UDL and TP-UD
   pub user : Option ReportData
 
 abbrev pub parts_in : DeliverErrorValue → Parts

@@ -4,11 +4,11 @@ use Rattle.sms_field.specs.Bit.{bit, weight}
 use Rattle.sms_tpdu.specs.declared.fault.UnitFault.{UnitFault}
 use Rattle.sms_tpdu.specs.declared.fault.UnitFault.TheVariants.{WrongType}
 
--- of a report on a submission bits 1 and 0 are 01; bit 6 UDHI; the others are free
+-- of a report on a submission bits 1 and 0, TP-MTI, are 01; bit 6 TP-UDHI; the others are free
 abbrev pub submit_report : ℕ → Result Bool UnitFault
 submit_report octet = if bit 1 octet || not (bit 0 octet) then Err WrongType else Ok (bit 6 octet)
 
--- of a report on a delivery they are 00
+-- of a report on a delivery TP-MTI is 00
 abbrev pub deliver_report : ℕ → Result Bool UnitFault
 deliver_report octet = if bit 0 octet || bit 1 octet then Err WrongType else Ok (bit 6 octet)
 

@@ -6,7 +6,7 @@ use Rattle.sms_tpdu.specs.declared.report.indicator.Indicator.{Indicator}
 use Rattle.sms_tpdu.specs.declared.fault.UnitFault.{UnitFault}
 use Rattle.sms_tpdu.specs.declared.fault.UnitFault.TheVariants.{Short}
 
--- ---- while bit 7 of an octet is 1 another one follows: further octets are skipped, whatever else they hold
+-- ---- while bit 7 of an octet, the extension bit, is 1 another one follows: further octets are skipped, whatever else they hold
 
 -- these are all that follow an octet whose bit 7 is known
 abbrev pub AreFurther : Bool → List ℕ → Type 0
@@ -26,14 +26,16 @@ further short more = record {
   read = further_at short more;
 }
 
--- ---- the first octet says by bits 0, 1 and 2 which parts are there
+-- ---- the first octet says which parts are there: bit 0 TP-PID, bit 1 TP-DCS, bit 2 TP-UDL and TP-UD
 
 abbrev pub indicated : ℕ → Indicator
 indicated octet = record { pid = bit 0 octet; dcs = bit 1 octet; user = bit 2 octet }
 
 unfoldable pub indicator : Field Indicator UnitFault
 indicator = do
+  -- the first octet of TP-PI
   first ← octet Short
+  -- its further octets
   skipped ← further Short (bit 7 first)
   always (indicated first)
 

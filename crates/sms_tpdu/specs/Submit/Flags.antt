@@ -6,7 +6,7 @@ use Rattle.sms_tpdu.specs.declared.submit.flags.SubmitFlags.{SubmitFlags}
 use Rattle.sms_tpdu.specs.declared.fault.UnitFault.{UnitFault}
 use Rattle.sms_tpdu.specs.declared.fault.UnitFault.TheVariants.{WrongType}
 
--- bits 1 and 0 are 01; bit 2 RD; bits 4 and 3 VPF; bit 5 SRR; bit 6 UDHI; bit 7 RP
+-- bits 1 and 0 TP-MTI, which is 01; bit 2 TP-RD; bits 4 and 3 TP-VPF; bit 5 TP-SRR; bit 6 TP-UDHI; bit 7 TP-RP
 abbrev pub submit_flags : ℕ → Result SubmitFlags UnitFault
 submit_flags octet = if bit 1 octet || not (bit 0 octet) then Err WrongType else Ok (record { reject = bit 2 octet; format = validity_format (bit 4 octet) (bit 3 octet); report = bit 5 octet; header = bit 6 octet; reply = bit 7 octet })
 

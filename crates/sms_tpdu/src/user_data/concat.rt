@@ -8,7 +8,9 @@ ghost use Rattle.sms_tpdu.specs.UserData.Concatenation.{element_for};
 /// How wide the reference of a concatenation is, in bits.
 #[derive(Clone, Copy, Debug, PartialEq, Eq, Hash)]
 pub enum Width {
+    /// Information element 00.
     Eight,
+    /// Information element 08.
     Sixteen,
 }
 
@@ -27,13 +29,17 @@ impl Width {
     }
 }
 
-/// The place of a segment in its message (3GPP TS 23.040, 9.2.3.24.1 and 9.2.3.24.8).
+/// The place of a segment in its message: the information elements 00 and 08 (3GPP TS 23.040, 9.2.3.24.1 and 9.2.3.24.8).
 ///
 /// The sequence counts from 1 to the maximum. With `Width::Eight` the reference is below 256.
 #[derive(Clone, Copy, Debug, PartialEq, Eq, Hash)]
 pub struct Concat {
+    /// Which element it is: of 00 the reference has eight bits, of 08 sixteen.
     pub width: Width,
+    /// The reference number of the concatenated short message.
     pub reference: u16,
+    /// The maximum number of short messages in the concatenated short message.
     pub maximum: u8,
+    /// The sequence number of this short message.
     pub sequence: u8,
 }
