@@ -47,7 +47,10 @@ fn wrap_message(
     packet.write(alloc)
 }
 
-/// The octets of a CP-ACK. The value is that of the transaction, 0 to 6.
+/// The octets of a CP-ACK.
+///
+/// The flag and the value are those of the transaction identifier (3GPP TS 24.011, 8.1.2). The flag is false from the
+/// side that opened the transaction, and true from the other; the value is 0 to 6.
 pub fn wrap_acknowledgement(alloc: Global, flag: bool, value: u8) -> Result<Vec<u8>, AllocError>
     requires { value < 7 }
     ensures { IfOk result (λ packet. Carries flag value acknowledgement packet.items) }
@@ -60,7 +63,10 @@ pub fn wrap_acknowledgement(alloc: Global, flag: bool, value: u8) -> Result<Vec<
     packet.write(alloc)
 }
 
-/// The octets of a CP-DATA around an RP-DATA around a unit. The value is that of the transaction, 0 to 6.
+/// The octets of a CP-DATA around an RP-DATA around a unit.
+///
+/// The flag and the value are those of the transaction identifier (3GPP TS 24.011, 8.1.2). The flag is false from the
+/// side that opened the transaction, and true from the other; the value is 0 to 6.
 ///
 /// `DataTooLong` comes only where the unit has more than 233 octets.
 pub fn wrap_transfer<U: Unit>(
@@ -93,7 +99,10 @@ pub fn wrap_transfer<U: Unit>(
 }
 
 /// The octets of a CP-DATA around the answer to a transfer, and a unit if it has one: an RP-ACK, or an RP-ERROR with
-/// a cause of 0 to 127. The value is that of the transaction, 0 to 6.
+/// a cause of 0 to 127.
+///
+/// The flag and the value are those of the transaction identifier (3GPP TS 24.011, 8.1.2). The flag is false from the
+/// side that opened the transaction, and true from the other; the value is 0 to 6.
 ///
 /// `DataTooLong` comes only where the unit has more than 233 octets.
 pub fn wrap_answer<U: Unit>(
