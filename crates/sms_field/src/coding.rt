@@ -46,36 +46,137 @@ pub fn alphabet_of(dcs: u8) -> Alphabet
 mod tests {
     use super::*;
 
+    /// The coding schemes from a first to a last one, and the alphabet that they name.
+    #[derive(Clone, Copy)]
+    struct Schemes {
+        first: u8,
+        last: u8,
+        alphabet: Alphabet,
+    }
+
+    /// All coding schemes.
+    const ROWS: [Schemes; 22] = [
+        Schemes {
+            first: 0x00,
+            last: 0x03,
+            alphabet: Alphabet::Gsm7,
+        },
+        Schemes {
+            first: 0x04,
+            last: 0x07,
+            alphabet: Alphabet::EightBit,
+        },
+        Schemes {
+            first: 0x08,
+            last: 0x0B,
+            alphabet: Alphabet::Ucs2,
+        },
+        Schemes {
+            first: 0x0C,
+            last: 0x13,
+            alphabet: Alphabet::Gsm7,
+        },
+        Schemes {
+            first: 0x14,
+            last: 0x17,
+            alphabet: Alphabet::EightBit,
+        },
+        Schemes {
+            first: 0x18,
+            last: 0x1B,
+            alphabet: Alphabet::Ucs2,
+        },
+        Schemes {
+            first: 0x1C,
+            last: 0x1F,
+            alphabet: Alphabet::Gsm7,
+        },
+        Schemes {
+            first: 0x20,
+            last: 0x3F,
+            alphabet: Alphabet::Compressed,
+        },
+        Schemes {
+            first: 0x40,
+            last: 0x43,
+            alphabet: Alphabet::Gsm7,
+        },
+        Schemes {
+            first: 0x44,
+            last: 0x47,
+            alphabet: Alphabet::EightBit,
+        },
+        Schemes {
+            first: 0x48,
+            last: 0x4B,
+            alphabet: Alphabet::Ucs2,
+        },
+        Schemes {
+            first: 0x4C,
+            last: 0x53,
+            alphabet: Alphabet::Gsm7,
+        },
+        Schemes {
+            first: 0x54,
+            last: 0x57,
+            alphabet: Alphabet::EightBit,
+        },
+        Schemes {
+            first: 0x58,
+            last: 0x5B,
+            alphabet: Alphabet::Ucs2,
+        },
+        Schemes {
+            first: 0x5C,
+            last: 0x5F,
+            alphabet: Alphabet::Gsm7,
+        },
+        Schemes {
+            first: 0x60,
+            last: 0x7F,
+            alphabet: Alphabet::Compressed,
+        },
+        Schemes {
+            first: 0x80,
+            last: 0xDF,
+            alphabet: Alphabet::Gsm7,
+        },
+        Schemes {
+            first: 0xE0,
+            last: 0xEF,
+            alphabet: Alphabet::Ucs2,
+        },
+        Schemes {
+            first: 0xF0,
+            last: 0xF3,
+            alphabet: Alphabet::Gsm7,
+        },
+        Schemes {
+            first: 0xF4,
+            last: 0xF7,
+            alphabet: Alphabet::EightBit,
+        },
+        Schemes {
+            first: 0xF8,
+            last: 0xFB,
+            alphabet: Alphabet::Gsm7,
+        },
+        Schemes {
+            first: 0xFC,
+            last: 0xFF,
+            alphabet: Alphabet::EightBit,
+        },
+    ];
+
     #[test]
     fn every_coding_scheme(rt: HostRuntime) {
-        use Alphabet::{Compressed, EightBit, Gsm7, Ucs2};
-        let rows = [
-            (0x00, 0x03, Gsm7),
-            (0x04, 0x07, EightBit),
-            (0x08, 0x0B, Ucs2),
-            (0x0C, 0x13, Gsm7),
-            (0x14, 0x17, EightBit),
-            (0x18, 0x1B, Ucs2),
-            (0x1C, 0x1F, Gsm7),
-            (0x20, 0x3F, Compressed),
-            (0x40, 0x43, Gsm7),
-            (0x44, 0x47, EightBit),
-            (0x48, 0x4B, Ucs2),
-            (0x4C, 0x53, Gsm7),
-            (0x54, 0x57, EightBit),
-            (0x58, 0x5B, Ucs2),
-            (0x5C, 0x5F, Gsm7),
-            (0x60, 0x7F, Compressed),
-            (0x80, 0xDF, Gsm7),
-            (0xE0, 0xEF, Ucs2),
-            (0xF0, 0xF3, Gsm7),
-            (0xF4, 0xF7, EightBit),
-            (0xF8, 0xFB, Gsm7),
-            (0xFC, 0xFF, EightBit),
-        ];
         let mut next = 0;
-        for (first, last, alphabet) in rows {
-            assert_eq!(rt; u16::from(first), next);
+        for Schemes {
+            first,
+            last,
+            alphabet,
+        } in ROWS {
+            assert_eq!(rt; u16::from(first), next, "at {first}");
             for dcs in first..=last {
                 assert_eq!(rt; alphabet_of(dcs), alphabet, "at {dcs}");
             }

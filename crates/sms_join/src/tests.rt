@@ -21,52 +21,129 @@ struct Cut {
     sixteen: &'static [usize],
 }
 
-/// The cut of a letter a number of times, another text, and the letter a number of times.
-fn row(
-    letter: &'static str,
-    times: usize,
-    then: &'static str,
-    again: usize,
-    eight: &'static [usize],
-    sixteen: &'static [usize],
-) -> Cut {
-    Cut {
-        letter,
-        times,
-        then,
-        again,
-        eight,
-        sixteen,
-    }
-}
-
 /// Texts on both sides of each cut.
-fn cuts() -> [Cut; 15] {
-    [
-        row("a", 0, "", 0, &[0], &[0]),
-        row("a", 160, "", 0, &[160], &[160]),
-        row("a", 161, "", 0, &[153, 8], &[152, 9]),
-        row("a", 306, "", 0, &[153, 153], &[152, 152, 2]),
-        row("a", 151, "€", 10, &[153, 10], &[151, 12]),
-        row("a", 152, "€", 10, &[152, 12], &[152, 12]),
-        row("a", 158, "€", 0, &[160], &[160]),
-        row("a", 159, "€", 0, &[153, 8], &[152, 9]),
-        row("ж", 70, "", 0, &[70], &[70]),
-        row("ж", 71, "", 0, &[67, 4], &[66, 5]),
-        row("ж", 134, "", 0, &[67, 67], &[66, 66, 2]),
-        row("ж", 65, "😀", 4, &[67, 4], &[65, 6]),
-        row("ж", 66, "😀", 3, &[66, 5], &[66, 5]),
-        row("ж", 68, "😀", 0, &[70], &[70]),
-        row(
-            "ж",
-            671,
-            "",
-            0,
-            &[67, 67, 67, 67, 67, 67, 67, 67, 67, 67, 1],
-            &[66, 66, 66, 66, 66, 66, 66, 66, 66, 66, 11],
-        ),
-    ]
-}
+static CUTS: [Cut; 15] = [
+    Cut {
+        letter: "a",
+        times: 0,
+        then: "",
+        again: 0,
+        eight: &[0],
+        sixteen: &[0],
+    },
+    Cut {
+        letter: "a",
+        times: 160,
+        then: "",
+        again: 0,
+        eight: &[160],
+        sixteen: &[160],
+    },
+    Cut {
+        letter: "a",
+        times: 161,
+        then: "",
+        again: 0,
+        eight: &[153, 8],
+        sixteen: &[152, 9],
+    },
+    Cut {
+        letter: "a",
+        times: 306,
+        then: "",
+        again: 0,
+        eight: &[153, 153],
+        sixteen: &[152, 152, 2],
+    },
+    Cut {
+        letter: "a",
+        times: 151,
+        then: "€",
+        again: 10,
+        eight: &[153, 10],
+        sixteen: &[151, 12],
+    },
+    Cut {
+        letter: "a",
+        times: 152,
+        then: "€",
+        again: 10,
+        eight: &[152, 12],
+        sixteen: &[152, 12],
+    },
+    Cut {
+        letter: "a",
+        times: 158,
+        then: "€",
+        again: 0,
+        eight: &[160],
+        sixteen: &[160],
+    },
+    Cut {
+        letter: "a",
+        times: 159,
+        then: "€",
+        again: 0,
+        eight: &[153, 8],
+        sixteen: &[152, 9],
+    },
+    Cut {
+        letter: "ж",
+        times: 70,
+        then: "",
+        again: 0,
+        eight: &[70],
+        sixteen: &[70],
+    },
+    Cut {
+        letter: "ж",
+        times: 71,
+        then: "",
+        again: 0,
+        eight: &[67, 4],
+        sixteen: &[66, 5],
+    },
+    Cut {
+        letter: "ж",
+        times: 134,
+        then: "",
+        again: 0,
+        eight: &[67, 67],
+        sixteen: &[66, 66, 2],
+    },
+    Cut {
+        letter: "ж",
+        times: 65,
+        then: "😀",
+        again: 4,
+        eight: &[67, 4],
+        sixteen: &[65, 6],
+    },
+    Cut {
+        letter: "ж",
+        times: 66,
+        then: "😀",
+        again: 3,
+        eight: &[66, 5],
+        sixteen: &[66, 5],
+    },
+    Cut {
+        letter: "ж",
+        times: 68,
+        then: "😀",
+        again: 0,
+        eight: &[70],
+        sixteen: &[70],
+    },
+    Cut {
+        letter: "ж",
+        times: 671,
+        then: "",
+        again: 0,
+        eight: &[67, 67, 67, 67, 67, 67, 67, 67, 67, 67, 1],
+        sixteen: &[66, 66, 66, 66, 66, 66, 66, 66, 66, 66, 11],
+    },
+];
 
 /// A letter a number of times and another text, and the header and the body of its last segment under reference 7.
 #[derive(Clone, Copy)]
@@ -164,13 +241,14 @@ fn last_octets(alloc: Global, text: &str, width: Width) -> Result<Vec<u8>, Fail>
 #[test]
 fn cuts_texts(rt: HostRuntime) -> Result<(), Fail> {
     let alloc = rt.alloc();
-    for row in cuts().as_slice() {
+    for row in CUTS.as_slice() {
         let front = repeated(alloc, row.letter, row.times, row.then)?;
         let text = repeated(alloc, row.letter, row.again, "")?;
         let text = repeated(alloc, &front, 1, &text)?;
         let eight = is_cut(alloc, &text, Width::Eight, row.eight)?;
         let sixteen = is_cut(alloc, &text, Width::Sixteen, row.sixteen)?;
-        assert!(rt; eight && sixteen, "{text}");
+        assert!(rt; eight, "{text}, eight bits");
+        assert!(rt; sixteen, "{text}, sixteen bits");
     }
     let longest = repeated(alloc, "a", 39_015, "")?;
     let segments = cut_text(alloc, &longest, Width::Eight)?;
@@ -226,11 +304,12 @@ fn are_written(alloc: Global, text: &str, width: Width) -> Result<bool, Fail> {
 #[test]
 fn writes_user_data(rt: HostRuntime) -> Result<(), Fail> {
     let alloc = rt.alloc();
-    for row in cuts().as_slice() {
+    for row in CUTS.as_slice() {
         let text = repeated(alloc, row.letter, row.times, row.then)?;
         let eight = are_written(alloc, &text, Width::Eight)?;
         let sixteen = are_written(alloc, &text, Width::Sixteen)?;
-        assert!(rt; eight && sixteen, "{text}");
+        assert!(rt; eight, "{text}, eight bits");
+        assert!(rt; sixteen, "{text}, sixteen bits");
     }
     Ok(())
 }

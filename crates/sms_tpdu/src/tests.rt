@@ -252,10 +252,13 @@ fn refuses_a_delivery(rt: HostRuntime) -> Result<(), Fail> {
 #[derive(Drop)]
 struct Row<'a> {
     octets: &'a [u8],
-    flags: (bool, bool, bool),
+    reject: bool,
+    report: bool,
+    reply: bool,
     reference: u8,
     validity: Validity,
-    number: (u8, u8),
+    type_of_number: u8,
+    plan: u8,
     digits: &'a [u8],
     septets: &'a [u8],
 }
@@ -266,9 +269,9 @@ fn has_fields(submit: &Submit, row: &Row) -> bool {
         Symbols::Digits(digits) => digits.as_slice(),
         Symbols::Name(_) => return false,
     };
-    (submit.reject, submit.report, submit.reply) == row.flags
+    (submit.reject, submit.report, submit.reply) == (row.reject, row.report, row.reply)
         && (submit.reference, submit.validity) == (row.reference, row.validity)
-        && (submit.target.type_of_number, submit.target.plan) == row.number
+        && (submit.target.type_of_number, submit.target.plan) == (row.type_of_number, row.plan)
         && digits == row.digits
         && octets_in(&submit.user.body) == row.septets
 }
@@ -289,42 +292,54 @@ fn reads_and_writes_submissions(rt: HostRuntime) -> Result<(), Fail> {
                 0x11, 0x00, 0x0B, 0x91, 0x64, 0x07, 0x28, 0x15, 0x53, 0xF8, 0x00, 0x00, 0xAA, 0x0A,
                 0xE8, 0x32, 0x9B, 0xFD, 0x46, 0x97, 0xD9, 0xEC, 0x37,
             ],
-            flags: (false, false, false),
+            reject: false,
+            report: false,
+            reply: false,
             reference: 0,
             validity: Validity::Relative(170),
-            number: (1, 1),
+            type_of_number: 1,
+            plan: 1,
             digits: &[4, 6, 7, 0, 8, 2, 5, 1, 3, 5, 8],
             septets: b"hellohello",
         },
-        // ESC, and the code of the euro sign in the extension table
+        // an escape, and the code of the euro in the extension table
         Row {
             octets: &[
                 0x01, 0x00, 0x04, 0x91, 0x01, 0x20, 0x00, 0x00, 0x02, 0x9B, 0x32,
             ],
-            flags: (false, false, false),
+            reject: false,
+            report: false,
+            reply: false,
             reference: 0,
             validity: Validity::Absent,
-            number: (1, 1),
+            type_of_number: 1,
+            plan: 1,
             digits: &[1, 0, 0, 2],
             septets: &[0x1B, 0x65],
         },
         // a repeat is to be rejected
         Row {
             octets: &[0x05, 0xFF, 0x04, 0x81, 0x01, 0x20, 0x00, 0x00, 0x01, 0x61],
-            flags: (true, false, false),
+            reject: true,
+            report: false,
+            reply: false,
             reference: 255,
             validity: Validity::Absent,
-            number: (0, 1),
+            type_of_number: 0,
+            plan: 1,
             digits: &[1, 0, 0, 2],
             septets: b"a",
         },
         // a number with an odd number of digits; the first letter of the alphabet has the code 0
         Row {
             octets: &[0x01, 0x00, 0x03, 0x91, 0x21, 0xF3, 0x00, 0x00, 0x01, 0x00],
-            flags: (false, false, false),
+            reject: false,
+            report: false,
+            reply: false,
             reference: 0,
             validity: Validity::Absent,
-            number: (1, 1),
+            type_of_number: 1,
+            plan: 1,
             digits: &[1, 2, 3],
             septets: &[0x00],
         },
@@ -333,10 +348,13 @@ fn reads_and_writes_submissions(rt: HostRuntime) -> Result<(), Fail> {
             octets: &[
                 0x29, 0x01, 0x02, 0x81, 0x21, 0x00, 0x00, 1, 2, 3, 4, 5, 6, 7, 0x00,
             ],
-            flags: (false, true, false),
+            reject: false,
+            report: true,
+            reply: false,
             reference: 1,
             validity: Validity::Enhanced([1, 2, 3, 4, 5, 6, 7]),
-            number: (0, 1),
+            type_of_number: 0,
+            plan: 1,
             digits: &[1, 2],
             septets: &[],
         },
@@ -346,10 +364,13 @@ fn reads_and_writes_submissions(rt: HostRuntime) -> Result<(), Fail> {
                 0x99, 0x02, 0x02, 0x81, 0x21, 0x00, 0x00, 0x99, 0x30, 0x92, 0x51, 0x61, 0x95, 0x80,
                 0x00,
             ],
-            flags: (false, false, true),
+            reject: false,
+            report: false,
+            reply: true,
             reference: 2,
             validity: Validity::Absolute(Stamp::new([0x99, 0x30, 0x92, 0x51, 0x61, 0x95, 0x80])),
-            number: (0, 1),
+            type_of_number: 0,
+            plan: 1,
             digits: &[1, 2],
             septets: &[],
         },

@@ -231,17 +231,18 @@ fn pushed_text(alloc: Global, mut two: Two, text: &str) -> Result<Two, Fail> {
     Ok(two)
 }
 
-/// Carries each of these packets twice, and says whether each second time is a repeat and the text is stored once.
-fn is_stored_once(alloc: Global, text: &str, order: [u64; 3]) -> Result<bool, Fail> {
+/// Carries each of these packets twice, and says which one is no repeat the second time, if any is not, and whether the
+/// text is stored once.
+fn is_stored_once(alloc: Global, text: &str, order: [u64; 3]) -> Result<(Option<u64>, bool), Fail> {
     let mut two = pushed_text(alloc, new_two(alloc)?, text)?;
     for number in order {
         let _ = at_last(&mut two, &Event::Carry(number));
         let again = at_last(&mut two, &Event::Carry(number));
         if again != Ok(Outcome::Repeat) {
-            return Ok(false);
+            return Ok((Some(number), false));
         }
     }
-    Ok(is_stored(two.world.store(1), text))
+    Ok((None, is_stored(two.world.store(1), text)))
 }
 
 /// The orders in which three segments can come.
@@ -259,7 +260,8 @@ fn segments_come_in_any_order_and_twice(rt: HostRuntime) -> Result<(), Fail> {
     let alloc = rt.alloc();
     let text = "a".repeat(alloc, 307)?;
     for order in ORDERS {
-        let stored = is_stored_once(alloc, text.as_str(), order)?;
+        let (other, stored) = is_stored_once(alloc, text.as_str(), order)?;
+        assert_eq!(rt; other, None, "{order:?}");
         assert!(rt; stored, "{order:?}");
     }
     Ok(())

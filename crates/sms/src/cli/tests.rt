@@ -10,7 +10,7 @@ use crate::printed::Escaped;
 use rows::{
     AFTER_CENTRES, AfterCentre, DELIVERIES, EXPLAINED, Encoded, Filled, HEADERS, HELLO,
     HELLO_SHOWN, LONG_TEXTS, LongText, MORE_DELIVERIES, NO_DELIVERIES, NO_SUBMISSIONS, NO_UNITS,
-    NotEncoded, SUBMISSIONS, TWO_PIECES, UNITS,
+    NotEncoded, SUBMISSIONS, TOO_FULL, TWO_PIECES, UNITS,
 };
 use std::test::Fail;
 
@@ -251,9 +251,9 @@ fn shows_what_fits_after_a_header(rt: HostRuntime) -> Result<(), Fail> {
         let data = format!(in rt.alloc(); "{}{}{ones}", row.header, row.first)?;
         let shown = is_full(&rt, row, &data)?;
         assert!(rt; shown, "{}", row.header);
-        for (scheme, length) in [("00", "A1"), ("04", "8D"), ("08", "8D")] {
-            let refused = is_too_full(&rt, scheme, length, &data)?;
-            assert!(rt; refused, "{} {scheme}", row.header);
+        for full in TOO_FULL.as_slice() {
+            let refused = is_too_full(&rt, full.scheme, full.length, &data)?;
+            assert!(rt; refused, "{} {}", row.header, full.scheme);
         }
     }
     Ok(())

@@ -116,8 +116,8 @@ const MONTHS: [Month; 12] = [
     },
 ];
 
-/// Whether the first and the last second of each month of a year are what they must be.
-fn has_right_months(year: u8, before: u64, leap: bool) -> bool {
+/// The first month of a year whose first or last second is not what it must be, if there is one.
+fn wrong_month(year: u8, before: u64, leap: bool) -> Option<u8> {
     let mut next = before.wrapping_mul(86_400);
     for Month { month, last, days } in MONTHS {
         let (last, days) = if leap && month == 0x20 {
@@ -126,17 +126,17 @@ fn has_right_months(year: u8, before: u64, leap: bool) -> bool {
             (last, days)
         };
         if !belong([year, month, 0x10, 0x00, 0x00, 0x00, 0x00], next) {
-            return false;
+            return Some(month);
         }
         next = next.wrapping_add(days.wrapping_mul(86_400));
         if !belong(
             [year, month, last, 0x32, 0x95, 0x95, 0x00],
             next.wrapping_sub(1),
         ) {
-            return false;
+            return Some(month);
         }
     }
-    true
+    None
 }
 
 /// A moment and the quarters of a zone, and the octets of the stamp, if there is one.
@@ -231,7 +231,7 @@ const WITHOUT: [[u8; 7]; 3] = [
 #[test]
 fn moments_and_stamps(rt: HostRuntime) {
     for Year { year, before, leap } in YEARS {
-        assert!(rt; has_right_months(year, before, leap), "{year}");
+        assert_eq!(rt; wrong_month(year, before, leap), None, "{year}");
     }
     // The days around 29 February.
     assert!(rt; belong([0x00, 0x20, 0x82, 0x32, 0x95, 0x95, 0x00], 59 * 86_400 - 1));

@@ -82,16 +82,16 @@ const EXAMPLES: [Example; 8] = [
     },
 ];
 
-/// Whether each octet of a range ends where it must.
-fn range_is_right(first: u8, last: u8, seconds: u64, step: u64) -> bool {
+/// The first octet of a range that does not end where it must, if there is one.
+fn wrong_octet(first: u8, last: u8, seconds: u64, step: u64) -> Option<u8> {
     let mut end = seconds;
     for octet in first..=last {
         if Validity::Relative(octet).ends(0) != Ok(end) {
-            return false;
+            return Some(octet);
         }
         end = end.wrapping_add(step);
     }
-    true
+    None
 }
 
 #[test]
@@ -102,8 +102,9 @@ fn ends_of_validities(rt: HostRuntime) {
         seconds,
         step,
     } in RANGES {
-        assert!(rt;
-            range_is_right(first, last, seconds, step),
+        assert_eq!(rt;
+            wrong_octet(first, last, seconds, step),
+            None,
             "{first} to {last}"
         );
     }

@@ -163,10 +163,15 @@ fn offers(
     let place = checked(row.place);
     let finishes = joiner.would_finish(&origin, stamp, place);
     let wanted = matches!(&row.want, Want::Finished(_));
-    assert_eq!(rt; finishes, wanted, "{}", row.shows);
+    assert_eq!(rt; finishes, wanted, "{} {:?}", row.shows, row.place);
     let units = units_of(alloc, row.piece)?;
     let answer = joiner.offer(now, &origin, stamp, place, units);
-    assert!(rt; is_wanted(&answer, row.want), "{}", row.shows);
+    assert!(rt;
+        is_wanted(&answer, row.want),
+        "{} {:?}",
+        row.shows,
+        row.place
+    );
     Ok(())
 }
 
@@ -188,15 +193,16 @@ fn is_answered(alloc: Global, joiner: &mut Joiner, row: &Row) -> Result<bool, Al
     Ok(same && is_wanted(&answer, row.want))
 }
 
-/// Whether a new joiner, with two open sets at most, answers all rows as wanted.
-fn are_answered(alloc: Global, rows: &[Row]) -> Result<bool, AllocError> {
+/// Offers the rows to a new joiner, with two open sets at most, and says which one is answered otherwise than wanted, if
+/// any is.
+fn differs(alloc: Global, rows: &[Row]) -> Result<Option<&'static str>, AllocError> {
     let mut joiner = Joiner::new(alloc, 2, 2)?;
     for row in rows {
         if !is_answered(alloc, &mut joiner, row)? {
-            return Ok(false);
+            return Ok(Some(row.shows));
         }
     }
-    Ok(true)
+    Ok(None)
 }
 
 /// One set may be open, and one key is remembered.
@@ -328,7 +334,8 @@ fn joins_in_any_order(rt: HostRuntime) -> Result<(), Fail> {
     }
     let backwards = finishes_once(alloc, &longest, &reverse)?;
     let mixed = finishes_once(alloc, &longest, &shuffled)?;
-    assert!(rt; backwards && mixed);
+    assert!(rt; backwards, "the last first");
+    assert!(rt; mixed, "mixed");
     Ok(())
 }
 
@@ -358,10 +365,10 @@ fn answers_after_a_refused_growth(rt: HostRuntime) -> Result<(), Fail> {
             want: Want::Finished("x你"),
         },
     ];
-    let answered = match are_answered(alloc, &rows) {
-        Ok(answered) => answered,
-        Err(_) => are_answered(alloc, &rows)?,
+    let other = match differs(alloc, &rows) {
+        Ok(other) => other,
+        Err(_) => differs(alloc, &rows)?,
     };
-    assert!(rt; answered);
+    assert_eq!(rt; other, None);
     Ok(())
 }

@@ -25,6 +25,13 @@ struct Said {
     user: Option<ReportData>,
 }
 
+/// The data of a report: the length that stands before them, and their octets.
+#[derive(Clone, Copy)]
+struct Data {
+    length: u8,
+    octets: &'static [u8],
+}
+
 /// A report as its octets, what they say, and how it is written.
 struct Row {
     kind: Kind,
@@ -34,7 +41,7 @@ struct Row {
     stamp: [u8; 7],
     pid: Option<u8>,
     dcs: Option<u8>,
-    user: Option<(u8, &'static [u8])>,
+    user: Option<Data>,
     written: &'static [u8],
 }
 
@@ -65,7 +72,10 @@ static ROWS: [Row; 14] = [
         stamp: NEW_YEAR,
         pid: Some(0x7F),
         dcs: Some(0x04),
-        user: Some((2, b"\xAA\xBB")),
+        user: Some(Data {
+            length: 2,
+            octets: b"\xAA\xBB",
+        }),
         written: b"\x41\x07\x10\x10\x10\x00\x00\x00\x00\x7F\x04\x02\xAA\xBB",
     },
     // two further octets of the indicator; eight septets without a coding scheme
@@ -77,7 +87,10 @@ static ROWS: [Row; 14] = [
         stamp: NEW_YEAR,
         pid: None,
         dcs: None,
-        user: Some((8, b"\x01\x02\x03\x04\x05\x06\x07")),
+        user: Some(Data {
+            length: 8,
+            octets: b"\x01\x02\x03\x04\x05\x06\x07",
+        }),
         written: b"\x01\x04\x10\x10\x10\x00\x00\x00\x00\x08\x01\x02\x03\x04\x05\x06\x07",
     },
     Row {
@@ -112,7 +125,10 @@ static ROWS: [Row; 14] = [
         stamp: NEW_YEAR,
         pid: None,
         dcs: None,
-        user: Some((0, b"")),
+        user: Some(Data {
+            length: 0,
+            octets: b"",
+        }),
         written: b"\x41\xFF\x04\x10\x10\x10\x00\x00\x00\x00\x00",
     },
     Row {
@@ -147,7 +163,10 @@ static ROWS: [Row; 14] = [
         stamp: NONE,
         pid: None,
         dcs: Some(0x08),
-        user: Some((2, b"\x04\x36")),
+        user: Some(Data {
+            length: 2,
+            octets: b"\x04\x36",
+        }),
         written: b"\x00\x06\x08\x02\x04\x36",
     },
     // two septets of the 7-bit alphabet, with bits to spare
@@ -159,7 +178,10 @@ static ROWS: [Row; 14] = [
         stamp: NONE,
         pid: None,
         dcs: Some(0x00),
-        user: Some((2, b"\xE8\xF4")),
+        user: Some(Data {
+            length: 2,
+            octets: b"\xE8\xF4",
+        }),
         written: b"\x00\x06\x00\x02\xE8\xF4",
     },
     Row {
@@ -182,7 +204,10 @@ static ROWS: [Row; 14] = [
         stamp: NONE,
         pid: Some(0x00),
         dcs: None,
-        user: Some((1, b"\x61")),
+        user: Some(Data {
+            length: 1,
+            octets: b"\x61",
+        }),
         written: b"\x00\x90\x05\x00\x01\x61",
     },
     // the identifier and the coding scheme
@@ -206,7 +231,10 @@ static ROWS: [Row; 14] = [
         stamp: NONE,
         pid: None,
         dcs: Some(0x20),
-        user: Some((3, b"\x01\x02\x03")),
+        user: Some(Data {
+            length: 3,
+            octets: b"\x01\x02\x03",
+        }),
         written: b"\x00\xFF\x06\x20\x03\x01\x02\x03",
     },
 ];
@@ -288,10 +316,10 @@ fn report(
 }
 
 /// Whether data are these.
-fn are_data(user: &Option<ReportData>, wanted: Option<(u8, &[u8])>) -> bool {
+fn are_data(user: &Option<ReportData>, wanted: Option<Data>) -> bool {
     match (user, wanted) {
-        (Some(user), Some((length, octets))) => {
-            user.length == length && user.octets.as_slice() == octets
+        (Some(user), Some(wanted)) => {
+            user.length == wanted.length && user.octets.as_slice() == wanted.octets
         }
         (None, None) => true,
         _ => false,

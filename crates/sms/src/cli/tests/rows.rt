@@ -1945,6 +1945,28 @@ pub static HEADERS: [Filled; 9] = [
     },
 ];
 
+/// A coding scheme, and the length above the greatest of its data.
+pub struct TooFull {
+    pub scheme: &'static str,
+    pub length: &'static str,
+}
+
+/// Lengths above the greatest.
+pub static TOO_FULL: [TooFull; 3] = [
+    TooFull {
+        scheme: "00",
+        length: "A1",
+    },
+    TooFull {
+        scheme: "04",
+        length: "8D",
+    },
+    TooFull {
+        scheme: "08",
+        length: "8D",
+    },
+];
+
 /// Kinds of unit, octets that begin with the address of a service centre, the status and the answer.
 pub static AFTER_CENTRES: [AfterCentre; 22] = [
     AfterCentre {

@@ -1157,7 +1157,8 @@ pub static FAULTS_IN_CP: [Shown; 39] = [
     },
 ];
 
-/// Messages of which no octet may miss.
+/// Messages of which no octet may miss: each is cut before each of its octets. Some are shown whole in the tables above,
+/// which have their lines; where they are cut there is one line, and what is wanted is where they may end.
 pub static WHOLE_MESSAGES: [WholeMessage; 12] = [
     WholeMessage {
         kind: "rp",

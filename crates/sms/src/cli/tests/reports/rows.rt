@@ -1541,7 +1541,8 @@ pub static MORE_NO_REPORTS: [Report; 48] = [
     },
 ];
 
-/// Reports of which no octet may miss.
+/// Reports of which no octet may miss: each is cut before each of its octets. Some are shown whole in the tables above,
+/// which have their lines; where they are cut there is one line, which the place alone tells.
 pub static WHOLE_REPORTS: [WholeReport; 12] = [
     WholeReport {
         kind: "submit-ack",
