@@ -1,5 +1,5 @@
 -- What a call of a joiner comes to, by the sets and keys that it holds.
-use Rattle.std.proofs.Common.{◌≡◌, ℕ, zero, suc, ◌<◌, ◌≤◌, Bool, true, false, eqb, List, [], ◌∷◌, ◌++◌, take, drop, length, slice_get, Option, Some, None, Ok, Err, refl, sym, ap, ◌∙◌, subst, arith}
+use Rattle.std.proofs.Common.{◌≡◌, ℕ, zero, suc, ◌<◌, ◌≤◌, Bool, true, false, not, eqb, List, [], ◌∷◌, ◌++◌, take, drop, length, slice_get, Option, Some, None, Ok, Err, refl, sym, ap, ◌∙◌, subst, arith}
 use Rattle.std.proofs.Math.ListN.{set}
 use Rattle.std.proofs.lemmas.Bool.{eqb-false, ne_eqb}
 use Rattle.std.proofs.lemmas.List.Quantifiers.{position-Some}
@@ -22,7 +22,7 @@ use Rattle.sms_join.specs.Same.{IsSame}
 use Rattle.sms_join.specs.LastKeys.{LastKeysValue}
 use Rattle.sms_join.specs.JoinerValue.{JoinerValue}
 use Rattle.sms_join.specs.OpenSet.{SetValue, IsOpen, AreOpen, is_in, with_piece}
-use Rattle.sms_join.specs.Offering.{Says}
+use Rattle.sms_join.specs.Offering.{is_first, SaysAnswer, Says}
 use Rattle.sms_join.specs.Slots.{At, HasPlace}
 use Rattle.sms_join.specs.Finishing.{lacks_only}
 use Rattle.sms_join.specs.Reading.{text_of_segments}
@@ -44,20 +44,20 @@ size_is origin stamp (Some c) = refl
 
 -- an answer that is said
 
-pub says_again : (a : Answer) → a ≡ Repeat → Says a (Ok offers.Repeat)
-says_again a e = subst (λ (b : Answer). Says b (Ok offers.Repeat)) (sym e) tt
+pub says_again : (m : ℕ) (j : Joiner) (p : Piece) → answer m j p ≡ Repeat → Says m j p (Ok offers.Repeat)
+says_again m j p e = subst (λ (a : Answer). SaysAnswer a (is_first j p) (Ok offers.Repeat)) (sym e) tt
 
-pub says_keeping : (a : Answer) → a ≡ Kept → Says a (Ok offers.Kept)
-says_keeping a e = subst (λ (b : Answer). Says b (Ok offers.Kept)) (sym e) tt
+pub says_keeping : (m : ℕ) (j : Joiner) (p : Piece) → answer m j p ≡ Kept → Says m j p (Ok offers.Kept)
+says_keeping m j p e = subst (λ (a : Answer). SaysAnswer a (is_first j p) (Ok offers.Kept)) (sym e) tt
 
-pub says_full : (a : Answer) → a ≡ TooManyOpen → Says a (Err faults.TooManyOpen)
-says_full a e = subst (λ (b : Answer). Says b (Err faults.TooManyOpen)) (sym e) tt
+pub says_full : (m : ℕ) (j : Joiner) (p : Piece) → answer m j p ≡ TooManyOpen → Says m j p (Err faults.TooManyOpen)
+says_full m j p e = subst (λ (a : Answer). SaysAnswer a (is_first j p) (Err faults.TooManyOpen)) (sym e) tt
 
-pub kept_memory : (a : Answer) → a ≡ Kept → Says a (Err faults.Memory)
-kept_memory a e = subst (λ (b : Answer). Says b (Err faults.Memory)) (sym e) tt
+pub kept_memory : (m : ℕ) (j : Joiner) (p : Piece) → is_open j.kept p.key ≡ false → answer m j p ≡ Kept → Says m j p (Err faults.Memory)
+kept_memory m j p closed e = subst (λ (a : Answer). SaysAnswer a (is_first j p) (Err faults.Memory)) (sym e) (ap not closed)
 
-pub whole_memory : (a : Answer) (us : List Units) → a ≡ Finished us → Says a (Err faults.Memory)
-whole_memory a us e = subst (λ (b : Answer). Says b (Err faults.Memory)) (sym e) tt
+pub whole_memory : (m : ℕ) (j : Joiner) (p : Piece) (us : List Units) → answer m j p ≡ Finished us → Says m j p (Err faults.Memory)
+whole_memory m j p us e = subst (λ (a : Answer). SaysAnswer a (is_first j p) (Err faults.Memory)) (sym e) tt
 
 -- the set of a key, found at a place
 pub record Found (ss : List SetValue) (k : Key) (i : ℕ) (s : SetValue) : Type 0 where
@@ -167,8 +167,8 @@ module _ (open_max remembered : ℕ) (ss : List SetValue) (ks : List Key) (i : �
           (finishes_set (take i ss) s (drop (suc i) ss) ks b p (sym f.key) open_max remembered place fresh new full)
 
 -- a whole set that is read as its text
-pub says_text : (a : Answer) (us : List Units) (text : _) → a ≡ Finished us → chars (string_bytes text) ≡ text_of_segments us → Says a (Ok (offers.Finished text))
-says_text a us text e h = subst (λ (b : Answer). Says b (Ok (offers.Finished text))) (sym e) h
+pub says_text : (m : ℕ) (j : Joiner) (p : Piece) (us : List Units) (text : _) → answer m j p ≡ Finished us → chars (string_bytes text) ≡ text_of_segments us → Says m j p (Ok (offers.Finished text))
+says_text m j p us text e h = subst (λ (a : Answer). SaysAnswer a (is_first j p) (Ok (offers.Finished text))) (sym e) h
 
 -- a joiner of these fields
 abbrev pub value_of : ℕ → LastKeysValue → List SetValue → JoinerValue

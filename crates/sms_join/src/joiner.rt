@@ -105,7 +105,7 @@ impl Joiner {
     ) -> Result<Offer, OfferFault>
         requires { IsPlace concat }
         ensures says { let piece = piece_of now origin.now stamp concat units in
-            Says (answer self.old.open_max self.old.holds piece) result }
+            Says self.old.open_max self.old.holds piece result }
         ensures holds { let piece = piece_of now origin.now stamp concat units in
             OnOk result (IsSame self.new.holds
             (offered self.old.open_max self.old.remembered self.old.holds piece)) }
@@ -170,7 +170,7 @@ impl Joiner {
             ≡ false }
         requires closed { is_open self.old.holds.kept (key_of origin.now stamp concat) ≡ false }
         ensures says { let piece = piece_of now origin.now stamp concat units in
-            Says (answer self.old.open_max self.old.holds piece) result }
+            Says self.old.open_max self.old.holds piece result }
         ensures holds { let piece = piece_of now origin.now stamp concat units in
             OnOk result (IsSame self.new.holds
             (offered self.old.open_max self.old.remembered self.old.holds piece)) }

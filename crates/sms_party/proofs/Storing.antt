@@ -16,7 +16,7 @@ use Rattle.sms_join.specs.Reading.{text_of_segments}
 use Rattle.sms_join.specs.Joiner.{Joiner, new_joiner, Answer, Repeat, Kept, Finished, TooManyOpen, answer, answered, offered}
 use Rattle.sms_join.specs.JoinerValue.{JoinerValue, SameLimits}
 use Rattle.sms_join.specs.Same.{IsSame, AnswersAlike}
-use Rattle.sms_join.specs.Offering.{Says}
+use Rattle.sms_join.specs.Offering.{SaysAnswer, Says}
 use Rattle.sms_join.specs.Finishing.{would_finish, is_finished, AnswerFinishes, SameIsEquivalence}
 use Rattle.sms_join.specs.Aging.{AgesAlike, aged}
 use Rattle.sms_relay.specs.declared.side.Side.TheVariants.{FromPhone}
@@ -58,34 +58,34 @@ noted limits v s step e f h = (ap Ok (sym e), subst (λ (l : List (List ℕ)). C
 
 -- ---- what the joiner's answer says
 
-pub says_repeat : (a : Answer) → Says a (Ok offers.Repeat) → a ≡ Repeat
-says_repeat Repeat h = refl
-says_repeat Kept h = absurd h
-says_repeat (Finished us) h = absurd h
-says_repeat TooManyOpen h = absurd h
+pub says_repeat : (a : Answer) (first : Bool) → SaysAnswer a first (Ok offers.Repeat) → a ≡ Repeat
+says_repeat Repeat first h = refl
+says_repeat Kept first h = absurd h
+says_repeat (Finished us) first h = absurd h
+says_repeat TooManyOpen first h = absurd h
 
-pub says_kept : (a : Answer) → Says a (Ok offers.Kept) → a ≡ Kept
-says_kept Repeat h = absurd h
-says_kept Kept h = refl
-says_kept (Finished us) h = absurd h
-says_kept TooManyOpen h = absurd h
+pub says_kept : (a : Answer) (first : Bool) → SaysAnswer a first (Ok offers.Kept) → a ≡ Kept
+says_kept Repeat first h = absurd h
+says_kept Kept first h = refl
+says_kept (Finished us) first h = absurd h
+says_kept TooManyOpen first h = absurd h
 
-pub says_too_many : (a : Answer) → Says a (Err faults.TooManyOpen) → a ≡ TooManyOpen
-says_too_many Repeat h = absurd h
-says_too_many Kept h = absurd h
-says_too_many (Finished us) h = absurd h
-says_too_many TooManyOpen h = refl
+pub says_too_many : (a : Answer) (first : Bool) → SaysAnswer a first (Err faults.TooManyOpen) → a ≡ TooManyOpen
+says_too_many Repeat first h = absurd h
+says_too_many Kept first h = absurd h
+says_too_many (Finished us) first h = absurd h
+says_too_many TooManyOpen first h = refl
 
 pub record IsText (a : Answer) (text : List ℕ) : Type 0 where
   pub units : List Units
   pub is : a ≡ Finished units
   pub reads : text ≡ text_of_segments units
 
-pub says_text : (a : Answer) (text : _) → Says a (Ok (offers.Finished text)) → IsText a (chars (string_bytes text))
-says_text Repeat text h = absurd h
-says_text Kept text h = absurd h
-says_text (Finished us) text h = record { units = us; is = refl; reads = h }
-says_text TooManyOpen text h = absurd h
+pub says_text : (a : Answer) (first : Bool) (text : _) → SaysAnswer a first (Ok (offers.Finished text)) → IsText a (chars (string_bytes text))
+says_text Repeat first text h = absurd h
+says_text Kept first text h = absurd h
+says_text (Finished us) first text h = record { units = us; is = refl; reads = h }
+says_text TooManyOpen first text h = absurd h
 
 -- ---- the code's joiner and store, and those of the state
 
@@ -134,11 +134,11 @@ module _ (laws : JoinerLaws) (limits : ReceiverLimits) (v : ReceiverValue) (s : 
           (subst (λ (x : Answer). ReceiverAnswers limits s (settles limits s tag from p origin x) r new) (sym f ∙ answer_alike) k)
 
       -- too many sets are open
-      pub is_over : (r : Result Step Dropped) → Says (answer v.joiner.open_max v.joiner.holds p) (Err faults.TooManyOpen) → new ≡ v
+      pub is_over : (r : Result Step Dropped) → Says v.joiner.open_max v.joiner.holds p (Err faults.TooManyOpen) → new ≡ v
           → Puts (outcome.Refused 22 (Some 0xD3)) (refuses s tag 22 0xD3).put r → ReceiverAnswers limits s (receiver_offers limits s tag from p origin) r new
       unfolding settles
       is_over r says same puts =
-          by_answer r TooManyOpen (says_too_many _ says) (puts_answer limits new s _ _ r (subst (λ (w : ReceiverValue). StandsFor limits w s) (sym same) h) puts)
+          by_answer r TooManyOpen (says_too_many _ _ says) (puts_answer limits new s _ _ r (subst (λ (w : ReceiverValue). StandsFor limits w s) (sym same) h) puts)
 
       module _ (limit : new.limit ≡ v.limit) (kept : SameLimits new.joiner v.joiner)
           (holds : IsSame new.joiner.holds (offered v.joiner.open_max v.joiner.remembered v.joiner.holds p)) where
@@ -163,25 +163,25 @@ module _ (laws : JoinerLaws) (limits : ReceiverLimits) (v : ReceiverValue) (s : 
             }
 
         pub is_repeated : (step : Step) → step.outcome ≡ outcome.Repeat → CarriesEach (packets_of step) (answers FromPhone tag None (Some plain_ack)) → new.store ≡ v.store
-            → Says (answer v.joiner.open_max v.joiner.holds p) (Ok offers.Repeat) → ReceiverAnswers limits s (receiver_offers limits s tag from p origin) (Ok step) new
+            → Says v.joiner.open_max v.joiner.holds p (Ok offers.Repeat) → ReceiverAnswers limits s (receiver_offers limits s tag from p origin) (Ok step) new
         unfolding settles
         is_repeated step word carries store says =
-            let f = says_repeat _ says in
+            let f = says_repeat _ _ says in
             by_answer (Ok step) Repeat f (ap Ok (sym word), carries, after_is Repeat _ f refl (store ∙ h.store_is))
 
         pub is_kept : (step : Step) → step.outcome ≡ outcome.Kept → CarriesEach (packets_of step) (answers FromPhone tag None (Some plain_ack)) → new.store ≡ v.store
-            → Says (answer v.joiner.open_max v.joiner.holds p) (Ok offers.Kept) → ReceiverAnswers limits s (receiver_offers limits s tag from p origin) (Ok step) new
+            → Says v.joiner.open_max v.joiner.holds p (Ok offers.Kept) → ReceiverAnswers limits s (receiver_offers limits s tag from p origin) (Ok step) new
         unfolding settles
         is_kept step word carries store says =
-            let f = says_kept _ says in
+            let f = says_kept _ _ says in
             by_answer (Ok step) Kept f (ap Ok (sym word), carries, after_is Kept _ f refl (store ∙ h.store_is))
 
         pub is_stored : (step : Step) (text : _) → step.outcome ≡ outcome.Finished → CarriesEach (packets_of step) (answers FromPhone tag None (Some plain_ack))
             → new.store ≡ v.store ++ record { origin = from; characters = chars (string_bytes text) } ∷ []
-            → Says (answer v.joiner.open_max v.joiner.holds p) (Ok (offers.Finished text)) → ReceiverAnswers limits s (receiver_offers limits s tag from p origin) (Ok step) new
+            → Says v.joiner.open_max v.joiner.holds p (Ok (offers.Finished text)) → ReceiverAnswers limits s (receiver_offers limits s tag from p origin) (Ok step) new
         unfolding settles
         is_stored step text word carries store says =
-            let t = says_text _ text says in
+            let t = says_text _ _ text says in
             by_answer (Ok step) (Finished t.units) t.is (
               ap Ok (sym word),
               carries,

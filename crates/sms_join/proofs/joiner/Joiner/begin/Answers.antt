@@ -3,7 +3,7 @@ use Rattle.std.proofs.Common.{◌≡◌, ◌<◌, ◌≤◌, List, [], ◌∷◌
 use Rattle.std.proofs.lemmas.Result.{err_from_is_err_and}
 use Rattle.sms_join.specs.declared.key.Key.{Key}
 use Rattle.sms_join.specs.Piece.{piece_of, key_of, sequence_of}
-use Rattle.sms_join.specs.Joiner.{answer, offered}
+use Rattle.sms_join.specs.Joiner.{offered}
 use Rattle.sms_join.specs.Same.{IsSame}
 use Rattle.sms_join.specs.LastKeys.{LastKeysValue}
 use Rattle.sms_join.specs.OpenSet.{SetValue, AreOpen, has_set}
@@ -17,16 +17,16 @@ use Rattle.sms_join.proofs.joiner.Joiner.begin.Goals as goal
 pub returns-in_err-key-clause-says : goal.returns-in_err-key-clause-says
 returns-in_err-key-clause-says c =
     let p = err_from_is_err_and c.from_residual.result c.from_residual.ensures.1 in
-    rw (p.1, p.2) (whole_memory (answer c.args.self.now.open_max c.args.self.now.holds (piece_of c.args.now c.args.origin.now c.args.stamp c.args.concat c.args.units)) (c.args.units ∷ []) (first_alone c.self.inside.open_max c.self.inside.finished c.self.inside.sets c.self.invariant (piece_of c.args.now c.args.origin.now c.args.stamp c.args.concat c.args.units) (in_place c.args.now c.args.origin.now c.args.stamp c.args.concat c.args.units c.requires.place) c.args.self.now c.self.view_is c.requires.fresh c.requires.closed (let e = size_is c.args.origin.now c.args.stamp c.args.concat in sym e ∙ (sym c.size_of.ensures ∙ c.if-size_of-eq1.true))).0)
+    rw (p.1, p.2) (whole_memory c.args.self.now.open_max c.args.self.now.holds (piece_of c.args.now c.args.origin.now c.args.stamp c.args.concat c.args.units) (c.args.units ∷ []) (first_alone c.self.inside.open_max c.self.inside.finished c.self.inside.sets c.self.invariant (piece_of c.args.now c.args.origin.now c.args.stamp c.args.concat c.args.units) (in_place c.args.now c.args.origin.now c.args.stamp c.args.concat c.args.units c.requires.place) c.args.self.now c.self.view_is c.requires.fresh c.requires.closed (let e = size_is c.args.origin.now c.args.stamp c.args.concat in sym e ∙ (sym c.size_of.ensures ∙ c.if-size_of-eq1.true))).0)
 
 pub returns-in_err-text-clause-says : goal.returns-in_err-text-clause-says
 returns-in_err-text-clause-says c =
     let p = err_from_is_err_and c.from_residual-in_err-text.result c.from_residual-in_err-text.ensures.1 in
-    rw (p.1, p.2) (whole_memory (answer c.args.self.now.open_max c.args.self.now.holds (piece_of c.args.now c.args.origin.now c.args.stamp c.args.concat c.args.units)) (c.args.units ∷ []) (first_alone c.self.inside.open_max c.self.inside.finished c.self.inside.sets c.self.invariant (piece_of c.args.now c.args.origin.now c.args.stamp c.args.concat c.args.units) (in_place c.args.now c.args.origin.now c.args.stamp c.args.concat c.args.units c.requires.place) c.args.self.now c.self.view_is c.requires.fresh c.requires.closed (let e = size_is c.args.origin.now c.args.stamp c.args.concat in sym e ∙ (sym c.size_of.ensures ∙ c.if-size_of-eq1.true))).0)
+    rw (p.1, p.2) (whole_memory c.args.self.now.open_max c.args.self.now.holds (piece_of c.args.now c.args.origin.now c.args.stamp c.args.concat c.args.units) (c.args.units ∷ []) (first_alone c.self.inside.open_max c.self.inside.finished c.self.inside.sets c.self.invariant (piece_of c.args.now c.args.origin.now c.args.stamp c.args.concat c.args.units) (in_place c.args.now c.args.origin.now c.args.stamp c.args.concat c.args.units c.requires.place) c.args.self.now c.self.view_is c.requires.fresh c.requires.closed (let e = size_is c.args.origin.now c.args.stamp c.args.concat in sym e ∙ (sym c.size_of.ensures ∙ c.if-size_of-eq1.true))).0)
 
 pub returns-then-size_of-eq1-clause-says : goal.returns-then-size_of-eq1-clause-says
 returns-then-size_of-eq1-clause-says c =
-    says_text (answer c.args.self.now.open_max c.args.self.now.holds (piece_of c.args.now c.args.origin.now c.args.stamp c.args.concat c.args.units)) (c.args.units ∷ []) c.in_ok-text.text (first_alone c.self.inside.open_max c.self.inside.finished c.self.inside.sets c.self.invariant (piece_of c.args.now c.args.origin.now c.args.stamp c.args.concat c.args.units) (in_place c.args.now c.args.origin.now c.args.stamp c.args.concat c.args.units c.requires.place) c.args.self.now c.self.view_is c.requires.fresh c.requires.closed (let e = size_is c.args.origin.now c.args.stamp c.args.concat in sym e ∙ (sym c.size_of.ensures ∙ c.if-size_of-eq1.true))).0 c.in_ok-text.ensures
+    says_text c.args.self.now.open_max c.args.self.now.holds (piece_of c.args.now c.args.origin.now c.args.stamp c.args.concat c.args.units) (c.args.units ∷ []) c.in_ok-text.text (first_alone c.self.inside.open_max c.self.inside.finished c.self.inside.sets c.self.invariant (piece_of c.args.now c.args.origin.now c.args.stamp c.args.concat c.args.units) (in_place c.args.now c.args.origin.now c.args.stamp c.args.concat c.args.units c.requires.place) c.args.self.now c.self.view_is c.requires.fresh c.requires.closed (let e = size_is c.args.origin.now c.args.stamp c.args.concat in sym e ∙ (sym c.size_of.ensures ∙ c.if-size_of-eq1.true))).0 c.in_ok-text.ensures
 
 pub returns-then-size_of-eq1-clause-holds : goal.returns-then-size_of-eq1-clause-holds
 returns-then-size_of-eq1-clause-holds c =
@@ -39,7 +39,7 @@ returns-then-count-self-clause-says c =
     let count : c.count.result ≡ length c.self.inside.sets = c.count.ensures in
     let over = c.if-count-self.true in
     let full : c.self.inside.open_max ≤ length c.self.inside.sets = omega arith in
-    says_full (answer c.args.self.now.open_max c.args.self.now.holds (piece_of c.args.now c.args.origin.now c.args.stamp c.args.concat c.args.units)) (first_refused c.self.inside.open_max c.self.inside.finished c.self.inside.sets c.self.invariant (piece_of c.args.now c.args.origin.now c.args.stamp c.args.concat c.args.units) (in_place c.args.now c.args.origin.now c.args.stamp c.args.concat c.args.units c.requires.place) c.args.self.now c.self.view_is c.requires.fresh c.requires.closed (λ h. let e = size_is c.args.origin.now c.args.stamp c.args.concat in c.if-size_of-eq1.false (c.size_of.ensures ∙ (e ∙ sym h))) full)
+    says_full c.args.self.now.open_max c.args.self.now.holds (piece_of c.args.now c.args.origin.now c.args.stamp c.args.concat c.args.units) (first_refused c.self.inside.open_max c.self.inside.finished c.self.inside.sets c.self.invariant (piece_of c.args.now c.args.origin.now c.args.stamp c.args.concat c.args.units) (in_place c.args.now c.args.origin.now c.args.stamp c.args.concat c.args.units c.requires.place) c.args.self.now c.self.view_is c.requires.fresh c.requires.closed (λ h. let e = size_is c.args.origin.now c.args.stamp c.args.concat in c.if-size_of-eq1.false (c.size_of.ensures ∙ (e ∙ sym h))) full)
 
 pub returns-in_err-key-2-clause-says : goal.returns-in_err-key-2-clause-says
 returns-in_err-key-2-clause-says c =
@@ -47,7 +47,7 @@ returns-in_err-key-2-clause-says c =
     let under = c.if-count-self.false in
     let less : length c.self.inside.sets < c.self.inside.open_max = omega arith in
     let p = err_from_is_err_and c.from_residual-in_err-key-2.result c.from_residual-in_err-key-2.ensures.1 in
-    rw (p.1, p.2) (kept_memory (answer c.args.self.now.open_max c.args.self.now.holds (piece_of c.args.now c.args.origin.now c.args.stamp c.args.concat c.args.units)) (first_kept c.self.inside.open_max c.self.inside.finished c.self.inside.sets c.self.invariant (piece_of c.args.now c.args.origin.now c.args.stamp c.args.concat c.args.units) (in_place c.args.now c.args.origin.now c.args.stamp c.args.concat c.args.units c.requires.place) c.args.self.now c.self.view_is c.requires.fresh c.requires.closed (λ h. let e = size_is c.args.origin.now c.args.stamp c.args.concat in c.if-size_of-eq1.false (c.size_of.ensures ∙ (e ∙ sym h))) less).0)
+    rw (p.1, p.2) (kept_memory c.args.self.now.open_max c.args.self.now.holds (piece_of c.args.now c.args.origin.now c.args.stamp c.args.concat c.args.units) c.requires.closed (first_kept c.self.inside.open_max c.self.inside.finished c.self.inside.sets c.self.invariant (piece_of c.args.now c.args.origin.now c.args.stamp c.args.concat c.args.units) (in_place c.args.now c.args.origin.now c.args.stamp c.args.concat c.args.units c.requires.place) c.args.self.now c.self.view_is c.requires.fresh c.requires.closed (λ h. let e = size_is c.args.origin.now c.args.stamp c.args.concat in c.if-size_of-eq1.false (c.size_of.ensures ∙ (e ∙ sym h))) less).0)
 
 pub returns-in_err-open-clause-says : goal.returns-in_err-open-clause-says
 returns-in_err-open-clause-says c =
@@ -55,7 +55,7 @@ returns-in_err-open-clause-says c =
     let under = c.if-count-self.false in
     let less : length c.self.inside.sets < c.self.inside.open_max = omega arith in
     let p = err_from_is_err_and c.from_residual-in_err-open.result c.from_residual-in_err-open.ensures.1 in
-    rw (p.1, p.2) (kept_memory (answer c.args.self.now.open_max c.args.self.now.holds (piece_of c.args.now c.args.origin.now c.args.stamp c.args.concat c.args.units)) (first_kept c.self.inside.open_max c.self.inside.finished c.self.inside.sets c.self.invariant (piece_of c.args.now c.args.origin.now c.args.stamp c.args.concat c.args.units) (in_place c.args.now c.args.origin.now c.args.stamp c.args.concat c.args.units c.requires.place) c.args.self.now c.self.view_is c.requires.fresh c.requires.closed (λ h. let e = size_is c.args.origin.now c.args.stamp c.args.concat in c.if-size_of-eq1.false (c.size_of.ensures ∙ (e ∙ sym h))) less).0)
+    rw (p.1, p.2) (kept_memory c.args.self.now.open_max c.args.self.now.holds (piece_of c.args.now c.args.origin.now c.args.stamp c.args.concat c.args.units) c.requires.closed (first_kept c.self.inside.open_max c.self.inside.finished c.self.inside.sets c.self.invariant (piece_of c.args.now c.args.origin.now c.args.stamp c.args.concat c.args.units) (in_place c.args.now c.args.origin.now c.args.stamp c.args.concat c.args.units c.requires.place) c.args.self.now c.self.view_is c.requires.fresh c.requires.closed (λ h. let e = size_is c.args.origin.now c.args.stamp c.args.concat in c.if-size_of-eq1.false (c.size_of.ensures ∙ (e ∙ sym h))) less).0)
 
 pub invariant_of-self-2 : goal.invariant_of-self-2
 invariant_of-self-2 c =
@@ -71,7 +71,7 @@ returns-clause-says c =
     let count : c.count.result ≡ length c.self.inside.sets = c.count.ensures in
     let under = c.if-count-self.false in
     let less : length c.self.inside.sets < c.self.inside.open_max = omega arith in
-    says_keeping (answer c.args.self.now.open_max c.args.self.now.holds (piece_of c.args.now c.args.origin.now c.args.stamp c.args.concat c.args.units)) (first_kept c.self.inside.open_max c.self.inside.finished c.self.inside.sets c.self.invariant (piece_of c.args.now c.args.origin.now c.args.stamp c.args.concat c.args.units) (in_place c.args.now c.args.origin.now c.args.stamp c.args.concat c.args.units c.requires.place) c.args.self.now c.self.view_is c.requires.fresh c.requires.closed (λ h. let e = size_is c.args.origin.now c.args.stamp c.args.concat in c.if-size_of-eq1.false (c.size_of.ensures ∙ (e ∙ sym h))) less).0
+    says_keeping c.args.self.now.open_max c.args.self.now.holds (piece_of c.args.now c.args.origin.now c.args.stamp c.args.concat c.args.units) (first_kept c.self.inside.open_max c.self.inside.finished c.self.inside.sets c.self.invariant (piece_of c.args.now c.args.origin.now c.args.stamp c.args.concat c.args.units) (in_place c.args.now c.args.origin.now c.args.stamp c.args.concat c.args.units c.requires.place) c.args.self.now c.self.view_is c.requires.fresh c.requires.closed (λ h. let e = size_is c.args.origin.now c.args.stamp c.args.concat in c.if-size_of-eq1.false (c.size_of.ensures ∙ (e ∙ sym h))) less).0
 
 pub returns-clause-holds : goal.returns-clause-holds
 returns-clause-holds c =

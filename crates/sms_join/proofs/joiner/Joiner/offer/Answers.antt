@@ -7,7 +7,7 @@ use Rattle.sms_join.specs.declared.key.Key.{Key}
 use Rattle.sms_join.specs.declared.offer.Offer.TheVariants as offers
 use Rattle.sms_join.specs.Piece.{piece_of, key_of, sequence_of}
 use Rattle.sms_join.specs.Sets.{is_open}
-use Rattle.sms_join.specs.Joiner.{Joiner, answer, offered}
+use Rattle.sms_join.specs.Joiner.{Joiner, offered}
 use Rattle.sms_join.specs.JoinerValue.{JoinerValue}
 use Rattle.sms_join.specs.Same.{IsSame}
 use Rattle.sms_join.specs.LastKeys.{LastKeysValue}
@@ -21,8 +21,8 @@ use Rattle.sms_join.proofs.joiner.Joiner.offer.Goals as goal
 
 pub returns-then-contains-clause-says : goal.returns-then-contains-clause-says
 returns-then-contains-clause-says c =
-    subst (λ (v : JoinerValue). Says (answer v.open_max v.holds (piece_of c.args.now c.args.origin.now c.args.stamp c.args.concat c.args.units)) (Ok offers.Repeat)) c.self.view_is
-    (says_again (answer c.self.inside.open_max (joiner_of c.self.inside.sets c.self.inside.finished.keys) (piece_of c.args.now c.args.origin.now c.args.stamp c.args.concat c.args.units)) (says_repeat c.self.inside.open_max c.self.inside.finished.limit (joiner_of c.self.inside.sets c.self.inside.finished.keys) (piece_of c.args.now c.args.origin.now c.args.stamp c.args.concat c.args.units) (remembered_repeats (joiner_of c.self.inside.sets c.self.inside.finished.keys) (piece_of c.args.now c.args.origin.now c.args.stamp c.args.concat c.args.units) (sym c.contains.ensures ∙ c.if-contains.true))).0)
+    subst (λ (v : JoinerValue). Says v.open_max v.holds (piece_of c.args.now c.args.origin.now c.args.stamp c.args.concat c.args.units) (Ok offers.Repeat)) c.self.view_is
+    (says_again c.self.inside.open_max (joiner_of c.self.inside.sets c.self.inside.finished.keys) (piece_of c.args.now c.args.origin.now c.args.stamp c.args.concat c.args.units) (says_repeat c.self.inside.open_max c.self.inside.finished.limit (joiner_of c.self.inside.sets c.self.inside.finished.keys) (piece_of c.args.now c.args.origin.now c.args.stamp c.args.concat c.args.units) (remembered_repeats (joiner_of c.self.inside.sets c.self.inside.finished.keys) (piece_of c.args.now c.args.origin.now c.args.stamp c.args.concat c.args.units) (sym c.contains.ensures ∙ c.if-contains.true))).0)
 
 pub returns-then-contains-clause-holds : goal.returns-then-contains-clause-holds
 returns-then-contains-clause-holds c =
@@ -43,7 +43,7 @@ has-requires c =
 
 pub returns-then-has-clause-says : goal.returns-then-has-clause-says
 returns-then-has-clause-says c =
-    says_again (answer c.args.self.now.open_max c.args.self.now.holds (piece_of c.args.now c.args.origin.now c.args.stamp c.args.concat c.args.units))
+    says_again c.args.self.now.open_max c.args.self.now.holds (piece_of c.args.now c.args.origin.now c.args.stamp c.args.concat c.args.units)
     (known_repeat c.self.inside.open_max c.self.inside.finished c.self.inside.sets (piece_of c.args.now c.args.origin.now c.args.stamp c.args.concat c.args.units) c.in-Some.index c.sequence_of-sequence.result
     (knows c.self.inside.finished c.self.inside.sets (piece_of c.args.now c.args.origin.now c.args.stamp c.args.concat c.args.units) c.in-Some.index c.sequence_of-sequence.result c.self.invariant
     (in_place c.args.now c.args.origin.now c.args.stamp c.args.concat c.args.units c.requires) c.find.result c.in-Some.is c.find.ensures
@@ -83,7 +83,7 @@ invariant_of-self c =
 
 pub returns-then-not-lacks_one-clause-says : goal.returns-then-not-lacks_one-clause-says
 returns-then-not-lacks_one-clause-says c =
-    says_keeping (answer c.args.self.now.open_max c.args.self.now.holds (piece_of c.args.now c.args.origin.now c.args.stamp c.args.concat c.args.units))
+    says_keeping c.args.self.now.open_max c.args.self.now.holds (piece_of c.args.now c.args.origin.now c.args.stamp c.args.concat c.args.units)
     (known_kept c.self.inside.open_max c.self.inside.finished c.self.inside.sets (piece_of c.args.now c.args.origin.now c.args.stamp c.args.concat c.args.units) c.in-Some.index c.sequence_of-sequence.result
     (knows c.self.inside.finished c.self.inside.sets (piece_of c.args.now c.args.origin.now c.args.stamp c.args.concat c.args.units) c.in-Some.index c.sequence_of-sequence.result c.self.invariant
     (in_place c.args.now c.args.origin.now c.args.stamp c.args.concat c.args.units c.requires) c.find.result c.in-Some.is c.find.ensures
@@ -101,7 +101,7 @@ returns-then-not-lacks_one-clause-holds c =
 pub returns-in_err-text-clause-says : goal.returns-in_err-text-clause-says
 returns-in_err-text-clause-says c =
     let p = err_from_is_err_and c.from_residual.result c.from_residual.ensures.1 in
-    rw (p.1, p.2) (whole_memory (answer c.args.self.now.open_max c.args.self.now.holds (piece_of c.args.now c.args.origin.now c.args.stamp c.args.concat c.args.units)) (with_piece (knows c.self.inside.finished c.self.inside.sets (piece_of c.args.now c.args.origin.now c.args.stamp c.args.concat c.args.units) c.in-Some.index c.sequence_of-sequence.result c.self.invariant
+    rw (p.1, p.2) (whole_memory c.args.self.now.open_max c.args.self.now.holds (piece_of c.args.now c.args.origin.now c.args.stamp c.args.concat c.args.units) (with_piece (knows c.self.inside.finished c.self.inside.sets (piece_of c.args.now c.args.origin.now c.args.stamp c.args.concat c.args.units) c.in-Some.index c.sequence_of-sequence.result c.self.invariant
     (in_place c.args.now c.args.origin.now c.args.stamp c.args.concat c.args.units c.requires) c.find.result c.in-Some.is c.find.ensures
     c.contains.result c.contains.ensures c.if-contains.false c.sequence_of-sequence.ensures).own (sequence_of c.args.concat) c.args.units).units
     (known_whole c.self.inside.open_max c.self.inside.finished c.self.inside.sets (piece_of c.args.now c.args.origin.now c.args.stamp c.args.concat c.args.units) c.in-Some.index c.sequence_of-sequence.result
@@ -120,7 +120,7 @@ invariant_of-self-2 c =
 
 pub returns-clause-says : goal.returns-clause-says
 returns-clause-says c =
-    says_text (answer c.args.self.now.open_max c.args.self.now.holds (piece_of c.args.now c.args.origin.now c.args.stamp c.args.concat c.args.units)) (with_piece (knows c.self.inside.finished c.self.inside.sets (piece_of c.args.now c.args.origin.now c.args.stamp c.args.concat c.args.units) c.in-Some.index c.sequence_of-sequence.result c.self.invariant
+    says_text c.args.self.now.open_max c.args.self.now.holds (piece_of c.args.now c.args.origin.now c.args.stamp c.args.concat c.args.units) (with_piece (knows c.self.inside.finished c.self.inside.sets (piece_of c.args.now c.args.origin.now c.args.stamp c.args.concat c.args.units) c.in-Some.index c.sequence_of-sequence.result c.self.invariant
     (in_place c.args.now c.args.origin.now c.args.stamp c.args.concat c.args.units c.requires) c.find.result c.in-Some.is c.find.ensures
     c.contains.result c.contains.ensures c.if-contains.false c.sequence_of-sequence.ensures).own (sequence_of c.args.concat) c.args.units).units c.in_ok-text.text
     (known_whole c.self.inside.open_max c.self.inside.finished c.self.inside.sets (piece_of c.args.now c.args.origin.now c.args.stamp c.args.concat c.args.units) c.in-Some.index c.sequence_of-sequence.result

@@ -29,7 +29,7 @@ returns-in-Ok-Repeat-clause-steps c = λ limits s origin stands.
     (subst (λ (w : ReceiverValue). Room w p) (sym c.self.view_is) (sym (c.is_full_for.ensures c.args.now c.args.units) ∙ c.if-is_full_for.false))
     (record { limit = c.self.inside.limit; joiner = c.offer.new.self; store = c.reserve.new.self.items }) refl c.in-Ok-Repeat.ensures.limits c.in-Ok-Repeat.ensures.holds
     step refl c.in_ok-packets.ensures.carries c.in_ok-reserve.ensures.items
-    (subst (λ (o : Offer). Says (answer c.self.inside.joiner.open_max c.self.inside.joiner.holds p) (Ok o)) c.in-Ok-Repeat.field-0-is c.in-Ok-Repeat.ensures.says)
+    (subst (λ (o : Offer). Says c.self.inside.joiner.open_max c.self.inside.joiner.holds p (Ok o)) c.in-Ok-Repeat.field-0-is c.in-Ok-Repeat.ensures.says)
 
 pub returns-in-Ok-Kept-clause-steps : goal.returns-in-Ok-Kept-clause-steps
 returns-in-Ok-Kept-clause-steps c = λ limits s origin stands.
@@ -41,7 +41,7 @@ returns-in-Ok-Kept-clause-steps c = λ limits s origin stands.
     (subst (λ (w : ReceiverValue). Room w p) (sym c.self.view_is) (sym (c.is_full_for.ensures c.args.now c.args.units) ∙ c.if-is_full_for.false))
     (record { limit = c.self.inside.limit; joiner = c.offer.new.self; store = c.reserve.new.self.items }) refl c.in-Ok-Kept.ensures.limits c.in-Ok-Kept.ensures.holds
     step refl c.in_ok-packets.ensures.carries c.in_ok-reserve.ensures.items
-    (subst (λ (o : Offer). Says (answer c.self.inside.joiner.open_max c.self.inside.joiner.holds p) (Ok o)) c.in-Ok-Kept.field-0-is c.in-Ok-Kept.ensures.says)
+    (subst (λ (o : Offer). Says c.self.inside.joiner.open_max c.self.inside.joiner.holds p (Ok o)) c.in-Ok-Kept.field-0-is c.in-Ok-Kept.ensures.says)
 
 pub returns-in-Ok-Finished-clause-steps : goal.returns-in-Ok-Finished-clause-steps
 returns-in-Ok-Finished-clause-steps c = λ limits s origin stands.
@@ -55,7 +55,7 @@ returns-in-Ok-Finished-clause-steps c = λ limits s origin stands.
     step c.in-Ok-Finished.text refl c.in_ok-packets.ensures.carries
     (c.push_reserved.ensures.items ∙ (ap (λ t. c.reserve.new.self.items ++ record { origin = c.args.origin; characters = chars (string_bytes t) } ∷ []) c.in-Ok-Finished.text-is
     ∙ ap (λ (l : List Entry). l ++ record { origin = c.args.origin; characters = chars (string_bytes c.in-Ok-Finished.text) } ∷ []) c.in_ok-reserve.ensures.items))
-    (subst (λ (o : Offer). Says (answer c.self.inside.joiner.open_max c.self.inside.joiner.holds p) (Ok o)) c.in-Ok-Finished.field-0-is c.in-Ok-Finished.ensures.says)
+    (subst (λ (o : Offer). Says c.self.inside.joiner.open_max c.self.inside.joiner.holds p (Ok o)) c.in-Ok-Finished.field-0-is c.in-Ok-Finished.ensures.says)
 
 pub returns-in-Err-TooManyOpen-clause-steps : goal.returns-in-Err-TooManyOpen-clause-steps
 returns-in-Err-TooManyOpen-clause-steps c = λ limits s origin stands.
@@ -66,6 +66,6 @@ returns-in-Err-TooManyOpen-clause-steps c = λ limits s origin stands.
     (subst (λ (w : ReceiverValue). Room w p) (sym c.self.view_is) (sym (c.is_full_for.ensures c.args.now c.args.units) ∙ c.if-is_full_for.false))
     (record { limit = c.self.inside.limit; joiner = c.offer.new.self; store = c.reserve.new.self.items })
     c.refusal-in-Err-TooManyOpen.result
-    (subst (λ (f : OfferFault). Says (answer c.self.inside.joiner.open_max c.self.inside.joiner.holds p) (Err f)) c.in-Err-TooManyOpen.field-0-is c.in-Err-TooManyOpen.ensures.says)
+    (subst (λ (f : OfferFault). Says c.self.inside.joiner.open_max c.self.inside.joiner.holds p (Err f)) c.in-Err-TooManyOpen.field-0-is c.in-Err-TooManyOpen.ensures.says)
     (same_value c.self.inside.limit _ _ _ _ c.in-Err-TooManyOpen.ensures.refused c.in_ok-reserve.ensures.items)
     c.refusal-in-Err-TooManyOpen.ensures
