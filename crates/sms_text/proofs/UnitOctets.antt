@@ -1,6 +1,6 @@
 -- Units in octets, the high octet first.
 use Rattle.std.proofs.Common.{◌≡◌, ℕ, suc, ◌+◌, ◌-◌, ◌*◌, ◌/◌, ◌%◌, ◌<◌, ◌≤◌, List, [], ◌∷◌, ◌++◌, length, take, drop, get_or, refl, sym, ap, ◌∙◌, append_assoc, arith}
-use Rattle.std.proofs.lemmas.List.{append-nil, at_drop_more, drop_all, take_all, take_rest, drop_more}
+use Rattle.std.proofs.lemmas.List.{append-nil, length-drop, at_drop_more, drop_all, take_all, take_rest, drop_more}
 use Rattle.std.specs.Char.Escape.{encode_utf16}
 use Rattle.sms_text.specs.Octets.{IsOctets}
 use Rattle.sms_text.proofs.Words.{eight_then}
@@ -52,6 +52,12 @@ pub eight_more_units : (rest old new total : List ℕ) → 8 ≤ length rest →
 eight_more_units rest old new total many e so_far =
     let more : List ℕ = octets_high_first (drop 8 rest) in
     ap (λ (l : List ℕ). new ++ octets_high_first l) (take_rest rest 8) ∙ ap (λ (l : List ℕ). l ++ more) e ∙ append_assoc old (octets_of_eight rest) more ∙ ap (λ (l : List ℕ). old ++ l) (sym (eight_units rest many)) ∙ so_far
+
+-- room for the octets of what is left, after those of eight
+pub room_left : (rest : List ℕ) (old new room more : ℕ) → 8 ≤ length rest → new ≡ old + 16 → old + 2 * length rest ≤ room → room ≤ more → new + 2 * length (take (length rest - 8) (drop 8 rest)) ≤ more
+room_left rest old new room more many e there grows =
+    let left : length (take (length rest - 8) (drop 8 rest)) ≡ length rest - 8 = ap length (take_rest rest 8) ∙ length-drop 8 rest in
+    omega arith
 
 pub units_from_reads : (xs : List ℕ) → ((k : ℕ) → get_or xs k 0 < 65536) → AreUnits xs
 units_from_reads [] h = tt

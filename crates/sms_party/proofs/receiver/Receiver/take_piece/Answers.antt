@@ -4,7 +4,6 @@ use Rattle.std.specs.String.{string_bytes}
 use Rattle.sms_join.specs.declared.offer.Offer.{Offer}
 use Rattle.sms_join.specs.declared.offer.OfferFault.{OfferFault}
 use Rattle.sms_join.specs.Piece.{Piece, piece_of}
-use Rattle.sms_join.specs.Joiner.{answer}
 use Rattle.sms_join.specs.Offering.{Says}
 use Rattle.sms_party.specs.declared.outcome.Step.{Step}
 use Rattle.sms_party.specs.declared.outcome.Outcome.TheVariants as outcome
