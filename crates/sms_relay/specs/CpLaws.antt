@@ -1,14 +1,14 @@
 -- A CP message is a lawful field, and what is written is read back.
-use Rattle.std.proofs.Common.{◌≡◌, ℕ, ◌+◌, ◌*◌, ◌/◌, ◌%◌, ◌<◌, ◌==◌, Bool, true, false, cond, List, [], ◌∷◌, length, Ok, Err, refl, sym, ap, lit<, arith}
+use Rattle.std.proofs.Common.{◌≡◌, ℕ, ◌+◌, ◌*◌, ◌/◌, ◌%◌, ◌<◌, ◌==◌, Bool, true, false, cond, List, [], ◌∷◌, length, Ok, Err, refl, ap, lit<, arith}
 use Rattle.std.proofs.lemmas.Bool.{ne_eqb}
 use Rattle.sms_text.specs.Octets.{IsOctets}
 use Rattle.sms_field.specs.Bit.{bit}
-use Rattle.sms_field.specs.Field.{octet, IsLawful}
+use Rattle.sms_field.specs.Field.{octet, octet_by, IsLawful}
 use Rattle.sms_field.specs.ChainReading.{chained, ended}
 use Rattle.sms_field.specs.ChainLaws.{chain_lawful, chain_self_contained}
 use Rattle.sms_field.specs.SingleLaws.{always_self, always_lawful, octet_self, octet_lawful, octet_by_self, octet_by_lawful, octets_of_self, octets_of_lawful}
 use Rattle.sms_tpdu.specs.UnitLaws.{AreUnitLaws, laws_by}
-use Rattle.sms_relay.specs.Transaction.{transaction, transaction_octet}
+use Rattle.sms_relay.specs.Transaction.{transaction, transaction_octet, IsTransaction, SpellsTransaction}
 use Rattle.sms_relay.specs.CpKind.{cp_kind, kind_octet}
 use Rattle.sms_relay.specs.CpValue.{CpValue, IsCpBody, IsCpMessage}
 use Rattle.sms_relay.specs.Cp.{cp_body, cp_message, kind_of, cp_body_octets, cp_octets, SpellsCp}
@@ -119,3 +119,15 @@ cp_are_octets m fits = ((transaction_again m.flag m.value fits.value).small, (ki
 
 pub cp_laws : AreUnitLaws Short cp_message SpellsCp (λ _ _. Unit {0})
 cp_laws = laws_by Short cp_message IsCpMessage cp_octets cp_lawful cp_are_octets cp_again
+
+transaction_lawful : IsLawful Short (octet_by Short transaction)
+transaction_lawful = octet_by_lawful Short transaction (9, lit< tt, _, refl) transaction_apart
+
+transaction_is : (t : Transaction) → IsTransaction t → IsTransactionOctet t (transaction_octet t)
+transaction_is t fits = transaction_again t.flag t.value fits
+
+pub transaction_laws : AreUnitLaws Short (octet_by Short transaction) SpellsTransaction (λ _ _. Unit {0})
+transaction_laws =
+    laws_by Short (octet_by Short transaction) IsTransaction (λ t. transaction_octet t ∷ []) transaction_lawful
+    (λ t fits. ((transaction_is t fits).small, tt))
+    (λ t rest fits. (transaction_octet t, refl, (transaction_is t fits).again))

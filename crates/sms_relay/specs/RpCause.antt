@@ -1,5 +1,5 @@
 -- The cause of an RP-ERROR (3GPP TS 24.011, 8.2.5.4). Bit 7 of the cause octet is no part of the cause.
-use Rattle.std.specs.Prelude.{ℕ, ◌%◌, ◌<◌, ◌==◌, Bool, true, false, List, [], ◌∷◌, Option, Some, None, Result, Ok, Err, if◌then◌else◌}
+use Rattle.std.specs.Prelude.{◌≡◌, ℕ, ◌%◌, ◌<◌, ◌==◌, Bool, true, false, List, [], ◌∷◌, Option, Some, None, Result, Ok, Err, if◌then◌else◌}
 use Rattle.sms_field.specs.Field.{Field, ◌>>=◌, always, octet, octet_by}
 use Rattle.sms_relay.specs.declared.fault.RelayFault.{RelayFault}
 use Rattle.sms_relay.specs.declared.fault.RelayFault.TheVariants.{Short, BadCause}
@@ -38,3 +38,7 @@ IsDiagnostic (Some octet) = octet < 256
 
 abbrev pub IsCause : ℕ → Option ℕ → Type 0
 IsCause cause added = (cause < 128) × IsDiagnostic added
+
+-- how a cause is written, with its diagnostic
+abbrev pub SpellsCause : ℕ × Option ℕ → List ℕ → Type 0
+SpellsCause reason octets = IsCause reason.0 reason.1 × (octets ≡ cause_octets reason.0 reason.1)

@@ -13,13 +13,13 @@ use Rattle.sms_field.specs.RelayAddressValue.{RelayAddressValue, HasOptionalSpel
 use Rattle.sms_field.specs.RelayAddress.{relay_address, optional_address_octets}
 use Rattle.sms_field.specs.RelayAddressLaws.{relay_address_self, relay_address_lawful, relay_address_again, relay_address_are_octets}
 use Rattle.sms_field.specs.declared.fault.FieldFault.TheVariants as fields
-use Rattle.sms_tpdu.specs.UnitLaws.{AreUnitLaws}
+use Rattle.sms_tpdu.specs.UnitLaws.{AreUnitLaws, laws_by}
 use Rattle.sms_relay.specs.Fault.{relay_fault}
 use Rattle.sms_relay.specs.FaultLaws.{fault_apart}
 use Rattle.sms_field.specs.MappedLaws.{mapped_lawful}
 use Rattle.sms_relay.specs.RpKind.{type_of_bits, rp_type, type_octet}
-use Rattle.sms_relay.specs.RpUserData.{user_data, optional_user_data, user_data_tag, user_octets, optional_user_octets, IsUserData, IsOptionalUserData}
-use Rattle.sms_relay.specs.RpCause.{has_diagnostic, diagnostic, rp_cause, cause_octets, IsCause}
+use Rattle.sms_relay.specs.RpUserData.{user_data, optional_user_data, user_data_tag, user_octets, optional_user_octets, IsUserData, IsOptionalUserData, SpellsUserData, SpellsOptionalUserData}
+use Rattle.sms_relay.specs.RpCause.{has_diagnostic, diagnostic, rp_cause, cause_octets, IsCause, SpellsCause}
 use Rattle.sms_relay.specs.RpValue.{RpValue, IsRpBody, IsRpMessage}
 use Rattle.sms_relay.specs.Rp.{rp_data, rp_error, rp_body, rp_message, kind_of, rp_data_octets, rp_body_octets, rp_octets, SpellsRp, LacksUserData, MayFollowBody, MayFollow}
 use Rattle.sms_relay.specs.declared.side.Side.{Side}
@@ -236,3 +236,21 @@ rp_laws = record {
   octets = λ m l s. subst IsOctets (sym s.1) (rp_are_octets m s.0);
   again = λ m l more s follows. subst (λ (k : List ℕ). rp_message.reads m k more) (sym s.1) (rp_again m more s.0 follows);
 }
+
+-- ---- its parts
+
+pub user_data_laws : AreUnitLaws Short user_data SpellsUserData (λ _ _. Unit {0})
+user_data_laws = laws_by Short user_data IsUserData user_octets user_data_lawful user_are_octets user_data_again
+
+pub optional_user_data_laws : AreUnitLaws Short optional_user_data SpellsOptionalUserData LacksUserData
+optional_user_data_laws = record {
+  lawful = optional_lawful;
+  octets = λ user l s. subst IsOctets (sym s.1) (optional_are_octets user s.0);
+  again = λ user l more s follows. subst (λ (k : List ℕ). optional_user_data.reads user k more) (sym s.1) (optional_again user more s.0 follows);
+}
+
+pub cause_laws : AreUnitLaws Short rp_cause SpellsCause (λ _ _. Unit {0})
+cause_laws =
+    laws_by Short rp_cause (λ r. IsCause r.0 r.1) (λ r. cause_octets r.0 r.1) cause_lawful
+    (λ r fits. cause_are_octets r.0 r.1 fits)
+    (λ r rest fits. cause_again r.0 r.1 rest fits)

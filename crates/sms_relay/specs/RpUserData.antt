@@ -1,5 +1,5 @@
 -- RP-User data: a length octet and as many octets as it says, at most 233 (3GPP TS 24.011, 8.2.5.3).
-use Rattle.std.specs.Prelude.{ℕ, ◌≤◌, List, [], ◌∷◌, length, Option, Some, None}
+use Rattle.std.specs.Prelude.{◌≡◌, ℕ, ◌≤◌, List, [], ◌∷◌, length, Option, Some, None}
 use Rattle.sms_text.specs.Octets.{IsOctets}
 use Rattle.sms_field.specs.Field.{Field, ◌>>=◌, octet_by, octets_of, up_to}
 use Rattle.sms_field.specs.Optional.{tagged}
@@ -34,3 +34,11 @@ IsUserData user = (length user ≤ 233) × IsOctets user
 abbrev pub IsOptionalUserData : Option (List ℕ) → Type 0
 IsOptionalUserData None = Unit {0}
 IsOptionalUserData (Some user) = IsUserData user
+
+-- how user data are written
+abbrev pub SpellsUserData : List ℕ → List ℕ → Type 0
+SpellsUserData user octets = IsUserData user × (octets ≡ user_octets user)
+
+-- how user data that may be left out are written
+abbrev pub SpellsOptionalUserData : Option (List ℕ) → List ℕ → Type 0
+SpellsOptionalUserData user octets = IsOptionalUserData user × (octets ≡ optional_user_octets user)

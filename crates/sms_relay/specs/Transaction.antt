@@ -1,5 +1,5 @@
 -- The first octet of a CP message: protocol discriminator and transaction identifier (3GPP TS 24.011, 8.1.2). Bits are numbered from 0.
-use Rattle.std.specs.Prelude.{ℕ, ◌+◌, ◌*◌, ◌/◌, ◌%◌, ◌==◌, Result, Ok, Err, if◌then◌else◌}
+use Rattle.std.specs.Prelude.{◌≡◌, ℕ, ◌+◌, ◌*◌, ◌/◌, ◌%◌, ◌<◌, ◌==◌, List, [], ◌∷◌, Result, Ok, Err, if◌then◌else◌}
 use Rattle.sms_field.specs.Bit.{bit}
 use Rattle.sms_field.specs.Bit.{weight}
 use Rattle.sms_relay.specs.declared.transaction.Transaction.{Transaction}
@@ -18,3 +18,11 @@ transaction octet =
 -- as it is written
 abbrev pub transaction_octet : Transaction → ℕ
 transaction_octet t = weight 7 t.flag + 16 * t.value + 9
+
+-- what has a spelling
+abbrev pub IsTransaction : Transaction → Type 0
+IsTransaction t = t.value < 7
+
+-- how a transaction is written
+abbrev pub SpellsTransaction : Transaction → List ℕ → Type 0
+SpellsTransaction t octets = IsTransaction t × (octets ≡ transaction_octet t ∷ [])

@@ -1,5 +1,6 @@
 //! What follows from the definitions alone. Each function is empty: its contract is the law.
 
+ghost use Rattle.sms_field.specs.Field.{octet_by};
 ghost use Rattle.sms_field.specs.OneRefusal.{HasOneRefusal};
 ghost use Rattle.sms_field.specs.Reading.{Reads};
 ghost use Rattle.sms_field.specs.ReadValues.{Has};
@@ -9,8 +10,11 @@ ghost use Rattle.sms_relay.specs.Carried.{OneMessageIsCarried};
 ghost use Rattle.sms_relay.specs.Cp.{cp_message, SpellsCp};
 ghost use Rattle.sms_relay.specs.CpValue.{IsCpMessage};
 ghost use Rattle.sms_relay.specs.ReadOctets.{CpOctetsAre, RpOctetsAre};
-ghost use Rattle.sms_relay.specs.Rp.{rp_message, SpellsRp, MayFollow};
+ghost use Rattle.sms_relay.specs.Rp.{rp_message, SpellsRp, LacksUserData, MayFollow};
+ghost use Rattle.sms_relay.specs.RpCause.{rp_cause, SpellsCause};
+ghost use Rattle.sms_relay.specs.RpUserData.{user_data, optional_user_data, SpellsUserData, SpellsOptionalUserData};
 ghost use Rattle.sms_relay.specs.RpValue.{IsRpMessage};
+ghost use Rattle.sms_relay.specs.Transaction.{transaction, SpellsTransaction};
 ghost use Rattle.sms_relay.specs.Types.{TellsUnknownTypes, ReferenceIsSecond};
 ghost use Rattle.sms_relay.specs.declared.fault.RelayFault.TheVariants.{Short};
 
@@ -24,6 +28,16 @@ pub fn packets_carry_one_message()
 pub fn messages_are_fields()
     ensures cp { AreUnitLaws Short cp_message SpellsCp (λ _ _. Unit {0}) }
     ensures rp { AreUnitLaws Short rp_message SpellsRp MayFollow }
+{}
+
+/// The parts of messages are lawful fields, are written in octets, and are read back as written: the transaction, the
+/// cause of an error, and user data, which may be left out.
+pub fn parts_are_fields()
+    ensures transaction { AreUnitLaws Short (octet_by Short transaction)
+        SpellsTransaction (λ _ _. Unit {0}) }
+    ensures cause { AreUnitLaws Short rp_cause SpellsCause (λ _ _. Unit {0}) }
+    ensures user { AreUnitLaws Short user_data SpellsUserData (λ _ _. Unit {0}) }
+    ensures optional { AreUnitLaws Short optional_user_data SpellsOptionalUserData LacksUserData }
 {}
 
 /// An input is refused as a message at one place and for one reason.
