@@ -5,7 +5,7 @@ ghost use Rattle.std.specs.Str.{chars};
 ghost use Rattle.sms_join.specs.declared.units.Units.{Units as TheUnits};
 ghost use Rattle.sms_join.specs.declared.cut.SplitFault.TheVariants.{TooManySegments, Memory};
 ghost use Rattle.sms_join.specs.UnitsOfText.{IsText, units_of_text, numbers};
-ghost use Rattle.sms_join.specs.Cut.{IsParted, IsCut, HasOneCut};
+ghost use Rattle.sms_join.specs.Cut.{IsParted, IsCut};
 ghost use Rattle.sms_join.specs.Segments.{AreSegments};
 ghost use Rattle.sms_join.specs.SegmentsValue.{RiseTo, pieces_at};
 ghost use Rattle.sms_join.specs.SegmentUser.{IsSendable};
@@ -44,11 +44,6 @@ impl<T: Drop> From<AllocFailed<T>> for SplitFault {
         SplitFault::Memory
     }
 }
-
-/// A text has one cut into pieces, and no other.
-pub fn texts_have_one_cut()
-    ensures { HasOneCut }
-{}
 
 /// The units of a text: septets where each character has some, else 16-bit units.
 fn units_of(alloc: Global, text: &str) -> Result<Units, AllocError>

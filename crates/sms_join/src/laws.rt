@@ -1,13 +1,15 @@
-//! What holds of every joiner, whatever comes. Each function does nothing: its contract is the law.
+//! What holds of every joiner, whatever comes, and of every cut of a text. Each function is empty: its contract is the law.
 
 ghost use Rattle.sms_join.specs.Aging.{AgesAlike, SetsStayFew};
 ghost use Rattle.sms_join.specs.Completion.{CompletedAreWhole, CompleteInOrder};
 ghost use Rattle.sms_join.specs.Counts.{WholeByCount};
+ghost use Rattle.sms_join.specs.Cut.{HasOneCut};
 ghost use Rattle.sms_join.specs.Finishing.{AnswerFinishes, SameIsEquivalence};
 ghost use Rattle.sms_join.specs.History.{FinishesByHistory};
 ghost use Rattle.sms_join.specs.Joining.{JoinsInOrder, JoinsOne};
 ghost use Rattle.sms_join.specs.OpenTexts.{AgesOne, NewIsFresh, OpenSetsAreOpenTexts, StayApart, TurnsAway};
 ghost use Rattle.sms_join.specs.Pieces.{FinishesOnce, FinishesText};
+ghost use Rattle.sms_join.specs.Reading.{CutIsReadAsText};
 ghost use Rattle.sms_join.specs.Same.{AnswersAlike};
 
 /// The pieces of a message that are offered under its key finish it once, by the first offer with which all have come,
@@ -102,4 +104,14 @@ pub fn completed_texts_are_whole()
 /// One completed text stands before another just where its last missing piece came earlier.
 pub fn texts_complete_in_order()
     ensures { CompleteInOrder }
+{}
+
+/// A text has one cut into pieces, and no other.
+pub fn texts_have_one_cut()
+    ensures { HasOneCut }
+{}
+
+/// The pieces of a text, of either width and in order, are read as the text.
+pub fn cut_is_read_as_text()
+    ensures { CutIsReadAsText }
 {}

@@ -14,11 +14,12 @@ mod segments;
 mod slot;
 mod units;
 
-pub use cut::{SplitFault, cut_text, split, texts_have_one_cut};
+pub use cut::{SplitFault, cut_text, split};
 pub use joiner::Joiner;
 pub use key::Key;
+pub use laws::{cut_is_read_as_text, texts_have_one_cut};
 pub use offer::{Offer, OfferFault};
-pub use reading::{cut_is_read_as_text, read_units};
+pub use reading::read_units;
 pub use segment::{Segment, SegmentView, segment_user};
 pub use segments::Segments;
 pub use units::{Ucs2Units, Units};

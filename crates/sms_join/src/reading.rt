@@ -7,7 +7,7 @@ ghost use Rattle.std.specs.String.{string_bytes};
 ghost use Rattle.sms_text.specs.Bits.{AreSeptets};
 ghost use Rattle.sms_join.specs.UnitsOfText.{numbers};
 ghost use Rattle.sms_join.specs.Slots.{filled_with};
-ghost use Rattle.sms_join.specs.Reading.{CutIsReadAsText, is_gsm, is_ucs2, lent, text_of_units, text_of_segments};
+ghost use Rattle.sms_join.specs.Reading.{is_gsm, is_ucs2, lent, text_of_units, text_of_segments};
 
 use crate::units::Units;
 use sms_text::{text_of_gsm, text_of_ucs2};
@@ -17,15 +17,10 @@ use std::alloc::{AllocError, Global};
 const SEPTETS: usize = 160;
 
 /// As many 16-bit units as a message has room for.
-const WIDE_UNITS: usize = 70;
+const UCS2_UNITS: usize = 70;
 
 /// As many bytes as the text of a message takes at most: two for each septet, or three for each 16-bit unit.
 const BYTES: usize = 320;
-
-/// The pieces of a text, of either width and in order, are read as the text.
-pub fn cut_is_read_as_text()
-    ensures { CutIsReadAsText }
-{}
 
 /// The septets of all segments, where all have septets.
 fn joined_septets(alloc: Global, segments: &[&Units]) -> Result<Option<Vec<u8>>, AllocError>
@@ -45,13 +40,13 @@ fn joined_septets(alloc: Global, segments: &[&Units]) -> Result<Option<Vec<u8>>,
 }
 
 /// The 16-bit units of all segments, where all have such units.
-fn joined_wide_units(alloc: Global, segments: &[&Units]) -> Result<Option<Vec<u16>>, AllocError>
+fn joined_ucs2_units(alloc: Global, segments: &[&Units]) -> Result<Option<Vec<u16>>, AllocError>
     ensures { IfOk result (λ found. MatchOption found
         (list_all is_ucs2 (lent segments.now) ≡ false)
         (λ units. (list_all is_ucs2 (lent segments.now) ≡ true)
         × (units.items ≡ flat_map numbers (lent segments.now)))) }
 {
-    let mut joined = Vec::with_capacity(alloc, segments.len().saturating_mul(WIDE_UNITS))?;
+    let mut joined = Vec::with_capacity(alloc, segments.len().saturating_mul(UCS2_UNITS))?;
     for units in segments {
         let Units::Ucs2(units) = *units else {
             return Ok(None);
@@ -118,7 +113,7 @@ pub(crate) fn read_lent(alloc: Global, segments: &[&Units]) -> Result<String, Al
     if let Some(septets) = joined_septets(alloc, segments)? {
         return text_of_gsm(alloc, &septets);
     }
-    if let Some(units) = joined_wide_units(alloc, segments)? {
+    if let Some(units) = joined_ucs2_units(alloc, segments)? {
         return text_of_ucs2(alloc, &units);
     }
     joined_texts(alloc, segments)

@@ -1,5 +1,5 @@
 use Rattle.sms_join.proofs.ReadingLaws.{cut_read}
-use Rattle.sms_join.proofs.reading.cut_is_read_as_text.Goals as goal
+use Rattle.sms_join.proofs.laws.cut_is_read_as_text.Goals as goal
 
 pub returns : goal.returns
 returns c = cut_read

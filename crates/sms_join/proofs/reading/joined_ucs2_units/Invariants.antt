@@ -2,7 +2,7 @@ use Rattle.std.proofs.Common.{◌≡◌, ◌++◌, drop}
 use Rattle.std.specs.List.{flat_map, list_all}
 use Rattle.sms_join.specs.UnitsOfText.{numbers}
 use Rattle.sms_join.specs.Reading.{is_ucs2, lent}
-use Rattle.sms_join.proofs.reading.joined_wide_units.Given as goal
+use Rattle.sms_join.proofs.reading.joined_ucs2_units.Given as goal
 
 abbrev pub invariant-loop-units : goal.invariant-loop-units
 invariant-loop-units l =
