@@ -11,8 +11,12 @@ IsDecided f = (input : List ℕ) → IsOctets input → IsReadable (Reads f) inp
 
 -- what is refused at a place is not readable
 abbrev pub IsUnread : {V W : Type 0} → (V → List ℕ → ℕ → Type 0) → (List ℕ → ℕ → W → Type 0) → W → Type 0
-IsUnread {V} {W} reads reason short = (input : List ℕ) (place : ℕ) (why : W) → IsOctets input → IsRefused reads reason short input (At place why) → ¬ IsReadable reads input
+IsUnread {V} {W} reads reason short =
+    (input : List ℕ) (place : ℕ) (why : W) → IsOctets input
+    → IsRefused reads reason short input (At place why) → ¬ IsReadable reads input
 
 -- a value and the octets that it took are the only ones
 abbrev pub HasOneReading : {V W : Type 0} → Field V W → Type 0
-HasOneReading {V} f = (v w : V) (input : List ℕ) (m n : ℕ) → IsOctets input → Reads f v input m → Reads f w input n → (w ≡ v) × (n ≡ m)
+HasOneReading {V} f =
+    (v w : V) (input : List ℕ) (m n : ℕ) → IsOctets input
+    → Reads f v input m → Reads f w input n → (w ≡ v) × (n ≡ m)

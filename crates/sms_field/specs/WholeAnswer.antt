@@ -12,7 +12,9 @@ IsRefusedBy field short input refusal = IsRefused (Reads field) field.reason sho
 
 -- an input that has a reading is read as it, or refused for want of memory
 abbrev pub ReadsExactly : {V W : Type 0} → Field V W → List ℕ → Result (V × ℕ) (Refusal W) → Type 0
-ReadsExactly {V} field input result = (v : V) (n : ℕ) → Reads field v input n → MatchResult result (λ x. (x.0 ≡ v) × (x.1 ≡ n)) (λ e. e ≡ Memory)
+ReadsExactly {V} field input result =
+    (v : V) (n : ℕ) → Reads field v input n
+    → MatchResult result (λ x. (x.0 ≡ v) × (x.1 ≡ n)) (λ e. e ≡ Memory)
 
 -- ---- readers that take no memory
 
@@ -22,4 +24,6 @@ IsFaultOf field short input fault = IsRefused (Reads field) field.reason short i
 
 -- an input that has a reading is read as it
 abbrev pub SeesExactly : {X V W : Type 0} → (X → V) → Field V W → List ℕ → Result (X × ℕ) (Fault W) → Type 0
-SeesExactly {X} {V} view field input result = (v : V) (n : ℕ) → Reads field v input n → MatchResult result (λ x. (view x.0 ≡ v) × (x.1 ≡ n)) (λ _. ⊥)
+SeesExactly {X} {V} view field input result =
+    (v : V) (n : ℕ) → Reads field v input n
+    → MatchResult result (λ x. (view x.0 ≡ v) × (x.1 ≡ n)) (λ _. ⊥)

@@ -58,7 +58,17 @@ deliver = do
   stamp ← time.stamp Short
   -- TP-UDL and TP-UD
   user ← user_data flags.header (alphabet_at dcs)
-  always (record { more = flags.more; looped = flags.looped; report = flags.report; reply = flags.reply; origin = origin; pid = pid; dcs = dcs; stamp = stamp; user = user })
+  always (record {
+    more = flags.more;
+    looped = flags.looped;
+    report = flags.report;
+    reply = flags.reply;
+    origin = origin;
+    pid = pid;
+    dcs = dcs;
+    stamp = stamp;
+    user = user;
+  })
 
 abbrev pub flags_in : Delivery → DeliverFlags
 flags_in d = record { more = d.more; looped = d.looped; report = d.report; header = has_header d.user; reply = d.reply }

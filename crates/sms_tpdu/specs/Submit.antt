@@ -63,7 +63,17 @@ submit = do
   period ← validity flags.format
   -- TP-UDL and TP-UD
   user ← user_data flags.header (alphabet_at dcs)
-  always (record { reject = flags.reject; validity = period; report = flags.report; reply = flags.reply; reference = reference; target = target; pid = pid; dcs = dcs; user = user })
+  always (record {
+    reject = flags.reject;
+    validity = period;
+    report = flags.report;
+    reply = flags.reply;
+    reference = reference;
+    target = target;
+    pid = pid;
+    dcs = dcs;
+    user = user;
+  })
 
 abbrev pub flags_in : Submission → SubmitFlags
 flags_in s = record { reject = s.reject; format = format_of s.validity; report = s.report; header = has_header s.user; reply = s.reply }
@@ -73,4 +83,6 @@ pub record SpellsSubmit (s : Submission) (octets : List ℕ) : Type 0 where
   pub submittable : IsSubmittable s
   pub written : List ℕ
   pub user : SpellsUserData s.user written
-  pub parts : octets ≡ submit_octet (flags_in s) ∷ s.reference ∷ (address_octets s.target ++ (s.pid ∷ s.dcs ∷ (validity_octets s.validity ++ written)))
+  pub parts : octets
+      ≡ submit_octet (flags_in s) ∷ s.reference
+      ∷ (address_octets s.target ++ (s.pid ∷ s.dcs ∷ (validity_octets s.validity ++ written)))
