@@ -74,7 +74,8 @@ NoneDropped open_max remembered j k (Ages now ∷ acts) =
 
 -- The pieces of a message are offered under its key in any order, with repeats, and with other offers and agings between.
 -- By this offer, and by none before it, all pieces have come.
-pub record ComeAll (open_max remembered : ℕ) (j : Joiner) (k : Key) (pieces : List Units) (after : List (Act Piece)) (p : Piece) (before : List (Act Piece)) : Type 0 where
+pub record ComeAll (open_max remembered : ℕ) (j : Joiner) (k : Key) (pieces : List Units)
+    (after : List (Act Piece)) (p : Piece) (before : List (Act Piece)) : Type 0 where
   -- at first the key is neither open nor remembered
   pub not_open : is_open j.kept k ≡ false
   pub not_remembered : is_among j.finished k ≡ false

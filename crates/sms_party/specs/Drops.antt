@@ -26,11 +26,15 @@ abbrev pub SendsOrDrops : {S : Type 0} → Sends S → Type 0
 SendsOrDrops d = (why : Dropped) → d.answer ≡ Err why → d.put ≡ []
 
 pub record DropsPutNothingOut : Type 0 where
-  pub centre_receives : (limit : ℕ) (phones : List AddressValue) (c : CentreState) (now phone : ℕ) (message : Message) (origin : Option Origin) → DoesOrDrops (centre.centre_receives limit phones c now phone message origin)
+  pub centre_receives : (limit : ℕ) (phones : List AddressValue) (c : CentreState) (now phone : ℕ) (message : Message) (origin : Option Origin)
+      → DoesOrDrops (centre.centre_receives limit phones c now phone message origin)
   pub centre_pushes : (phones : List AddressValue) (c : CentreState) (now phone : ℕ) → DoesOrDrops (pushes.centre_pushes phones c now phone)
-  pub composes : (x : SenderState) (phone : ℕ) (target : AddressValue) (characters : List ℕ) (pieces : List Units) → SendsOrDrops (calls.composes x phone target characters pieces)
+  pub composes : (x : SenderState) (phone : ℕ) (target : AddressValue) (characters : List ℕ) (pieces : List Units)
+      → SendsOrDrops (calls.composes x phone target characters pieces)
   pub times_out : (x : SenderState) (phone : ℕ) → SendsOrDrops (calls.times_out x phone)
   pub sender_takes : (x : SenderState) (phone : ℕ) (message : Message) → SendsOrDrops (answers.sender_takes x phone message)
   pub sender_receives : (x : SenderState) (phone : ℕ) (tag : Tag) (relay : Relay) → SendsOrDrops (answers.sender_receives x phone tag relay)
-  pub receiver_receives : (limits : ReceiverLimits) (s : ReceiverState) (now : ℕ) (message : Message) (origin : Option Origin) → DoesOrDrops (receiver.receiver_receives limits s now message origin)
-  pub receiver_opened : (limits : ReceiverLimits) (s : ReceiverState) (now : ℕ) (tag : Tag) (relay : Relay) (origin : Option Origin) → DoesOrDrops (receiver.receiver_opened limits s now tag relay origin)
+  pub receiver_receives : (limits : ReceiverLimits) (s : ReceiverState) (now : ℕ) (message : Message) (origin : Option Origin)
+      → DoesOrDrops (receiver.receiver_receives limits s now message origin)
+  pub receiver_opened : (limits : ReceiverLimits) (s : ReceiverState) (now : ℕ) (tag : Tag) (relay : Relay) (origin : Option Origin)
+      → DoesOrDrops (receiver.receiver_opened limits s now tag relay origin)

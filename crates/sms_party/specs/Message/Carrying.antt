@@ -42,7 +42,9 @@ SpellsReport _ _ _ _ = ⊥
 abbrev pub Carries : List ℕ → Message → Type 0
 Carries packet (Note flag value) = carried.Carries flag value carried.acknowledgement packet
 Carries packet (Data flag tag (Transfer side unit)) =
-    (octets : List ℕ) × SpellsUnit side unit octets × carried.Carries flag tag.value (carried.transfer side tag.reference (Some centre_address) octets) packet
+    (octets : List ℕ) × SpellsUnit side unit octets
+    × carried.Carries flag tag.value (carried.transfer side tag.reference (Some centre_address) octets) packet
 Carries packet (Data flag tag (Answer side cause report)) =
-    (octets : Option (List ℕ)) × SpellsReport side cause report octets × carried.Carries flag tag.value (carried.answer side tag.reference cause octets) packet
+    (octets : Option (List ℕ)) × SpellsReport side cause report octets
+    × carried.Carries flag tag.value (carried.answer side tag.reference cause octets) packet
 Carries packet _ = ⊥
