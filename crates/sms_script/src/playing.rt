@@ -20,6 +20,7 @@ use crate::playing::lines::play_lines;
 use crate::playing::start::started;
 use crate::script::Script;
 pub use network::Network;
+pub use next_line::Next;
 use std::alloc::Global;
 
 /// Plays the script that a source gives, and writes its transcript into a sink.

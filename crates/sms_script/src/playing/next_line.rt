@@ -12,14 +12,14 @@ use crate::lines::{LineEnd, LineFault, read_line};
 /// The greatest number of lines.
 const LINES_LIMIT: u64 = 100_000;
 
-/// The next line of a script.
+/// What a script has next, after the lines that were read.
 #[derive(Clone, Copy, Debug, PartialEq, Eq)]
 pub enum Next {
     /// A line with its line feed.
     Line,
     /// The last line, without one.
     Last,
-    /// There is none.
+    /// No line.
     End,
 }
 
