@@ -1,5 +1,5 @@
 -- What the centre holds after an acceptance.
-use Rattle.std.proofs.Common.{◌≡◌, ◌≢◌, ℕ, suc, ◌+◌, ◌<◌, max, Bool, true, false, cond, nat_lt, List, [], ◌∷◌, ◌++◌, Some, refl, sym, ap, ◌∙◌, subst, arith}
+use Rattle.std.proofs.Common.{◌≡◌, ◌≢◌, ℕ, suc, ◌+◌, ◌<◌, max, Bool, true, false, cond, nat_lt, List, [], ◌∷◌, ◌++◌, length, Some, refl, sym, ap, ◌∙◌, subst, arith}
 use Rattle.std.specs.Prelude.{◌==◌, ◌&&◌, ◌||◌}
 use Rattle.std.specs.List.{slice_get}
 use Rattle.std.proofs.Math.ListN.{set}
@@ -9,12 +9,14 @@ use Rattle.sms_party.specs.Address.{address_of}
 use Rattle.sms_party.specs.Centre.State.{Acceptance, CentreState}
 use Rattle.sms_party.specs.Centre.Held.{unended, next_stamp}
 use Rattle.sms_party.specs.Centre.Submissions.{after_acceptance, accept}
-use Rattle.sms_party.specs.Centre.Value.{CentreValue, LineValue, WaitingValue, addresses, HeldValue}
+use Rattle.sms_party.specs.declared.centre.held.Ending.{Ending}
+use Rattle.sms_party.specs.Centre.Value.{CentreValue, LineValue, WaitingValue, addresses, HeldValue, endings_after}
 use Rattle.sms_party.specs.Centre.Lines.{accepting_line, ChangesLine}
 use Rattle.sms_party.specs.Centre.Kept.{free_at, key_of, is_kept, HoldsAlso}
 use Rattle.sms_party.specs.Centre.Standing.{HeldStands, waiting_of, waiting_in, LineStands, StandsFor}
 use Rattle.sms_party.proofs.Lines.{set_stands, addresses_set, waiting_end, free_is}
 use Rattle.sms_party.proofs.Keys.{key_parts}
+use Rattle.sms_party.proofs.Holdings.{put_all, one_more}
 
 unended_step : (x : Acceptance) (queue : List Acceptance) (a : Acceptance) (now : ℕ) (b : Bool) → unended (queue ++ a ∷ []) now ≡ unended queue now ++ a ∷ []
     → cond b (x ∷ unended (queue ++ a ∷ []) now) (unended (queue ++ a ∷ []) now) ≡ cond b (x ∷ unended queue now) (unended queue now) ++ a ∷ []
@@ -45,22 +47,30 @@ stamp_free : (w : WaitingValue) (a : Acceptance) (origin : AddressValue) → w �
 stamp_free w a origin e = sym (ap (λ (x : WaitingValue). x.stamp + 1) e)
 
 -- one message more is held
-also_stands : (now : ℕ) (accepted : List Acceptance) (old new : HeldValue) (a : Acceptance) → nat_lt now a.ends ≡ true → HeldStands now accepted old
-    → HoldsAlso old (key_of a.phone a.submission.reference a.recipient) a.ends new → HeldStands now (a ∷ accepted) new
-also_stands now accepted old new a e s h = record {
-  ends = h.ends ∙ (ap (λ (l : List ℕ). l ++ a.ends ∷ []) s.ends ∙ rw e refl);
+count_also : (a : Acceptance) (past : List Acceptance) (at n : ℕ) (b : Bool) → n ≡ length (unended past at) → cond b (suc n) n ≡ length (cond b (a ∷ unended past at) (unended past at))
+count_also a past at n true e = ap suc e
+count_also a past at n false e = e
+
+abbrev pub ending_in : Acceptance → Ending
+ending_in a = record { end = a.ends; recipient = a.recipient; stamp = a.stamp }
+
+also_stands : (now : ℕ) (accepted : List Acceptance) (old new : HeldValue) (a : Acceptance) → now < a.ends → HeldStands now accepted old
+    → HoldsAlso old (key_of a.phone a.submission.reference a.recipient) (ending_in a) new → HeldStands now (a ∷ accepted) new
+also_stands now accepted old new a lives s h = record {
+  left = put_all (λ e. now < e.end) (ending_in a) old.endings new.endings h.endings s.left lives;
+  count = λ at le. one_more at (ending_in a) old.endings new.endings (nat_lt at a.ends) refl h.endings
+      ∙ count_also a accepted at (length (endings_after at old.endings)) (nat_lt at a.ends) (s.count at le);
   kept = λ phone reference recipient at le.
       h.kept (key_of phone reference recipient) at
       ∙ (ap (λ b. (nat_lt at a.ends && b) || is_kept old.last (key_of phone reference recipient) at) (key_parts (key_of a.phone a.submission.reference a.recipient) (key_of phone reference recipient))
       ∙ ap (λ b. (nat_lt at a.ends && (a.phone == phone && (a.submission.reference == reference && a.recipient == recipient))) || b) (s.kept phone reference recipient at le));
-  apart = h.apart;
 }
 
 module _ (limit : ℕ) (phones : List AddressValue) (now : ℕ) (v : CentreValue) (c : CentreState) (s : StandsFor limit phones now v c) (a : Acceptance) where
   pub accepted_stands : (held : HeldValue) (line new : LineValue) (w : WaitingValue)
       → slice_get v.lines a.recipient ≡ Some line
       → a.stamp ≡ max (free_at v.lines a.recipient) now → now < a.ends
-      → HoldsAlso v.held (key_of a.phone a.submission.reference a.recipient) a.ends held
+      → HoldsAlso v.held (key_of a.phone a.submission.reference a.recipient) (ending_in a) held
       → new ≡ accepting_line line w → w ≡ record { origin = address_of (addresses v.lines) a.phone; submission = a.submission; stamp = a.stamp; ends = a.ends }
       → StandsFor limit phones now (record { limit = v.limit; held = held; lines = set v.lines a.recipient new }) (accept c a)
   accepted_stands held line new w there stamp lives holds is waits =
@@ -71,7 +81,7 @@ module _ (limit : ℕ) (phones : List AddressValue) (now : ℕ) (v : CentreValue
       record {
         limit_is = s.limit_is;
         phones_are = addresses_set v.lines a.recipient line new there (ap (λ (l : LineValue). l.address) is) ∙ s.phones_are;
-        held_stand = also_stands now c.accepted v.held held a e s.held_stand holds;
+        held_stand = also_stands now c.accepted v.held held a lives s.held_stand holds;
         lines_stand = set_stands phones now (a ∷ c.accepted) c.line v.lines a.recipient new (after_acceptance (c.line a.recipient) a)
             (λ r l at apart. let x = s.lines_stand r l at in record {
               queue = x.queue;

@@ -1,55 +1,26 @@
 -- What the centre keeps of the histories, from one moment to a later one.
-use Rattle.std.proofs.Common.{◌≡◌, ℕ, ◌≤◌, Bool, true, false, cond, nat_lt, List, [], ◌∷◌, ◌++◌, map, length, Option, Some, None, refl, sym, ap, ◌∙◌, subst, arith, zero, suc, take, drop}
-use Rattle.std.specs.List.{slice_get, filter}
+use Rattle.std.proofs.Common.{◌≡◌, ℕ, ◌≤◌, ◌<◌, Bool, true, false, cond, nat_lt, List, [], ◌∷◌, map, length, Some, refl, sym, ap, ◌∙◌, subst, arith, zero, suc}
+use Rattle.std.specs.Prelude.{All}
+use Rattle.std.specs.List.{slice_get}
 use Rattle.std.proofs.lemmas.Bool.Decides.{nat_tests}
-use Rattle.std.proofs.lemmas.List.Elements.{filter-append}
-use Rattle.std.proofs.lemmas.List.{append-nil, take_all, drop_all}
-use Rattle.std.specs.List.{IsDistinct}
-use Rattle.std.specs.Map.{keys_of, lookup}
-use Rattle.std.proofs.lemmas.Map.Entries.{option_filter, lookup-filter-values}
 use Rattle.sms_field.specs.AddressValue.{AddressValue}
+use Rattle.sms_party.specs.declared.centre.held.Ending.{Ending}
 use Rattle.sms_party.specs.Centre.State.{Acceptance, Line, CentreState}
 use Rattle.sms_party.specs.Centre.Held.{unended}
-use Rattle.sms_party.specs.declared.centre.held.HeldKey.{HeldKey}
-use Rattle.sms_party.specs.Centre.Kept.{key_of, ends_after, is_kept, IsHeldLater}
-use Rattle.sms_party.proofs.Keys.{key_laws}
-use Rattle.sms_party.specs.Centre.Value.{LineValue, CentreValue, waiting_at, line_at, addresses, HeldValue, key_eq}
-use Rattle.sms_party.specs.Centre.Standing.{waiting_in, LineStands, StandsFor, ends_in, HeldStands}
+use Rattle.sms_party.specs.Centre.Kept.{key_of, IsHeldLater}
+use Rattle.sms_party.specs.Centre.Value.{LineValue, CentreValue, waiting_at, line_at, addresses, HeldValue, endings_after}
+use Rattle.sms_party.specs.Centre.Standing.{waiting_in, LineStands, StandsFor, HeldStands}
+use Rattle.sms_party.proofs.Holdings.{endings_left, endings_later}
 
 -- what has not ended at a moment had not ended before
 later : (clock now ends : ℕ) → clock ≤ now → nat_lt now ends ≡ true → nat_lt clock ends ≡ true
 later clock now ends le h = grind (arith, nat_tests)
 
-held_one : (a : Acceptance) (past : List Acceptance) (clock now : ℕ) (b d : Bool) → nat_lt clock a.ends ≡ b → nat_lt now a.ends ≡ d → clock ≤ now
-    → filter (nat_lt now) (ends_in past clock) ≡ ends_in past now
-    → filter (nat_lt now) (cond b (ends_in past clock ++ a.ends ∷ []) (ends_in past clock)) ≡ cond d (ends_in past now ++ a.ends ∷ []) (ends_in past now)
-held_one a past clock now true true e f le ih = rw (filter-append, ih, f) refl
-held_one a past clock now true false e f le ih = rw (filter-append, ih, f) (append-nil (ends_in past now))
-held_one a past clock now false true e f le ih = let q : true ≡ false = sym (later clock now a.ends le f) ∙ e in absurd cc
-held_one a past clock now false false e f le ih = ih
-
-ends_later : (accepted : List Acceptance) (clock now : ℕ) → clock ≤ now → filter (nat_lt now) (ends_in accepted clock) ≡ ends_in accepted now
-ends_later [] clock now le = refl
-ends_later (a ∷ past) clock now le = held_one a past clock now (nat_lt clock a.ends) (nat_lt now a.ends) refl refl le (ends_later past clock now le)
-
--- what ends later than a moment ends later than one before
-still_by : (now at end : ℕ) (b : Bool) → nat_lt now end ≡ b → now ≤ at → ends_after at (cond b (Some end) None) ≡ nat_lt at end
-still_by now at end true e le = refl
-still_by now at end false e le = let q : nat_lt at end ≡ false = grind (arith, nat_tests) in sym q
-
-still : (now at : ℕ) (o : Option ℕ) → now ≤ at → ends_after at (option_filter (nat_lt now) o) ≡ ends_after at o
-still now at None le = refl
-still now at (Some end) le = still_by now at end (nat_lt now end) refl le
-
-pub kept_later : (last : List (HeldKey × ℕ)) (key : HeldKey) (now at : ℕ) → IsDistinct key_eq (keys_of last) → now ≤ at → is_kept (filter (λ e. nat_lt now e.1) last) key at ≡ is_kept last key at
-kept_later last key now at apart le =
-    ap (ends_after at) (lookup-filter-values key_laws (nat_lt now) key last apart) ∙ still now at (lookup (key_eq key) last) le
-
 pub held_later : (clock now : ℕ) (accepted : List Acceptance) (v w : HeldValue) → clock ≤ now → IsHeldLater now v w → HeldStands clock accepted v → HeldStands now accepted w
 held_later clock now accepted v w le h s = record {
-  ends = h.ends ∙ (ap (filter (nat_lt now)) s.ends ∙ ends_later accepted clock now le);
+  left = subst (λ (l : List Ending). All (λ e. now < e.end) l) (sym h.endings) (endings_left now v.endings);
+  count = λ at later. ap (λ (l : List Ending). length (endings_after at l)) h.endings ∙ (ap (λ (l : List Ending). length l) (endings_later now at v.endings later) ∙ s.count at (omega (arith, le, later)));
   kept = λ phone reference recipient at later. h.kept (key_of phone reference recipient) at later ∙ s.kept phone reference recipient at (omega (arith, le, later));
-  apart = h.apart;
 }
 
 waiting_one : (phones : List AddressValue) (a : Acceptance) (queue : List Acceptance) (clock now : ℕ) (b d : Bool) → nat_lt clock a.ends ≡ b → nat_lt now a.ends ≡ d → clock ≤ now
@@ -99,7 +70,3 @@ stands_later limit phones clock now v held c le h s = record {
       subst (λ (x : LineValue). LineStands phones now c.accepted r x (c.line r)) (sym h.left)
       (line_later phones clock now c.accepted r h.before (c.line r) le (s.lines_stand r h.before h.is_there));
 }
-
--- the lines after all of them were reached
-pub all_mapped : (now : ℕ) (before lines : List LineValue) (i : ℕ) → length before ≤ i → lines ≡ map (line_at now) (take i before) ++ drop i before → lines ≡ map (line_at now) before
-all_mapped now before lines i le e = e ∙ rw (take_all, drop_all) (append-nil (map (line_at now) before))

@@ -1,10 +1,10 @@
 -- Keys of held messages are equal just where their parts are.
-use Rattle.std.proofs.Common.{◌≡◌, ℕ, Bool, true, false, ◌&&◌, List, refl, arith}
+use Rattle.std.proofs.Common.{◌≡◌, ℕ, Bool, true, false, ◌&&◌, refl, arith}
 use Rattle.std.specs.Prelude.{◌==◌}
 use Rattle.std.specs.Cmp.{IsEquivalence}
 use Rattle.std.proofs.lemmas.Cmp.{nat_eq_equiv, on_equiv, and_equiv}
 use Rattle.std.proofs.lemmas.Bool.Decides.{nat_tests}
-use Rattle.sms_party.specs.Centre.Value.{HeldValue, key_eq}
+use Rattle.sms_party.specs.Centre.Value.{key_eq}
 use Rattle.sms_party.specs.declared.centre.held.HeldKey.{HeldKey}
 
 pub key_laws : IsEquivalence key_eq
@@ -28,6 +28,3 @@ same_key a b e =
     let h = both (a.phone == b.phone) (a.reference == b.reference && a.recipient == b.recipient) e in
     let k = both (a.reference == b.reference) (a.recipient == b.recipient) h.1 in
     keys a.phone a.reference a.recipient b.phone b.reference b.recipient (same_number _ _ h.0) (same_number _ _ k.0) (same_number _ _ k.1)
-
-pub held_same : (ends other : List ℕ) (last more : List (HeldKey × ℕ)) → ends ≡ other → last ≡ more → ◌≡◌ {A = HeldValue} (record { ends = ends; last = last }) (record { ends = other; last = more })
-held_same ends other last more p q = cc

@@ -1,4 +1,5 @@
 pub mod Keys
+pub mod HeldMaps
 pub mod Keeping
 pub mod Lines
 pub mod Queues
@@ -27,7 +28,7 @@ pub mod SenderStatus
 pub mod SenderSteps
 pub mod Few
 pub mod Drops
-pub mod Earliest
+pub mod Holdings
 pub mod SameAddresses
 pub mod DeliveryKeys
 pub mod Ended

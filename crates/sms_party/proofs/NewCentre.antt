@@ -1,12 +1,11 @@
 -- A new centre stands for the first state.
-use Rattle.std.proofs.Common.{◌≡◌, ℕ, zero, suc, List, [], ◌∷◌, map, Some, None, refl, sym, ap, ◌∙◌, subst, arith}
+use Rattle.std.proofs.Common.{◌≡◌, ℕ, ◌<◌, zero, suc, List, [], ◌∷◌, map, Some, None, refl, sym, ap, ◌∙◌, subst, arith}
 use Rattle.std.specs.List.{slice_get}
-use Rattle.std.specs.List.{IsDistinct}
-use Rattle.std.specs.Map.{keys_of}
+use Rattle.std.proofs.lemmas.List.Elements.{All-nil}
 use Rattle.sms_field.specs.AddressValue.{AddressValue}
 use Rattle.sms_party.specs.Centre.State.{new_centre}
-use Rattle.sms_party.specs.Centre.Value.{LineValue, addresses, key_eq}
-use Rattle.sms_party.specs.declared.centre.held.HeldKey.{HeldKey}
+use Rattle.sms_party.specs.Centre.Value.{LineValue, addresses}
+use Rattle.sms_party.specs.declared.centre.held.Ending.{Ending}
 use Rattle.sms_party.specs.Centre.Lines.{new_line}
 use Rattle.sms_party.specs.Centre.Standing.{LineStands, StandsFor}
 
@@ -23,15 +22,11 @@ new_stands (a ∷ phones) all clock r zero line e =
     (record { queue = refl; free = λ now. omega arith; value = refl; reference = refl; latest = refl })
 new_stands (a ∷ phones) all clock r (suc n) line e = new_stands phones all clock r n line e
 
-none_apart : IsDistinct key_eq (keys_of {K = HeldKey} {X = ℕ} [])
-unfolding IsDistinct
-none_apart = tt
-
-pub new_centre_stands : (limit : ℕ) (phones : List AddressValue) (lines : List LineValue) → lines ≡ map new_line phones → (clock : ℕ) → StandsFor limit phones clock (record { limit = limit; held = record { ends = []; last = [] }; lines = lines }) new_centre
+pub new_centre_stands : (limit : ℕ) (phones : List AddressValue) (clock : ℕ) → StandsFor limit phones clock (record { limit = limit; held = record { endings = []; last = [] }; lines = map new_line phones }) new_centre
 unfolding new_centre
-new_centre_stands limit phones lines is clock = record {
+new_centre_stands limit phones clock = record {
   limit_is = refl;
-  phones_are = ap addresses is ∙ new_addresses phones;
-  held_stand = record { ends = refl; kept = λ phone reference recipient now le. refl; apart = none_apart };
-  lines_stand = λ r line e. new_stands phones phones clock r r line (subst (λ (l : List LineValue). slice_get l r ≡ Some line) is e);
+  phones_are = new_addresses phones;
+  held_stand = record { left = All-nil (λ (e : Ending). clock < e.end); count = λ now le. refl; kept = λ phone reference recipient now le. refl };
+  lines_stand = λ r line e. new_stands phones phones clock r r line e;
 }

@@ -1,5 +1,5 @@
 -- A push at one line is a push of the machine.
-use Rattle.std.proofs.Common.{◌≡◌, ℕ, zero, suc, ◌+◌, ◌%◌, Bool, false, List, [], ◌∷◌, Some, Result, Ok, Err, refl, sym, ap, ◌∙◌, subst, arith, ◌<◌, get_or, length, drop, take, ◌++◌, nat_lt}
+use Rattle.std.proofs.Common.{◌≡◌, ℕ, zero, suc, ◌+◌, ◌%◌, Bool, false, List, [], ◌∷◌, Some, Result, Ok, Err, refl, sym, ap, ◌∙◌, subst, arith, length, nat_lt}
 use Rattle.std.proofs.lemmas.Bool.Decides.{nat_tests}
 use Rattle.std.specs.List.{slice_get}
 use Rattle.std.proofs.Math.ListN.{set}
@@ -108,32 +108,22 @@ address_from line new (m ∷ others) (Ok step) h = ap (λ (l : LineValue). l.add
 pub pushed_address : (line new : LineValue) (r : Result Step Dropped) → LinePushes line r new → new.address ≡ line.address
 pushed_address line new r h = address_from line new line.queue r h
 
--- ---- the code's push, which moves the first of the queue to its end
+-- ---- the code's push
 
 more_are : (others : List WaitingValue) → nat_lt 1 (suc (length others)) ≡ is_more others
 more_are [] = refl
 more_are (m ∷ others) = grind (arith, nat_tests)
 
--- the line when the first of its queue, which is this message, was moved to its end
-abbrev pub rotated_line : LineValue → List WaitingValue → WaitingValue → LineValue
-rotated_line line queue m =
-    record line {
-      queue = drop 1 queue ++ take 1 queue;
-      value = (line.value + 1) % 7;
-      reference = (line.reference + 1) % 256;
-      latest = Some (record { value = line.value; reference = line.reference; stamp = m.stamp; ends = m.ends });
-    }
-
-pub pushed_from : (line new : LineValue) (queue : List WaitingValue) (m : WaitingValue) (more : Bool) (step : Step) → 0 < length queue → m ≡ get_or queue 0 m → more ≡ nat_lt 1 (length queue) → step.outcome ≡ Pushed
+-- the first message of the queue is put out, and goes to its end
+pub pushed_from : (line new : LineValue) (queue : List WaitingValue) (m : WaitingValue) (others : List WaitingValue) (more : Bool) (step : Step) → queue ≡ m ∷ others → more ≡ nat_lt 1 (suc (length others)) → step.outcome ≡ Pushed
     → CarriesEach (packets_of step) (Data false (tag_in line) (Transfer ToPhone (Deliver (delivery_of m more))) ∷ [])
-    → new ≡ rotated_line line queue m → PushesFrom line queue (Ok step) new
-pushed_from line new [] m more step some at is pushed carries after = absurd (omega (arith, some))
-pushed_from line new (x ∷ others) m more step some at is pushed carries after = (
-  pushed,
-  subst (λ (y : WaitingValue). CarriesEach (packets_of step) (Data false (tag_in line) (Transfer ToPhone (Deliver (delivery_of y (is_more others)))) ∷ [])) at
-      (subst (λ (b : Bool). CarriesEach (packets_of step) (Data false (tag_in line) (Transfer ToPhone (Deliver (delivery_of m b))) ∷ [])) (is ∙ more_are others) carries),
-  subst (λ (y : WaitingValue). new ≡ pushed_line line y others) at (after ∙ ap (λ (y : WaitingValue). rotated_line line (y ∷ others) m) (sym at)),
-)
+    → new ≡ pushed_line line m others → PushesFrom line queue (Ok step) new
+pushed_from line new queue m others more step is more_is pushed carries after =
+    subst (λ (q : List WaitingValue). PushesFrom line q (Ok step) new) (sym is) (
+      pushed,
+      subst (λ (b : Bool). CarriesEach (packets_of step) (Data false (tag_in line) (Transfer ToPhone (Deliver (delivery_of m b))) ∷ [])) (more_is ∙ more_are others) carries,
+      after,
+    )
 
 -- the lines keep their addresses
 pub pushed_phones : (phone : ℕ) (old new : List LineValue) (r : Result Step Dropped) → ChangesLine phone old new (λ line new. LinePushes line r new) → addresses new ≡ addresses old

@@ -1,250 +1,281 @@
--- A queue in two parts: what an acceptance, a push, an answer and the clock make of it.
-use Rattle.std.proofs.Common.{◌≡◌, ◌≢◌, ℕ, zero, suc, ◌+◌, ◌<◌, ◌≤◌, ◌-◌, Bool, true, false, not, cond, List, [], ◌∷◌, ◌++◌, take, drop, get_or, length, Option, Some, None, refl, sym, ap, ◌∙◌, subst, arith}
-use Rattle.std.specs.Prelude.{All, ◌==◌}
-use Rattle.std.specs.List.{slice_get, filter}
+-- A queue by its stamps: what an acceptance, a push, an answer and the end of a message make of it.
+use Rattle.std.proofs.Common.{◌^◌, ◌≡◌, ℕ, suc, ◌+◌, ◌<◌, ◌≤◌, ◌-◌, Bool, true, false, not, nat_lt, nat_eq, List, [], ◌∷◌, ◌++◌, map, reverse, take, get_or, length, Option, Some, None, refl, sym, ap, ◌∙◌, subst, arith}
+use Rattle.std.specs.Prelude.{All, ◌==◌, ◌||◌}
+use Rattle.std.specs.Cmp.{nat_eq_equiv}
+use Rattle.std.specs.List.{AllByRecursion, IsDistinct, filter}
+use Rattle.std.specs.Map.{keys_of, lookup, lookup_entry, remove_entry}
 use Rattle.std.proofs.lemmas.Bool.Decides.{nat_tests}
-use Rattle.std.proofs.lemmas.List.{append_assoc, append-nil, take_more, take_all, get_or_default, length-append}
-use Rattle.std.proofs.lemmas.List.Elements.{All-head, All-tail, All-push, All-filter, filter-append}
-use Rattle.std.proofs.lemmas.List.Kept.{AllPairs-filter}
-use Rattle.std.proofs.lemmas.List.Quantifiers.{all_pairs_push}
-use Rattle.sms_party.specs.Centre.Verdicts.{stays}
+use Rattle.std.proofs.lemmas.Grind.{reverse_onto}
+use Rattle.std.proofs.lemmas.List.{append-nil, take_more, take_all, map-append, reverse-append, length-append, length-reverse, length-map}
+use Rattle.std.proofs.lemmas.List.Elements.{All-head, All-tail, All-cons, All-filter, filter-append, filter_passes}
+use Rattle.std.proofs.lemmas.Map.Entries.{lookup_from_place}
+use Rattle.std.proofs.lemmas.Map.Keys.{IsDistinct-head, IsDistinct-tail, IsDistinct-cons}
+use Rattle.std.proofs.lemmas.Map.Made.{IsDistinct-keys_filter}
+use Rattle.std.proofs.lemmas.Option.{slice_get-get_or, get_or_from_slice_get}
+use Rattle.lru.specs.LruCache.{LruCache, last_entry, promoted, put_entries, lru_cache}
 use Rattle.sms_party.specs.Centre.Value.{WaitingValue}
+use Rattle.sms_party.specs.Centre.Queue.{queue_of, IsQueue}
+use Rattle.sms_party.specs.Centre.Verdicts.{stays}
 use Rattle.sms_party.specs.Centre.Lines.{left_waiting}
-use Rattle.sms_party.specs.Centre.Queue.{is_last, StampsDiffer, IsLastOrGone, IsPushLastOrGone, IsQueue}
-use Rattle.sms_party.specs.Centre.Queue.IsLastOrGone.{IsLast, IsGone}
-use Rattle.sms_party.specs.declared.centre.waiting.Push.{Push}
 
--- two messages have different stamps
-abbrev DifferentStamps : WaitingValue → WaitingValue → Type 0
-DifferentStamps a b = a.stamp ≢ b.stamp
+-- a message by its stamp
+abbrev Entry : Type 0
+Entry = ℕ × WaitingValue
 
--- ---- stamps that differ
+-- ---- the entries that pass a test
 
-differ_rest : (m : WaitingValue) (queue : List WaitingValue) → StampsDiffer (m ∷ queue) → StampsDiffer queue
-differ_rest m queue h = λ i j d lt within. h (suc i) (suc j) d (omega (arith, lt)) (omega (arith, within))
+queue_more : (e : Entry) (entries : List Entry) → queue_of (e ∷ entries) ≡ queue_of entries ++ e.1 ∷ []
+queue_more e entries = reverse_onto (map (λ (x : Entry). x.1) entries) e.1 []
 
-differ_first : (m : WaitingValue) (queue : List WaitingValue) → StampsDiffer (m ∷ queue) → All (λ x. x.stamp ≢ m.stamp) queue
-differ_first m queue h = λ k d within. λ e. h zero (suc k) d (omega arith) (omega (arith, within)) (sym e)
+kept_step : (p : Entry → Bool) (q : WaitingValue → Bool) (e : Entry) (entries : List Entry) (b : Bool) → p e ≡ b → q e.1 ≡ b
+    → queue_of (filter p entries) ≡ filter q (queue_of entries) → queue_of (filter p (e ∷ entries)) ≡ filter q (queue_of (e ∷ entries))
+kept_step p q e entries true f g h =
+    let last : filter q (e.1 ∷ []) ≡ e.1 ∷ [] = rw g refl in
+    let first : filter p (e ∷ entries) ≡ e ∷ filter p entries = rw f refl in
+    ap queue_of first
+    ∙ (queue_more e (filter p entries)
+    ∙ (ap (λ (r : List WaitingValue). r ++ e.1 ∷ []) h
+    ∙ sym (ap (filter q) (queue_more e entries) ∙ (filter-append q (queue_of entries) (e.1 ∷ []) ∙ ap (λ (r : List WaitingValue). filter q (queue_of entries) ++ r) last))))
+kept_step p q e entries false f g h =
+    let last : filter q (e.1 ∷ []) ≡ [] = rw g refl in
+    let first : filter p (e ∷ entries) ≡ filter p entries = rw f refl in
+    ap queue_of first
+    ∙ (h
+    ∙ sym (ap (filter q) (queue_more e entries) ∙ (filter-append q (queue_of entries) (e.1 ∷ []) ∙ (ap (λ (r : List WaitingValue). filter q (queue_of entries) ++ r) last ∙ append-nil (filter q (queue_of entries))))))
 
-differ_more : (queue : List WaitingValue) (m : WaitingValue) → StampsDiffer queue → All (λ x. x.stamp ≢ m.stamp) queue → StampsDiffer (queue ++ m ∷ [])
-differ_more queue m h apart = all_pairs_push DifferentStamps queue m h apart
+-- a test of the entries that is one of the messages
+queue_kept : (p : Entry → Bool) (q : WaitingValue → Bool) (entries : List Entry) → All (λ e. p e ≡ q e.1) entries → queue_of (filter p entries) ≡ filter q (queue_of entries)
+queue_kept p q [] h = refl
+queue_kept p q (e ∷ entries) h =
+    let same = All-head (λ (x : Entry). p x ≡ q x.1) e entries h in
+    kept_step p q e entries (q e.1) same refl (queue_kept p q entries (All-tail (λ (x : Entry). p x ≡ q x.1) e entries h))
 
--- the others have another stamp than the one between them
-others_differ : (front : List WaitingValue) (m : WaitingValue) (back : List WaitingValue) → StampsDiffer (front ++ m ∷ back) → All (λ x. x.stamp ≢ m.stamp) (front ++ back)
-others_differ [] m back h = differ_first m back h
-others_differ (x ∷ front) m back h =
-    let other = others_differ front m back (differ_rest x (front ++ m ∷ back) h) in
-    all_cons_apart x (front ++ back) m (first_differs x front m back (differ_first x (front ++ m ∷ back) h)) other
-  where
-    all_cons_apart : (x : WaitingValue) (queue : List WaitingValue) (m : WaitingValue) → x.stamp ≢ m.stamp → All (λ y. y.stamp ≢ m.stamp) queue → All (λ y. y.stamp ≢ m.stamp) (x ∷ queue)
-    all_cons_apart x queue m apart h zero d within = apart
-    all_cons_apart x queue m apart h (suc k) d within = h k d (omega (arith, within))
-
-    first_differs : (x : WaitingValue) (front : List WaitingValue) (m : WaitingValue) (back : List WaitingValue) → All (λ y. y.stamp ≢ x.stamp) (front ++ m ∷ back) → x.stamp ≢ m.stamp
-    first_differs x [] m back h = λ e. All-head (λ (y : WaitingValue). y.stamp ≢ x.stamp) m back h (sym e)
-    first_differs x (y ∷ front) m back h = first_differs x front m back (All-tail (λ (z : WaitingValue). z.stamp ≢ x.stamp) y (front ++ m ∷ back) h)
+all_kept : (entries : List Entry) → filter (λ _. true) entries ≡ entries
+all_kept [] = refl
+all_kept (e ∷ entries) = ap (λ (r : List Entry). e ∷ r) (all_kept entries)
 
 -- ---- what is left without a stamp
 
-abbrev has_not : ℕ → WaitingValue → Bool
-has_not stamp m = not (m.stamp == stamp)
+abbrev other_key : ℕ → Entry → Bool
+other_key stamp e = not (nat_eq stamp e.0)
 
-other_stays : (stamp other : ℕ) → other ≢ stamp → not (other == stamp) ≡ true
-other_stays stamp other apart = grind (arith, nat_tests, apart)
+same_apart : (k stamp y : ℕ) → nat_eq stamp k ≡ true → nat_eq k y ≡ false → not (nat_eq stamp y) ≡ true
+same_apart k stamp y e f = grind (arith, nat_tests)
 
-none_leaves : (queue : List WaitingValue) (stamp : ℕ) → All (λ m. m.stamp ≢ stamp) queue → filter (has_not stamp) queue ≡ queue
-none_leaves [] stamp h = refl
-none_leaves (m ∷ queue) stamp h =
-    rw (other_stays stamp m.stamp (All-head (λ (x : WaitingValue). x.stamp ≢ stamp) m queue h))
-    (ap (λ (q : List WaitingValue). m ∷ q) (none_leaves queue stamp (All-tail (λ (x : WaitingValue). x.stamp ≢ stamp) m queue h)))
+others_stay : (k stamp : ℕ) (entries : List Entry) → nat_eq stamp k ≡ true → AllByRecursion (λ y. nat_eq k y ≡ false) (keys_of entries) → filter (other_key stamp) entries ≡ entries
+others_stay k stamp [] e h = refl
+others_stay k stamp (x ∷ entries) e h = rw (same_apart k stamp x.0 e h.0) (ap (λ (r : List Entry). x ∷ r) (others_stay k stamp entries e h.1))
 
-it_leaves : (m : WaitingValue) (stamp : ℕ) → m.stamp ≡ stamp → has_not stamp m ≡ false
-it_leaves m stamp e = grind (arith, nat_tests)
+removed_step : (stamp : ℕ) (e : Entry) (entries : List Entry) (b : Bool) → nat_eq stamp e.0 ≡ b → AllByRecursion (λ y. nat_eq e.0 y ≡ false) (keys_of entries)
+    → remove_entry (nat_eq stamp) entries ≡ filter (other_key stamp) entries → remove_entry (nat_eq stamp) (e ∷ entries) ≡ filter (other_key stamp) (e ∷ entries)
+removed_step stamp e entries true f apart h = rw f (sym (others_stay e.0 stamp entries f apart))
+removed_step stamp e entries false f apart h = rw f (ap (λ (r : List Entry). e ∷ r) h)
 
-one_leaves : (front : List WaitingValue) (m : WaitingValue) (back : List WaitingValue) (stamp : ℕ) → m.stamp ≡ stamp → StampsDiffer (front ++ m ∷ back) → filter (has_not stamp) (front ++ m ∷ back) ≡ front ++ back
-one_leaves front m back stamp e h =
-    let others = subst (λ n. All (λ x. x.stamp ≢ n) (front ++ back)) e (others_differ front m back h) in
-    let gone : filter (has_not stamp) (m ∷ back) ≡ filter (has_not stamp) back = rw (it_leaves m stamp e) refl in
-    filter-append (has_not stamp) front (m ∷ back)
-    ∙ (ap (λ (q : List WaitingValue). filter (has_not stamp) front ++ q) gone
-    ∙ (sym (filter-append (has_not stamp) front back)
-    ∙ none_leaves (front ++ back) stamp others))
+removed_is : (stamp : ℕ) (entries : List Entry) → IsDistinct nat_eq (keys_of entries) → remove_entry (nat_eq stamp) entries ≡ filter (other_key stamp) entries
+removed_is stamp [] h = refl
+removed_is stamp (e ∷ entries) h =
+    removed_step stamp e entries (nat_eq stamp e.0) refl (IsDistinct-head nat_eq e.0 (keys_of entries) h) (removed_is stamp entries (IsDistinct-tail nat_eq e.0 (keys_of entries) h))
+
+kept_queue : (p : Entry → Bool) (entries : List Entry) (free : ℕ) → IsQueue entries free → IsQueue (filter p entries) free
+kept_queue p entries free h = record {
+  differ = IsDistinct-keys_filter nat_eq p entries h.differ;
+  own = All-filter p (λ (e : Entry). e.0 ≡ e.1.stamp) entries h.own;
+  below = All-filter p (λ (e : Entry). e.0 < free) entries h.below;
+}
+
+removed_queue : (entries : List Entry) (free stamp : ℕ) → IsQueue entries free → IsQueue (remove_entry (nat_eq stamp) entries) free
+removed_queue entries free stamp h =
+    subst (λ (es : List Entry). IsQueue es free) (sym (removed_is stamp entries h.differ)) (kept_queue (other_key stamp) entries free h)
+
+pub taken_queue : (old new : LruCache ℕ WaitingValue) (cap free stamp : ℕ) → new ≡ lru_cache (remove_entry (nat_eq stamp) old.entries) old.cap → old.cap ≡ cap → IsQueue old.entries free
+    → (new.cap ≡ cap) × IsQueue new.entries free
+taken_queue old new cap free stamp is same h =
+    subst (λ (q : LruCache ℕ WaitingValue). (q.cap ≡ cap) × IsQueue q.entries free) (sym is) (same, removed_queue old.entries free stamp h)
 
 -- ---- the answer to a push
 
--- the last message, which the push had, is taken out of the first part
-pub last_taken : (cause : Option ℕ) (stamp : ℕ) (front : List WaitingValue) (m : WaitingValue) (newer : List WaitingValue) → stays cause ≡ false → m.stamp ≡ stamp
-    → StampsDiffer ((front ++ m ∷ []) ++ newer) → front ++ newer ≡ left_waiting ((front ++ m ∷ []) ++ newer) stamp cause
-last_taken cause stamp front m newer goes e h =
-    let together : (front ++ m ∷ []) ++ newer ≡ front ++ m ∷ newer = append_assoc front (m ∷ []) newer in
-    rw goes (sym (ap (filter (has_not stamp)) together ∙ one_leaves front m newer stamp e (subst StampsDiffer together h)))
+same_test : (stamp key own : ℕ) → key ≡ own → not (nat_eq stamp key) ≡ not (own == stamp)
+same_test stamp key own e = grind (arith, nat_tests)
 
--- it waits on
-pub none_taken : (cause : Option ℕ) (stamp : ℕ) (queue : List WaitingValue) → stays cause ≡ true → queue ≡ left_waiting queue stamp cause
-none_taken cause stamp queue stay = rw stay refl
+removed_messages : (entries : List Entry) (free stamp : ℕ) → IsQueue entries free → queue_of (remove_entry (nat_eq stamp) entries) ≡ filter (λ m. not (m.stamp == stamp)) (queue_of entries)
+removed_messages entries free stamp h =
+    ap queue_of (removed_is stamp entries h.differ)
+    ∙ queue_kept (other_key stamp) (λ m. not (m.stamp == stamp)) entries (λ k d within. same_test stamp (get_or entries k d).0 (get_or entries k d).1.stamp (h.own k d within))
 
--- whether the last message has the stamp
-last_has : (front : List WaitingValue) (m : WaitingValue) (stamp : ℕ) → is_last stamp (front ++ m ∷ []) ≡ (m.stamp == stamp)
-last_has [] m stamp = refl
-last_has (x ∷ []) m stamp = refl
-last_has (x ∷ y ∷ front) m stamp = last_has (y ∷ front) m stamp
+pub message_left : (old new : LruCache ℕ WaitingValue) (free stamp : ℕ) (cause : Option ℕ) → stays cause ≡ false → new ≡ lru_cache (remove_entry (nat_eq stamp) old.entries) old.cap → IsQueue old.entries free
+    → queue_of new.entries ≡ left_waiting (queue_of old.entries) stamp cause
+message_left old new free stamp cause goes is h = rw goes (ap (λ (q : LruCache ℕ WaitingValue). queue_of q.entries) is ∙ removed_messages old.entries free stamp h)
 
-whole_is : (queue : List WaitingValue) (n : ℕ) (m : WaitingValue) → n ≡ length queue → 0 < n → m ≡ get_or queue (n - 1) m → queue ≡ take (n - 1) queue ++ m ∷ []
-whole_is queue n m long some at =
-    let within : n - 1 < length queue = omega (arith, long, some) in
-    let more : n - 1 + 1 ≡ length queue = omega (arith, long, some) in
-    let all : length queue ≤ n - 1 + 1 = omega (arith, more) in
-    sym (take_all (n - 1 + 1) queue all) ∙ (take_more queue (n - 1) m within ∙ ap (λ (x : WaitingValue). take (n - 1) queue ++ x ∷ []) (sym at))
+pub message_stays : (queue : List WaitingValue) (stamp : ℕ) (cause : Option ℕ) → stays cause ≡ true → queue ≡ left_waiting queue stamp cause
+message_stays queue stamp cause stay = rw stay refl
 
-pub last_in : (queue : List WaitingValue) (n : ℕ) (m : WaitingValue) (stamp : ℕ) → n ≡ length queue → 0 < n → m ≡ get_or queue (n - 1) m → (m.stamp == stamp) ≡ is_last stamp queue
-last_in queue n m stamp long some at =
-    sym (ap (is_last stamp) (whole_is queue n m long some at) ∙ last_has (take (n - 1) queue) m stamp)
+-- ---- the end of a message
 
-pub none_last : (queue : List WaitingValue) (stamp : ℕ) → length queue ≡ 0 → false ≡ is_last stamp queue
-none_last [] stamp e = refl
-none_last (m ∷ queue) stamp e = absurd (omega (arith, e))
+-- each is found by its stamp
+found_by_key : (entries : List Entry) → IsDistinct nat_eq (keys_of entries) → All (λ e. lookup (nat_eq e.0) entries ≡ Some e.1) entries
+found_by_key entries h = λ k d within.
+    let e = get_or entries k d in
+    lookup_from_place nat_eq_equiv entries k e.0 e.1 h (slice_get-get_or entries k d within)
 
--- it has, and is taken out
-last_parts : (queue : List WaitingValue) (stamp : ℕ) → is_last stamp queue ≡ true → (m : WaitingValue) × (queue ≡ take (length queue - 1) queue ++ m ∷ []) × (m.stamp ≡ stamp)
-last_parts [] stamp e = absurd cc
-last_parts (x ∷ queue) stamp e =
-    let n = length (x ∷ queue) in
-    let m = get_or (x ∷ queue) (n - 1) x in
-    let some : 0 < n = omega arith in
-    let whole = whole_is (x ∷ queue) n m refl some (read_again queue x) in
-    let has : (m.stamp == stamp) ≡ true = sym (last_has (take (n - 1) (x ∷ queue)) m stamp) ∙ (sym (ap (is_last stamp) whole) ∙ e) in
-    (m, whole, grind (arith, nat_tests))
-  where
-    read_again : (queue : List WaitingValue) (x : WaitingValue) → get_or (x ∷ queue) (length (x ∷ queue) - 1) x ≡ get_or (x ∷ queue) (length (x ∷ queue) - 1) (get_or (x ∷ queue) (length (x ∷ queue) - 1) x)
-    read_again queue x = get_or_default (x ∷ queue) (length (x ∷ queue) - 1) x (get_or (x ∷ queue) (length (x ∷ queue) - 1) x) (omega arith)
+later_stays : (now stamp key own ends : ℕ) → key ≡ own → (stamp ≡ key → now < ends) → true ≡ (not (own == stamp) || nat_lt now ends)
+later_stays now stamp key own ends e f = grind (arith, nat_tests, f)
 
-pub push_taken : (cause : Option ℕ) (stamp : ℕ) (older newer left : List WaitingValue) (n : ℕ) → n ≡ length older → stays cause ≡ false → is_last stamp older ≡ true → left ≡ take (n - 1) older
-    → StampsDiffer (older ++ newer) → left ++ newer ≡ left_waiting (older ++ newer) stamp cause
-push_taken cause stamp older newer left n long goes last is h =
-    let parts = last_parts older stamp last in
-    let m = parts.0 in
-    let front = take (length older - 1) older in
-    let same : left ≡ front = is ∙ ap (λ k. take (k - 1) older) long in
-    let differ = subst (λ (q : List WaitingValue). StampsDiffer (q ++ newer)) parts.1 h in
-    ap (λ (q : List WaitingValue). q ++ newer) same
-    ∙ (last_taken cause stamp front m newer goes parts.2 differ
-    ∙ ap (λ (q : List WaitingValue). left_waiting (q ++ newer) stamp cause) (sym parts.1))
+ended_goes : (now stamp key own ends : ℕ) → key ≡ own → (stamp ≡ key → ends ≤ now) → not (nat_eq stamp key) ≡ (not (own == stamp) || nat_lt now ends)
+ended_goes now stamp key own ends e f = grind (arith, nat_tests, f)
 
--- it has not, so the message of the push is gone
-gone_by : (b : Bool) (queue : List WaitingValue) (stamp : ℕ) → All (λ m. m.stamp ≢ stamp) queue → queue ≡ cond b queue (filter (has_not stamp) queue)
-gone_by true queue stamp h = refl
-gone_by false queue stamp h = sym (none_leaves queue stamp h)
+-- no message with the stamp has ended
+pub none_ended : (entries : List Entry) (free now stamp : ℕ) → IsQueue entries free → ((m : WaitingValue) → lookup (nat_eq stamp) entries ≡ Some m → now < m.ends)
+    → queue_of entries ≡ filter (λ m. not (m.stamp == stamp) || nat_lt now m.ends) (queue_of entries)
+none_ended entries free now stamp h later =
+    ap queue_of (sym (all_kept entries))
+    ∙ queue_kept (λ _. true) (λ m. not (m.stamp == stamp) || nat_lt now m.ends) entries
+    (λ k d within.
+    let e = get_or entries k d in
+    later_stays now stamp e.0 e.1.stamp e.1.ends (h.own k d within)
+    (λ same. later e.1 (ap (λ n. lookup (nat_eq n) entries) same ∙ found_by_key entries h.differ k d within)))
 
-it_has : (m : WaitingValue) (stamp : ℕ) → m.stamp ≡ stamp → (m.stamp == stamp) ≡ true
-it_has m stamp e = grind (arith, nat_tests)
-
-pub push_gone : (cause : Option ℕ) (stamp : ℕ) (older newer : List WaitingValue) → is_last stamp older ≡ false → IsLastOrGone stamp older newer → older ++ newer ≡ left_waiting (older ++ newer) stamp cause
-push_gone cause stamp older newer other (IsGone h) = gone_by (stays cause) (older ++ newer) stamp h
-push_gone cause stamp older newer other (IsLast front m is e) =
-    absurd (let yes : true ≡ false = sym (it_has m stamp e) ∙ (sym (last_has front m stamp) ∙ (ap (is_last stamp) (sym is) ∙ other)) in cc)
-
-left_differ : (b : Bool) (queue : List WaitingValue) (stamp : ℕ) → StampsDiffer queue → StampsDiffer (cond b queue (filter (has_not stamp) queue))
-left_differ true queue stamp h = h
-left_differ false queue stamp h = AllPairs-filter DifferentStamps (has_not stamp) queue h
-
-left_below : (b : Bool) (queue : List WaitingValue) (stamp free : ℕ) → All (λ m. m.stamp < free) queue → All (λ m. m.stamp < free) (cond b queue (filter (has_not stamp) queue))
-left_below true queue stamp free h = h
-left_below false queue stamp free h = All-filter (has_not stamp) (λ m. m.stamp < free) queue h
-
-pub heard_queue : (older newer : List WaitingValue) (free : ℕ) (latest : Option Push) (left : List WaitingValue) (stamp : ℕ) (cause : Option ℕ) → IsQueue older newer free latest
-    → left ++ newer ≡ left_waiting (older ++ newer) stamp cause → IsQueue left newer free None
-heard_queue older newer free latest left stamp cause h is = record {
-  differ = subst StampsDiffer (sym is) (left_differ (stays cause) (older ++ newer) stamp h.differ);
-  below = subst (λ (q : List WaitingValue). All (λ m. m.stamp < free) q) (sym is) (left_below (stays cause) (older ++ newer) stamp free h.below);
-  pushed = tt;
-}
-
--- what the line knows of its latest push
-pub latest_is : (older newer : List WaitingValue) (free : ℕ) (p : Push) → IsQueue older newer free (Some p) → IsLastOrGone p.stamp older newer
-latest_is older newer free p h = h.pushed.1
+-- the message with the stamp has ended
+pub it_ended : (entries : List Entry) (free now stamp : ℕ) (m : WaitingValue) → IsQueue entries free → lookup (nat_eq stamp) entries ≡ Some m → m.ends ≤ now
+    → queue_of (remove_entry (nat_eq stamp) entries) ≡ filter (λ m. not (m.stamp == stamp) || nat_lt now m.ends) (queue_of entries)
+it_ended entries free now stamp m h is ended =
+    ap queue_of (removed_is stamp entries h.differ)
+    ∙ queue_kept (other_key stamp) (λ m. not (m.stamp == stamp) || nat_lt now m.ends) entries
+    (λ k d within.
+    let e = get_or entries k d in
+    ended_goes now stamp e.0 e.1.stamp e.1.ends (h.own k d within)
+    (λ same.
+    let found = ap (λ n. lookup (nat_eq n) entries) same ∙ found_by_key entries h.differ k d within in
+    let one : m ≡ e.1 = cc in
+    subst (λ (x : WaitingValue). x.ends ≤ now) one ended))
 
 -- ---- an acceptance
 
-apart_from : (queue : List WaitingValue) (free : ℕ) (m : WaitingValue) → free ≤ m.stamp → All (λ x. x.stamp < free) queue → All (λ x. x.stamp ≢ m.stamp) queue
-apart_from queue free m le h = λ k d within. λ e. let lt = h k d within in absurd (omega (arith, le, lt, e))
+apart_above : (k free key : ℕ) → free ≤ k → key < free → nat_eq k key ≡ false
+apart_above k free key le lt = grind (arith, nat_tests)
 
-accepted_push : (older newer : List WaitingValue) (free : ℕ) (latest : Option Push) (m : WaitingValue) → free ≤ m.stamp → IsPushLastOrGone older newer free latest → IsPushLastOrGone older (newer ++ m ∷ []) (m.stamp + 1) latest
-accepted_push older newer free None m le h = tt
-accepted_push older newer free (Some p) m le h = (omega (arith, le, h.0), by_case h.1)
-  where
-    by_case : IsLastOrGone p.stamp older newer → IsLastOrGone p.stamp older (newer ++ m ∷ [])
-    by_case (IsLast front x is e) = IsLast front x is e
-    by_case (IsGone gone) =
-        let lt = h.0 in
-        let apart : m.stamp ≢ p.stamp = λ e. absurd (omega (arith, le, lt, e)) in
-        IsGone (subst (λ (q : List WaitingValue). All (λ x. x.stamp ≢ p.stamp) q) (append_assoc older newer (m ∷ [])) (All-push (λ (x : WaitingValue). x.stamp ≢ p.stamp) (older ++ newer) m gone apart))
+all_apart : (k free : ℕ) (entries : List Entry) → free ≤ k → All (λ e. e.0 < free) entries → AllByRecursion (λ y. nat_eq k y ≡ false) (keys_of entries)
+all_apart k free [] le h = tt
+all_apart k free (e ∷ entries) le h =
+    (apart_above k free e.0 le (All-head (λ (x : Entry). x.0 < free) e entries h), all_apart k free entries le (All-tail (λ (x : Entry). x.0 < free) e entries h))
 
-pub accepted_queue : (older newer : List WaitingValue) (free : ℕ) (latest : Option Push) (m : WaitingValue) → IsQueue older newer free latest → free ≤ m.stamp → IsQueue older (newer ++ m ∷ []) (m.stamp + 1) latest
-accepted_queue older newer free latest m h le =
-    let together = append_assoc older newer (m ∷ []) in
-    record {
-      differ = subst StampsDiffer together (differ_more (older ++ newer) m h.differ (apart_from (older ++ newer) free m le h.below));
-      below = subst (λ (q : List WaitingValue). All (λ x. x.stamp < m.stamp + 1) q) together
-          (All-push (λ (x : WaitingValue). x.stamp < m.stamp + 1) (older ++ newer) m (λ k d within. let lt = h.below k d within in omega (arith, lt, le)) (omega arith));
-      pushed = accepted_push older newer free latest m le h.pushed;
-    }
+none_found : (k : ℕ) (entries : List Entry) → AllByRecursion (λ y. nat_eq k y ≡ false) (keys_of entries) → lookup_entry (nat_eq k) entries ≡ None
+none_found k [] h = refl
+none_found k (e ∷ entries) h = rw (h.0) (none_found k entries h.1)
+
+-- a new message stands before the others, for which there is room
+pub put_first : (old new : LruCache ℕ WaitingValue) (free k n : ℕ) (m : WaitingValue) → new ≡ lru_cache (put_entries nat_eq old k m) old.cap → IsQueue old.entries free → free ≤ k
+    → n ≡ length old.entries → n < 2 ^ 63 → old.cap ≡ 2 ^ 64 - 1 → new ≡ lru_cache ((k, m) ∷ old.entries) old.cap
+put_first old new free k n m is h le long fits cap =
+    let absent = none_found k old.entries (all_apart k free old.entries le h.below) in
+    let room : length old.entries ≤ old.cap - 1 = omega (arith, long, fits, cap) in
+    let all = take_all (old.cap - 1) old.entries room in
+    is ∙ rw (absent, all) refl
+
+pub accepted_queue : (old new : LruCache ℕ WaitingValue) (cap free k : ℕ) (m : WaitingValue) → new ≡ lru_cache ((k, m) ∷ old.entries) old.cap → old.cap ≡ cap → IsQueue old.entries free → free ≤ k → k ≡ m.stamp
+    → (new.cap ≡ cap) × IsQueue new.entries (k + 1)
+accepted_queue old new cap free k m is same h le own =
+    subst (λ (q : LruCache ℕ WaitingValue). (q.cap ≡ cap) × IsQueue q.entries (k + 1)) (sym is) (
+      same,
+      record {
+        differ = IsDistinct-cons nat_eq k (keys_of old.entries) (all_apart k free old.entries le h.below) h.differ;
+        own = All-cons (λ (e : Entry). e.0 ≡ e.1.stamp) (k, m) old.entries own h.own;
+        below = All-cons (λ (e : Entry). e.0 < k + 1) (k, m) old.entries (omega arith) (λ i d within. let lt = h.below i d within in omega (arith, lt, le));
+      },
+    )
+
+pub accepted_messages : (old new : LruCache ℕ WaitingValue) (k : ℕ) (m : WaitingValue) → new ≡ lru_cache ((k, m) ∷ old.entries) old.cap → queue_of new.entries ≡ queue_of old.entries ++ m ∷ []
+accepted_messages old new k m is = ap (λ (q : LruCache ℕ WaitingValue). queue_of q.entries) is ∙ queue_more (k, m) old.entries
+
+-- it is taken out again
+pub put_undone : (old new left : LruCache ℕ WaitingValue) (k : ℕ) (m : WaitingValue) → new ≡ lru_cache ((k, m) ∷ old.entries) old.cap → left ≡ lru_cache (remove_entry (nat_eq k) new.entries) new.cap → left ≡ old
+put_undone old new left k m is taken =
+    taken ∙ (ap (λ (q : LruCache ℕ WaitingValue). lru_cache (remove_entry (nat_eq k) q.entries) q.cap) is ∙ rw (nat_eq_equiv.refl k) refl)
 
 -- ---- a push
 
-turned_queue : (m : WaitingValue) (others : List WaitingValue) (free : ℕ) (p : Push) → p.stamp ≡ m.stamp → StampsDiffer (m ∷ others) → All (λ x. x.stamp < free) (m ∷ others) → IsQueue (others ++ m ∷ []) [] free (Some p)
-turned_queue m others free p e differ below =
-    let empty : (others ++ m ∷ []) ++ [] ≡ others ++ m ∷ [] = append-nil (others ++ m ∷ []) in
-    let first = All-head (λ (x : WaitingValue). x.stamp < free) m others below in
+-- the entry that was used least recently, and those before it
+split_last : (entries : List Entry) (e : Entry) → last_entry entries ≡ Some e → entries ≡ take (length entries - 1) entries ++ e ∷ []
+split_last [] e h = absurd cc
+split_last (x ∷ entries) e h =
+    let all = x ∷ entries in
+    let k = length all - 1 in
+    sym (take_all (k + 1) all (omega arith)) ∙ (take_more all k e (omega arith) ∙ ap (λ (y : Entry). take k all ++ y ∷ []) (get_or_from_slice_get all k e e h))
+
+last_apart : (k : ℕ) (front : List Entry) (e : Entry) → AllByRecursion (λ y. nat_eq k y ≡ false) (keys_of (front ++ e ∷ [])) → nat_eq e.0 k ≡ false
+last_apart k [] e h = let apart = h.0 in grind (arith, nat_tests)
+last_apart k (x ∷ front) e h = last_apart k front e h.1
+
+found_last : (front : List Entry) (e : Entry) → IsDistinct nat_eq (keys_of (front ++ e ∷ [])) → lookup_entry (nat_eq e.0) (front ++ e ∷ []) ≡ Some e
+found_last [] e h = rw (nat_eq_equiv.refl e.0) refl
+found_last (x ∷ front) e h =
+    rw (last_apart x.0 front e (IsDistinct-head nat_eq x.0 (keys_of (front ++ e ∷ [])) h)) (found_last front e (IsDistinct-tail nat_eq x.0 (keys_of (front ++ e ∷ [])) h))
+
+removed_last : (front : List Entry) (e : Entry) → IsDistinct nat_eq (keys_of (front ++ e ∷ [])) → remove_entry (nat_eq e.0) (front ++ e ∷ []) ≡ front
+removed_last [] e h = rw (nat_eq_equiv.refl e.0) refl
+removed_last (x ∷ front) e h =
+    rw (last_apart x.0 front e (IsDistinct-head nat_eq x.0 (keys_of (front ++ e ∷ [])) h))
+    (ap (λ (r : List Entry). x ∷ r) (removed_last front e (IsDistinct-tail nat_eq x.0 (keys_of (front ++ e ∷ [])) h)))
+
+-- it goes before the others
+promoted_is : (front : List Entry) (e : Entry) → IsDistinct nat_eq (keys_of (front ++ e ∷ [])) → promoted (nat_eq e.0) (front ++ e ∷ []) ≡ e ∷ front
+promoted_is front e h = rw (found_last front e h, removed_last front e h) refl
+
+-- their keys are not its key
+apart_from_it : (k : ℕ) (entries : List Entry) → All (λ e. other_key k e ≡ true) entries → AllByRecursion (λ y. nat_eq k y ≡ false) (keys_of entries)
+apart_from_it k [] h = tt
+apart_from_it k (e ∷ entries) h =
+    let first = All-head (λ (x : Entry). other_key k x ≡ true) e entries h in
+    (grind (arith, nat_tests), apart_from_it k entries (All-tail (λ (x : Entry). other_key k x ≡ true) e entries h))
+
+All-last : (P : Entry → Type 0) (front : List Entry) (e : Entry) → All P (front ++ e ∷ []) → P e
+All-last P [] e h = All-head P e [] h
+All-last P (x ∷ front) e h = All-last P front e (All-tail P x (front ++ e ∷ []) h)
+
+turned_queue : (front : List Entry) (e : Entry) (free : ℕ) → IsQueue (front ++ e ∷ []) free → IsQueue (e ∷ front) free
+turned_queue front e free h =
+    let all = front ++ e ∷ [] in
+    let left : filter (other_key e.0) all ≡ front = sym (removed_is e.0 all h.differ) ∙ removed_last front e h.differ in
+    let others = subst (λ (es : List Entry). IsQueue es free) left (kept_queue (other_key e.0) all free h) in
+    let apart = subst (λ (es : List Entry). All (λ x. other_key e.0 x ≡ true) es) left (filter_passes (other_key e.0) all) in
     record {
-      differ = subst StampsDiffer (sym empty) (differ_more others m (differ_rest m others differ) (differ_first m others differ));
-      below = subst (λ (q : List WaitingValue). All (λ x. x.stamp < free) q) (sym empty)
-          (All-push (λ (x : WaitingValue). x.stamp < free) others m (All-tail (λ (x : WaitingValue). x.stamp < free) m others below) first);
-      pushed = (omega (arith, e, first), IsLast others m refl (sym e));
+      differ = IsDistinct-cons nat_eq e.0 (keys_of front) (apart_from_it e.0 front apart) others.differ;
+      own = All-cons (λ (x : Entry). x.0 ≡ x.1.stamp) e front (All-last (λ (x : Entry). x.0 ≡ x.1.stamp) front e h.own) others.own;
+      below = All-cons (λ (x : Entry). x.0 < free) e front (All-last (λ (x : Entry). x.0 < free) front e h.below) others.below;
     }
 
-pub pushed_queue : (older newer queue : List WaitingValue) (free : ℕ) (latest : Option Push) (m : WaitingValue) (p : Push) → IsQueue older newer free latest → queue ≡ older ++ newer → slice_get (older ++ newer) 0 ≡ Some m → p.stamp ≡ m.stamp
-    → IsQueue (drop 1 queue ++ take 1 queue) [] free (Some p)
-pushed_queue older newer queue free latest m p h is first e =
-    by_first queue (subst StampsDiffer (sym is) h.differ) (subst (λ (q : List WaitingValue). All (λ x. x.stamp < free) q) (sym is) h.below) (ap (λ (q : List WaitingValue). slice_get q 0) is ∙ first)
-  where
-    by_first : (q : List WaitingValue) → StampsDiffer q → All (λ x. x.stamp < free) q → slice_get q 0 ≡ Some m → IsQueue (drop 1 q ++ take 1 q) [] free (Some p)
-    by_first [] differ below at = absurd cc
-    by_first (x ∷ others) differ below at = let same : m ≡ x = cc in turned_queue x others free p (e ∙ ap (λ (y : WaitingValue). y.stamp) same) differ below
+pub pushed_queue : (old new : LruCache ℕ WaitingValue) (cap free : ℕ) (e : ℕ × WaitingValue) → new ≡ lru_cache (promoted (nat_eq e.0) old.entries) old.cap → old.cap ≡ cap → IsQueue old.entries free → last_entry old.entries ≡ Some e
+    → (new.cap ≡ cap) × IsQueue new.entries free
+pushed_queue old new cap free e is same h last =
+    let front = take (length old.entries - 1) old.entries in
+    let split = split_last old.entries e last in
+    let whole = subst (λ (es : List Entry). IsQueue es free) split h in
+    subst (λ (q : LruCache ℕ WaitingValue). (q.cap ≡ cap) × IsQueue q.entries free) (sym is)
+    (same, subst (λ (es : List Entry). IsQueue es free) (sym (ap (promoted (nat_eq e.0)) split ∙ promoted_is front e whole.differ)) (turned_queue front e free whole))
 
--- the first message of a queue
-pub first_is : (queue : List WaitingValue) (m : WaitingValue) → slice_get queue 0 ≡ Some m → (0 < length queue) × (m ≡ get_or queue 0 m)
-first_is [] m e = absurd cc
-first_is (x ∷ queue) m e = (omega arith, cc)
+-- the first message of a queue, and what a push makes of the queue
+pub record IsPushed (entries : List (ℕ × WaitingValue)) (key : ℕ) (m : WaitingValue) (others : List WaitingValue) : Type 0 where
+  pub before : queue_of entries ≡ m ∷ others
+  pub after : queue_of (promoted (nat_eq key) entries) ≡ others ++ m ∷ []
+  pub long : length entries ≡ suc (length others)
+  pub own : key ≡ m.stamp
 
--- as many as are in both parts
-pub both_long : (older newer : List WaitingValue) (a b c d : ℕ) → a ≡ c → c ≡ length older → b ≡ d → d ≡ length newer → a + b ≡ length (older ++ newer)
-both_long older newer a b c d e f g h = omega (arith, e, f, g, h, length-append older newer)
+abbrev pub others_of : List (ℕ × WaitingValue) → List WaitingValue
+others_of entries = queue_of (take (length entries - 1) entries)
 
--- ---- the clock
-
-later_push : (p : WaitingValue → Bool) (older newer : List WaitingValue) (free : ℕ) (latest : Option Push) → StampsDiffer (older ++ newer) → IsPushLastOrGone older newer free latest → IsPushLastOrGone (filter p older) (filter p newer) free latest
-later_push p older newer free None differ h = tt
-later_push p older newer free (Some push) differ h = (h.0, by_case h.1)
-  where
-    without : (front : List WaitingValue) (m : WaitingValue) (b : Bool) → p m ≡ b → older ≡ front ++ m ∷ [] → m.stamp ≡ push.stamp → IsLastOrGone push.stamp (filter p older) (filter p newer)
-    without front m true f is e = IsLast (filter p front) m (ap (filter p) is ∙ (filter-append p front (m ∷ []) ∙ rw f refl)) e
-    without front m false f is e =
-        let whole : older ++ newer ≡ front ++ m ∷ newer = ap (λ (q : List WaitingValue). q ++ newer) is ∙ append_assoc front (m ∷ []) newer in
-        let others = subst (λ n. All (λ x. x.stamp ≢ n) (front ++ newer)) e (others_differ front m newer (subst StampsDiffer whole differ)) in
-        let left : filter p older ≡ filter p front = ap (filter p) is ∙ (filter-append p front (m ∷ []) ∙ rw f (append-nil (filter p front))) in
-        IsGone (subst (λ (q : List WaitingValue). All (λ x. x.stamp ≢ push.stamp) q) (filter-append p front newer ∙ ap (λ (q : List WaitingValue). q ++ filter p newer) (sym left))
-        (All-filter p (λ (x : WaitingValue). x.stamp ≢ push.stamp) (front ++ newer) others))
-
-    by_case : IsLastOrGone push.stamp older newer → IsLastOrGone push.stamp (filter p older) (filter p newer)
-    by_case (IsLast front m is e) = without front m (p m) refl is e
-    by_case (IsGone gone) =
-        IsGone (subst (λ (q : List WaitingValue). All (λ x. x.stamp ≢ push.stamp) q) (filter-append p older newer) (All-filter p (λ (x : WaitingValue). x.stamp ≢ push.stamp) (older ++ newer) gone))
-
-pub later_queue : (p : WaitingValue → Bool) (older newer : List WaitingValue) (free : ℕ) (latest : Option Push) → IsQueue older newer free latest → IsQueue (filter p older) (filter p newer) free latest
-later_queue p older newer free latest h =
-    let together = filter-append p older newer in
+pub is_pushed : (entries : List Entry) (free : ℕ) (e : Entry) → IsQueue entries free → last_entry entries ≡ Some e → IsPushed entries e.0 e.1 (others_of entries)
+is_pushed entries free e h last =
+    let front = take (length entries - 1) entries in
+    let split = split_last entries e last in
+    let whole = subst (λ (es : List Entry). IsQueue es free) split h in
     record {
-      differ = subst StampsDiffer together (AllPairs-filter DifferentStamps p (older ++ newer) h.differ);
-      below = subst (λ (q : List WaitingValue). All (λ x. x.stamp < free) q) together (All-filter p (λ (x : WaitingValue). x.stamp < free) (older ++ newer) h.below);
-      pushed = later_push p older newer free latest h.differ h.pushed;
+      before = ap queue_of split ∙ first_of_queue front e;
+      after = ap queue_of (ap (promoted (nat_eq e.0)) split ∙ promoted_is front e whole.differ) ∙ queue_more e front;
+      long = omega (arith, ap length split, length-append front (e ∷ []), length_queue front);
+      own = All-last (λ (x : Entry). x.0 ≡ x.1.stamp) front e whole.own;
     }
+  where
+    first_of_queue : (front : List Entry) (e : Entry) → queue_of (front ++ e ∷ []) ≡ e.1 ∷ queue_of front
+    first_of_queue front e = ap reverse (map-append (λ (x : Entry). x.1) front (e ∷ [])) ∙ reverse-append (map (λ (x : Entry). x.1) front) (e.1 ∷ [])
+
+    length_queue : (entries : List Entry) → length (queue_of entries) ≡ length entries
+    length_queue entries = length-reverse (map (λ (x : Entry). x.1) entries) ∙ length-map entries (λ (x : Entry). x.1)

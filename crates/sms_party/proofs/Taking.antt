@@ -20,10 +20,12 @@ use Rattle.sms_party.specs.Centre.Checks.{Books, check_space, check_recipient, c
 use Rattle.sms_party.specs.Does.{drops, notes, Puts, packets_of, CarriesEach}
 use Rattle.sms_party.specs.Centre.Held.{unended, is_held, next_stamp}
 use Rattle.sms_party.specs.Centre.Value.{CentreValue, LineValue, addresses}
-use Rattle.sms_party.specs.Centre.Standing.{ends_in, StandsFor}
+use Rattle.sms_party.specs.Centre.Standing.{StandsFor}
 use Rattle.sms_party.specs.Centre.Kept.{key_of, is_kept, free_at, books_in}
 use Rattle.sms_party.specs.Centre.Calls.{IsCheckIn, CentreAnswers}
 use Rattle.sms_party.proofs.Lines.{free_is}
+use Rattle.sms_party.proofs.Holdings.{endings_stay}
+use Rattle.sms_party.specs.declared.centre.held.Ending.{Ending}
 use Rattle.sms_party.specs.declared.message.Message.{Message}
 use Rattle.sms_party.specs.declared.centre.check.Check.{Check}
 use Rattle.sms_party.specs.declared.centre.check.Check.TheVariants.{Refuse, Accept}
@@ -44,15 +46,6 @@ puts_answer limit phones now v c outcome messages (Err TooManySegments) s p = ab
 puts_answer limit phones now v c outcome messages (Err Memory) s p = s
 
 -- ---- the code's books are those of the histories
-
-count_step : (a : Acceptance) (past : List Acceptance) (now : ℕ) (b : Bool) → length (ends_in past now) ≡ length (unended past now)
-    → length (cond b (ends_in past now ++ a.ends ∷ []) (ends_in past now)) ≡ length (cond b (a ∷ unended past now) (unended past now))
-count_step a past now true ih = length-append (ends_in past now) (a.ends ∷ []) ∙ omega (arith, ih)
-count_step a past now false ih = ih
-
-kept_count : (accepted : List Acceptance) (now : ℕ) → length (ends_in accepted now) ≡ length (unended accepted now)
-kept_count [] now = refl
-kept_count (a ∷ past) now = count_step a past now (nat_lt now a.ends) (kept_count past now)
 
 prefix_same : (target : AddressValue) (lines : List LineValue) → prefix_len (λ a. not (same_address a target)) (addresses lines) ≡ prefix_len (λ line. not (same_address line.address target)) lines
 prefix_same target [] = refl
@@ -84,7 +77,7 @@ module _ (limit : ℕ) (phones : List AddressValue) (now : ℕ) (v : CentreValue
   space_alike ends r within =
       let t = there_is v.lines r within in
       let kept : is_kept v.held.last (key_of phone sub.reference r) now ≡ is_held c.accepted phone sub.reference r now = s.held_stand.kept phone sub.reference r now (omega arith) in
-      let count : length v.held.ends ≡ length (unended c.accepted now) = ap (λ (h : List ℕ). length h) s.held_stand.ends ∙ kept_count c.accepted now in
+      let count : length v.held.endings ≡ length (unended c.accepted now) = ap (λ (l : List Ending). length l) (sym (endings_stay now v.held.endings s.held_stand.left)) ∙ s.held_stand.count now (omega arith) in
       let stamp : max (free_at v.lines r) now ≡ next_stamp c.accepted r now = ap (λ n. max n now) (free_is v.lines r t.line t.is) ∙ sym ((s.lines_stand r t.line t.is).free now) in
       space_by limit sub ends r _ _ _ _ _ _ kept count stamp
 

@@ -12,6 +12,7 @@ pub mod Value
 pub mod Kept
 pub mod Lines
 pub mod Queue
+pub mod Holdings
 pub mod Standing
 pub mod Calls
 use Rattle.std.specs.Prelude.{ℕ, true, false, List, Option, None}

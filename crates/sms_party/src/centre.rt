@@ -14,15 +14,15 @@ ghost use Rattle.sms_party.specs.Centre.Calls.{StandsLater, StandsAlways, PushSt
 mod answering;
 mod check;
 mod held;
+mod holdings;
 mod line;
 mod lines;
 mod waiting;
 
 use crate::centre::answering::{approval, refusal};
 pub use crate::centre::check::Check;
-pub use crate::centre::held::HeldKey;
-use crate::centre::held::HeldMessages;
-use crate::centre::lines::Lines;
+pub use crate::centre::held::{Ending, HeldKey};
+use crate::centre::holdings::Holdings;
 pub use crate::centre::waiting::Push;
 use crate::centre::waiting::WaitingMessage;
 use crate::message::packets::relay_refusal;
@@ -41,8 +41,7 @@ use std::marker::Model;
 pub struct Centre {
     alloc: Global,
     limit: usize,
-    held: HeldMessages,
-    lines: Lines,
+    holdings: Holdings,
 }
 
 impl Model for Centre {
@@ -50,7 +49,8 @@ impl Model for Centre {
 
     ghost Value = { CentreValue };
 
-    ghost view = { λ c. record { limit = c.limit; held = c.held; lines = c.lines } };
+    ghost view = { λ c.
+        record { limit = c.limit; held = c.holdings.held; lines = c.holdings.lines } };
 }
 
 impl Centre {
@@ -68,8 +68,7 @@ impl Centre {
         Ok(Centre {
             alloc,
             limit: held,
-            held: HeldMessages::new(alloc),
-            lines: Lines::new(alloc, phones)?,
+            holdings: Holdings::new(alloc, phones)?,
         })
     }
 
@@ -86,8 +85,7 @@ impl Centre {
         ensures stands { StandsLater now self.old self.new }
         ensures phones { phones_of self.new ≡ phones_of self.old }
     {
-        self.held.forget(now);
-        self.lines.advance(now);
+        self.holdings.forget(now);
     }
 
     /// Puts out the message to this phone whose latest acceptance or push is the earliest.
@@ -97,7 +95,7 @@ impl Centre {
         ensures phones { phones_of self.new ≡ phones_of self.old }
     {
         self.forget(now);
-        self.lines.push(self.alloc, phone)
+        self.holdings.push(self.alloc, phone)
     }
 
     /// Takes what comes from this phone: a submission, or the answer to a push.
@@ -183,7 +181,7 @@ impl Centre {
     {
         match relay {
             Relay::Answer { side, cause, .. } => match side {
-                Side::FromPhone => self.lines.hear(self.alloc, now, phone, tag, cause),
+                Side::FromPhone => self.holdings.hear(self.alloc, now, phone, tag, cause),
                 Side::ToPhone => Err(Dropped::Unmatched),
             },
             Relay::Transfer { .. } => Err(Dropped::Unmatched),
@@ -243,7 +241,7 @@ impl Centre {
                 stamp,
             } => {
                 let step = approval(self.alloc, tag, stamp)?;
-                let origin = self.lines.address(phone).copy(self.alloc)?;
+                let origin = self.holdings.address(phone).copy(self.alloc)?;
                 let key = HeldKey {
                     phone,
                     reference: submission.reference,
@@ -255,7 +253,7 @@ impl Centre {
                     stamp,
                     ends,
                 };
-                self.lines.hold(&mut self.held, recipient, key, message)?;
+                self.holdings.hold(key, message)?;
                 Ok(step)
             }
         }
@@ -301,7 +299,7 @@ impl Centre {
         ensures is { result ≡ phone_at (phones_of self.now) target.now }
         ensures within { IfSome result (λ r. r < length (phones_of self.now)) }
     {
-        self.lines.find(target)
+        self.holdings.find(target)
     }
 
     /// Whether repeats are to be rejected, and a held message is the same.
@@ -314,7 +312,7 @@ impl Centre {
             reference: submission.reference,
             recipient,
         };
-        submission.reject && self.held.is_held(key, now)
+        submission.reject && self.holdings.is_held(key, now)
     }
 
     /// Whether there is room for a submission.
@@ -337,13 +335,13 @@ impl Centre {
                 failure: 0xC5,
             };
         }
-        if self.held.count() >= self.limit {
+        if self.holdings.count() >= self.limit {
             return Check::Refuse {
                 cause: 42,
                 failure: 0xC0,
             };
         }
-        let stamp = self.lines.free(recipient).max(now);
+        let stamp = self.holdings.free(recipient).max(now);
         if stamp >= LAST_MOMENT {
             return Check::Refuse {
                 cause: 38,

@@ -9,7 +9,7 @@ mod phone;
 mod receiver;
 mod sender;
 
-pub use centre::{Centre, Check, HeldKey, Push};
+pub use centre::{Centre, Check, Ending, HeldKey, Push};
 pub use laws::{
     carried_messages_are_read, deliveries_have_own_keys, drops_put_nothing_out,
     ended_texts_are_told, few_are_put_out, octets_are_read_as_a_message,

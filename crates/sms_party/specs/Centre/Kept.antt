@@ -1,10 +1,10 @@
 -- What the code checks a submission against.
-use Rattle.std.specs.Prelude.{◌≡◌, ℕ, ◌<◌, ◌≤◌, max, Bool, false, ◌&&◌, ◌||◌, nat_lt, length, zero, suc, List, [], ◌∷◌, ◌++◌, Option, Some, None}
-use Rattle.std.specs.List.{IsDistinct, filter}
-use Rattle.std.specs.Map.{keys_of, lookup}
+use Rattle.std.specs.Prelude.{◌≡◌, ℕ, ◌<◌, ◌≤◌, max, Bool, false, ◌&&◌, ◌||◌, nat_lt, length, zero, suc, List, [], ◌∷◌, ◌++◌, All, Option, Some, None}
+use Rattle.std.specs.Map.{lookup}
 use Rattle.sms_tpdu.specs.Submit.{Submission}
 use Rattle.sms_party.specs.Centre.Checks.{Books}
-use Rattle.sms_party.specs.Centre.Value.{LineValue, HeldValue, CentreValue, key_eq, phones_of}
+use Rattle.sms_party.specs.Centre.Value.{LineValue, HeldValue, CentreValue, key_eq, phones_of, endings_after}
+use Rattle.sms_party.specs.declared.centre.held.Ending.{Ending}
 use Rattle.sms_party.specs.declared.centre.held.HeldKey.{HeldKey}
 use Rattle.sms_party.specs.declared.centre.check.Check.{Check}
 use Rattle.sms_party.specs.declared.centre.check.Check.TheVariants.{Refuse, Accept}
@@ -20,17 +20,31 @@ ends_after now (Some end) = nat_lt now end
 abbrev pub is_kept : List (HeldKey × ℕ) → HeldKey → ℕ → Bool
 is_kept last key now = ends_after now (lookup (key_eq key) last)
 
--- One message more is held, with this key, to this end.
-pub record HoldsAlso (old : HeldValue) (key : HeldKey) (end : ℕ) (new : HeldValue) : Type 0 where
-  pub ends : new.ends ≡ old.ends ++ end ∷ []
-  pub kept : (other : HeldKey) (now : ℕ) → is_kept new.last other now ≡ ((nat_lt now end && key_eq key other) || is_kept old.last other now)
-  pub apart : IsDistinct key_eq (keys_of new.last)
+-- One more stands somewhere among these.
+pub record IsPutIn {X : Type 0} (x : X) (old new : List X) : Type 0 where
+  pub before : List X
+  pub after : List X
+  pub was : old ≡ before ++ after
+  pub is : new ≡ before ++ x ∷ after
+
+-- One message more is held, with this key and this ending.
+pub record HoldsAlso (old : HeldValue) (key : HeldKey) (ending : Ending) (new : HeldValue) : Type 0 where
+  pub endings : IsPutIn ending old.endings new.endings
+  pub kept : (other : HeldKey) (now : ℕ) → is_kept new.last other now ≡ ((nat_lt now ending.end && key_eq key other) || is_kept old.last other now)
+
+-- From a moment on the same duplicates are found.
+abbrev pub KeepsAfter : ℕ → HeldValue → HeldValue → Type 0
+KeepsAfter now old new = (key : HeldKey) (at : ℕ) → now ≤ at → is_kept new.last key at ≡ is_kept old.last key at
+
+-- The earliest of the endings is forgotten, if it has come.
+abbrev pub ForgetsFirst : ℕ → HeldValue → Option Ending → HeldValue → Type 0
+ForgetsFirst now old None new = All (λ e. now < e.end) old.endings × (new ≡ old)
+ForgetsFirst now old (Some ending) new = (ending.end ≤ now) × (old.endings ≡ ending ∷ new.endings) × KeepsAfter now old new
 
 -- At a later moment those are left that end after it.
 pub record IsHeldLater (now : ℕ) (old new : HeldValue) : Type 0 where
-  pub ends : new.ends ≡ filter (nat_lt now) old.ends
-  pub kept : (key : HeldKey) (at : ℕ) → now ≤ at → is_kept new.last key at ≡ is_kept old.last key at
-  pub apart : IsDistinct key_eq (keys_of new.last)
+  pub endings : new.endings ≡ endings_after now old.endings
+  pub kept : KeepsAfter now old new
 
 abbrev pub free_at : List LineValue → ℕ → ℕ
 free_at [] r = 0
@@ -41,7 +55,7 @@ abbrev pub books_in : CentreValue → ℕ → ℕ → Submission → Books
 books_in v now phone s =
     record {
       is_held = λ recipient. is_kept v.held.last (key_of phone s.reference recipient) now;
-      count = length v.held.ends;
+      count = length v.held.endings;
       stamp = λ recipient. max (free_at v.lines recipient) now;
     }
 

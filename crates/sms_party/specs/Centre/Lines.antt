@@ -1,5 +1,5 @@
 -- What the calls do at one recipient.
-use Rattle.std.specs.Prelude.{◌≡◌, ℕ, ◌+◌, ◌%◌, ◌≤◌, All, slice_get, Bool, true, false, not, ◌&&◌, ◌==◌, nat_lt, if◌then◌else◌, List, [], ◌∷◌, ◌++◌, Option, Some, None, Result, Ok, Err}
+use Rattle.std.specs.Prelude.{◌≡◌, ℕ, ◌+◌, ◌%◌, slice_get, Bool, true, false, not, ◌&&◌, ◌||◌, ◌==◌, nat_lt, if◌then◌else◌, List, [], ◌∷◌, ◌++◌, Option, Some, None, Result, Ok, Err}
 use Rattle.std.specs.List.{filter}
 use Rattle.std.proofs.Math.ListN.{set}
 use Rattle.sms_field.specs.AddressValue.{AddressValue}
@@ -86,10 +86,6 @@ LineHears now tag cause line result new = HearsFor now tag cause line line.lates
 
 -- ---- the lines of all phones
 
--- no message that waits at these lines ends before the moment
-abbrev pub AllEndFrom : ℕ → List LineValue → Type 0
-AllEndFrom earliest lines = All (λ line. All (λ m. earliest ≤ m.ends) line.queue) lines
-
 -- the line of this phone became another one in this way, and the others stay
 pub record ChangesLine (phone : ℕ) (old new : List LineValue) (How : LineValue → LineValue → Type 0) : Type 0 where
   pub before : LineValue
@@ -97,6 +93,12 @@ pub record ChangesLine (phone : ℕ) (old new : List LineValue) (How : LineValue
   pub is_there : slice_get old phone ≡ Some before
   pub others_stay : new ≡ set old phone after
   pub how : How before after
+
+-- ---- the end of a message, at one line
+
+-- the message with this stamp is gone, if it has ended
+abbrev pub forgetting_line : ℕ → ℕ → LineValue → LineValue
+forgetting_line now stamp line = record line { queue = filter (λ m. not (m.stamp == stamp) || nat_lt now m.ends) line.queue }
 
 -- ---- an acceptance, at one line
 

@@ -1,26 +1,21 @@
 -- The states of the machine for which the code of the centre stands.
-use Rattle.std.specs.Prelude.{◌≡◌, ℕ, ◌≤◌, ◌%◌, max, nat_lt, if◌then◌else◌, List, [], ◌∷◌, ◌++◌, Option, Some, None, slice_get}
-use Rattle.std.specs.List.{IsDistinct}
-use Rattle.std.specs.Map.{keys_of}
+use Rattle.std.specs.Prelude.{◌≡◌, ℕ, ◌≤◌, ◌<◌, ◌%◌, max, List, [], ◌∷◌, All, length, Option, Some, None, slice_get}
 use Rattle.sms_field.specs.AddressValue.{AddressValue}
 use Rattle.sms_party.specs.Address.{address_of}
 use Rattle.sms_party.specs.Centre.State.{Acceptance, Pushing, Line, CentreState}
 use Rattle.sms_party.specs.Centre.Held.{unended, is_held, next_stamp}
-use Rattle.sms_party.specs.Centre.Value.{WaitingValue, LineValue, HeldValue, CentreValue, key_eq, phones_of}
+use Rattle.sms_party.specs.Centre.Value.{WaitingValue, LineValue, HeldValue, CentreValue, phones_of, endings_after}
 use Rattle.sms_party.specs.Centre.Kept.{key_of, is_kept}
 use Rattle.sms_party.specs.declared.centre.waiting.Push.{Push}
 
--- of all that was accepted, the ends of what has not ended, in order of acceptance
-abbrev pub ends_in : List Acceptance → ℕ → List ℕ
-ends_in [] clock = []
-ends_in (a ∷ past) clock = if nat_lt clock a.ends then ends_in past clock ++ a.ends ∷ [] else ends_in past clock
-
 -- From this moment on the held messages are those of all that was accepted.
 pub record HeldStands (clock : ℕ) (accepted : List Acceptance) (v : HeldValue) : Type 0 where
-  pub ends : v.ends ≡ ends_in accepted clock
+  -- none that has ended
+  pub left : All (λ e. clock < e.end) v.endings
+  -- as many as have not ended, at each moment
+  pub count : (now : ℕ) → clock ≤ now → length (endings_after now v.endings) ≡ length (unended accepted now)
   pub kept : (phone reference recipient now : ℕ) → clock ≤ now
       → is_kept v.last (key_of phone reference recipient) now ≡ is_held accepted phone reference recipient now
-  pub apart : IsDistinct key_eq (keys_of v.last)
 
 abbrev pub waiting_of : List AddressValue → Acceptance → WaitingValue
 waiting_of phones a = record { origin = address_of phones a.phone; submission = a.submission; stamp = a.stamp; ends = a.ends }

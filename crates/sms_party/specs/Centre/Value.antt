@@ -4,6 +4,7 @@ use Rattle.std.specs.List.{filter}
 use Rattle.sms_field.specs.AddressValue.{AddressValue}
 use Rattle.sms_tpdu.specs.Submit.{Submission}
 use Rattle.sms_party.specs.declared.centre.held.HeldKey.{HeldKey}
+use Rattle.sms_party.specs.declared.centre.held.Ending.{Ending}
 use Rattle.sms_party.specs.contracts.centre.held.HeldKeyPartialEq.TheImpl as derived
 use Rattle.sms_party.specs.declared.centre.waiting.Push.{Push}
 
@@ -31,10 +32,15 @@ abbrev pub key_eq : HeldKey → HeldKey → Bool
 key_eq = (derived.ghosts).eq
 
 pub record HeldValue : Type 0 where
-  -- the ends of the held messages, in order of acceptance
-  pub ends : List ℕ
+  -- of the held messages, the earliest first
+  pub endings : List Ending
   -- for each of their keys the greatest end of those that have it
   pub last : List (HeldKey × ℕ)
+
+pub record HoldingsValue : Type 0 where
+  pub held : HeldValue
+  -- one for each phone
+  pub lines : List LineValue
 
 pub record CentreValue : Type 0 where
   pub limit : ℕ
@@ -50,6 +56,9 @@ abbrev pub phones_of : CentreValue → List AddressValue
 phones_of v = addresses v.lines
 
 -- ---- what is left at a moment
+
+abbrev pub endings_after : ℕ → List Ending → List Ending
+endings_after now endings = filter (λ e. nat_lt now e.end) endings
 
 abbrev pub waiting_at : ℕ → List WaitingValue → List WaitingValue
 waiting_at now queue = filter (λ m. nat_lt now m.ends) queue

@@ -1,11 +1,11 @@
 //! The messages that the centre holds.
 
-ghost use Rattle.std.specs.Prelude.{◌≡◌, ◌≤◌, ◌++◌, [], ◌∷◌, nat_lt, length, All, OnOk, OnErr};
-ghost use Rattle.sms_party.specs.Centre.Value.{HeldValue};
-ghost use Rattle.sms_party.specs.Centre.Kept.{is_kept, HoldsAlso, IsHeldLater};
+ghost use Rattle.std.specs.Prelude.{◌≡◌, ◌≢◌, [], length, All, OnOk, OnErr};
+ghost use Rattle.sms_party.specs.Centre.Kept.{is_kept, HoldsAlso, KeepsAfter, ForgetsFirst};
 
 use indexmap::IndexMap;
 use std::alloc::{AllocError, Global};
+use std::collections::BTreeMap;
 use std::marker::Model;
 
 /// What tells a duplicate: the originating phone, the message reference and the recipient (3GPP TS 23.040, 9.2.3.25).
@@ -19,57 +19,54 @@ pub struct HeldKey {
     pub recipient: usize,
 }
 
+/// When a held message ends, and which it is: no two messages to one recipient have one stamp.
+#[derive(Clone, Copy, Debug, PartialEq, Eq, PartialOrd, Ord, Drop)]
+pub struct Ending {
+    /// The end of its validity.
+    pub end: u64,
+    /// The phone that has the recipient's address, counted from 0.
+    pub recipient: usize,
+    /// The moment of its TP-SCTS.
+    pub stamp: u64,
+}
+
 /// The messages whose validity has not ended, delivered or not.
 #[derive(Drop)]
 pub(crate) struct HeldMessages {
-    /// The end of each, in order of acceptance.
-    ends: Vec<u64>,
-    /// None of them ends before this moment.
-    earliest: u64,
+    /// The key of each, by its ending.
+    endings: BTreeMap<Ending, HeldKey>,
     /// For each key the greatest end of those that have it.
     last: IndexMap<HeldKey, u64>,
 }
 
 impl Model for HeldMessages {
     ghost use Rattle.indexmap.specs.IndexMap.{IsUnique};
-    ghost use Rattle.std.specs.Prelude.{◌≤◌, All};
+    ghost use Rattle.std.specs.Map.{keys_of};
     ghost use Rattle.sms_party.specs.Centre.Value.{HeldValue, key_eq};
 
     ghost Value = { HeldValue };
 
-    ghost view = { λ h. record { ends = h.ends.items; last = h.last.entries } };
+    ghost view = { λ h. record { endings = keys_of h.endings.entries; last = h.last.entries } };
 
-    ghost invariant = { λ h. IsUnique key_eq h.last × All (λ e. h.earliest ≤ e) h.ends.items };
-}
-
-/// A moment before which none of these ends is.
-fn earliest_of(ends: &[u64]) -> u64
-    ensures { All (λ e. result ≤ e) ends.now }
-{
-    let mut earliest = u64::MAX;
-    for end in ends {
-        earliest = earliest.min(*end);
-    }
-    earliest
+    ghost invariant = { λ h. IsUnique key_eq h.last };
 }
 
 impl HeldMessages {
     /// None.
     pub(crate) fn new(alloc: Global) -> HeldMessages
-        ensures { result ≡ record { ends = []; last = [] } }
+        ensures { result ≡ record { endings = []; last = [] } }
     {
         HeldMessages {
-            ends: Vec::new(alloc),
-            earliest: u64::MAX,
+            endings: BTreeMap::new(alloc),
             last: IndexMap::new(alloc),
         }
     }
 
     /// How many there are.
     pub(crate) fn count(&self) -> usize
-        ensures { result ≡ length self.now.ends }
+        ensures { result ≡ length self.now.endings }
     {
-        self.ends.len()
+        self.endings.len()
     }
 
     /// Whether one with this key ends after a moment.
@@ -82,35 +79,42 @@ impl HeldMessages {
         }
     }
 
-    /// Forgets those that have ended. Where none has, it looks at no message.
-    pub(crate) fn forget(&mut self, now: u64)
-        ensures { IsHeldLater now self.old self.new }
+    /// Forgets the one that ends first, if it has ended. A key goes when the last message with it ends.
+    pub(crate) fn forget_first(&mut self, now: u64) -> Option<Ending>
+        ensures { ForgetsFirst now self.old result self.new }
     {
-        if now < self.earliest {
-            return;
+        let (first, _) = self.endings.first_key_value()?;
+        if first.end > now {
+            return None;
         }
-        self.ends.retain(|end| *end > now);
-        self.last.retain(
-            |_key: &HeldKey, end: &mut u64| -> bool
-                ensures { (result ≡ nat_lt now end.old) × (end.new ≡ end.old) }
-            { *end > now },
-        );
-        self.earliest = earliest_of(&self.ends);
+        let (ending, key) = self.endings.pop_first()?;
+        self.forget_key(key, now);
+        Some(ending)
     }
 
-    /// Holds one more, with this key, to this end. If memory runs out, nothing has changed.
-    pub(crate) fn hold(&mut self, key: HeldKey, end: u64) -> Result<(), AllocError>
-        ensures ok { OnOk result (HoldsAlso self.old key end self.new) }
+    /// Forgets a key, if the last message with it has ended.
+    fn forget_key(&mut self, key: HeldKey, now: u64)
+        ensures endings { self.new.endings ≡ self.old.endings }
+        ensures kept { KeepsAfter now self.old self.new }
+    {
+        if !self.is_held(key, now) {
+            self.last.swap_remove(&key);
+        }
+    }
+
+    /// Holds one more, with this key and ending. If memory runs out, nothing has changed.
+    pub(crate) fn hold(&mut self, key: HeldKey, ending: Ending) -> Result<(), AllocError>
+        requires { All (λ e. e ≢ ending) self.old.endings }
+        ensures ok { OnOk result (HoldsAlso self.old key ending self.new) }
         ensures err { OnErr result (self.new ≡ self.old) }
     {
-        self.ends.reserve(1)?;
+        self.last.reserve(1)?;
+        self.endings.insert(ending, key)?;
         let greatest = match self.last.get(&key) {
-            Some(other) => end.max(*other),
-            None => end,
+            Some(other) => ending.end.max(*other),
+            None => ending.end,
         };
         self.last.insert(key, greatest)?;
-        self.ends.push_reserved(end);
-        self.earliest = self.earliest.min(end);
         Ok(())
     }
 }

@@ -1,36 +1,37 @@
 //! What the centre knows of one recipient.
 
-ghost use Rattle.std.specs.Prelude.{◌≡◌, ◌<◌, ◌≤◌, ◌++◌, false, List, All, slice_get, option_copied, IfOk, IfErr};
+ghost use Rattle.std.specs.Prelude.{◌≡◌, ◌≢◌, ◌<◌, ◌≤◌, false, All, IfOk, IfErr, OnOk, OnErr, nat_eq};
+ghost use Rattle.std.specs.Map.{remove_entry};
+ghost use Rattle.lru.specs.LruCache.{lru_cache};
 ghost use Rattle.sms_relay.specs.declared.side.Side.TheVariants.{ToPhone};
 ghost use Rattle.sms_party.specs.declared.message.Message.TheVariants.{Data};
 ghost use Rattle.sms_party.specs.declared.message.Relay.TheVariants.{Transfer};
 ghost use Rattle.sms_party.specs.declared.message.TransferUnit.TheVariants.{Deliver};
 ghost use Rattle.sms_party.specs.Message.Carrying.{Carries};
 ghost use Rattle.sms_party.specs.Centre.Verdicts.{stays, verdict};
-ghost use Rattle.sms_party.specs.Centre.Value.{line_at, WaitingValue};
-ghost use Rattle.sms_party.specs.Centre.Lines.{delivery_of, new_line, left_waiting, LinePushes, LineHears};
-ghost use Rattle.sms_party.specs.Centre.Queue.{is_last, StampsDiffer, IsLastOrGone};
+ghost use Rattle.sms_party.specs.Centre.Lines.{delivery_of, new_line, forgetting_line, accepting_line, LinePushes, LineHears};
+ghost use Rattle.sms_party.specs.Centre.Kept.{HoldsAlso};
+ghost use Rattle.sms_party.specs.Centre.Holdings.{ending_of};
 ghost use Rattle.sms_party.specs.declared.outcome.Dropped.TheVariants.{Memory};
 
+use crate::centre::held::{Ending, HeldKey, HeldMessages};
 use crate::centre::waiting::{Push, WaitingMessage};
 use crate::message::Tag;
 use crate::message::packets::{acknowledgement, address_of_centre, wrapped};
 use crate::outcome::{Dropped, Outcome, Step};
+use lru::LruCache;
 use sms_field::Address;
 use sms_relay::{Side, wrap_transfer};
 use std::alloc::{AllocError, Global};
-use std::collections::VecDeque;
 use std::marker::Model;
 
 /// What the centre knows of one recipient.
 #[derive(Drop)]
 pub(crate) struct Line {
     pub address: Address,
-    /// What is to be delivered, in order of its latest acceptance or push, up to the latest push: its message is the
-    /// last of these while it waits, so that an answer finds it without looking at the others.
-    pub older: VecDeque<WaitingMessage>,
-    /// What was accepted since. The next push puts it after the others.
-    pub newer: VecDeque<WaitingMessage>,
+    /// What is to be delivered, by its stamp, the latest accepted or pushed first. A message goes from any place
+    /// without a look at the others.
+    queue: LruCache<u64, WaitingMessage>,
     /// No stamp below this one is given any more.
     pub free: u64,
     /// The transaction value and the reference of the next push.
@@ -45,14 +46,15 @@ impl Model for Line {
 
     ghost Value = { LineValue };
 
-    ghost use Rattle.std.specs.Prelude.{◌<◌, ◌++◌};
-    ghost use Rattle.sms_party.specs.Centre.Queue.{IsQueue};
+    ghost use Rattle.std.specs.Prelude.{◌≡◌, ◌<◌, ◌-◌, ◌^◌};
+    ghost use Rattle.sms_party.specs.Centre.Queue.{IsQueue, queue_of};
 
-    ghost invariant = { λ l. (l.value < 7) × IsQueue l.older.items l.newer.items l.free l.latest };
+    ghost invariant = { λ l.
+        (l.value < 7) × (l.queue.cap ≡ 2 ^ 64 - 1) × IsQueue l.queue.entries l.free };
 
     ghost view = { λ l. record {
       address = l.address;
-      queue = l.older.items ++ l.newer.items;
+      queue = queue_of l.queue.entries;
       free = l.free;
       value = l.value;
       reference = l.reference;
@@ -108,39 +110,47 @@ fn stays(cause: Option<u8>) -> bool
     }
 }
 
-/// A moment before which none of these messages ends.
-fn earliest_end(queue: &VecDeque<WaitingMessage>) -> u64
-    ensures { All (λ m. result ≤ m.ends) queue.now.items }
+/// Takes out the message with this stamp, if one waits.
+fn take_out(queue: &mut LruCache<u64, WaitingMessage>, stamp: u64)
+    ensures { queue.new ≡ lru_cache (remove_entry (nat_eq stamp) queue.old.entries) queue.old.cap }
 {
-    let mut earliest = u64::MAX;
-    for place in 0..queue.len() {
-        earliest = earliest.min(queue[place].ends);
-    }
-    earliest
+    queue.pop(&stamp);
 }
 
-/// Whether the last of these messages has this stamp.
-fn is_last(queue: &VecDeque<WaitingMessage>, stamp: u64) -> bool
-    ensures { result ≡ is_last stamp queue.now.items }
+/// Holds a message, and puts it at the end of the queue of its recipient. If memory runs out, nothing has changed.
+pub(crate) fn hold(
+    held: &mut HeldMessages,
+    line: &mut Line,
+    key: HeldKey,
+    message: WaitingMessage,
+) -> Result<(), Dropped>
+    requires stamp { line.old.free ≤ message.stamp }
+    requires absent { All (λ e. e ≢ ending_of key.recipient message) held.old.endings }
+    ensures held { OnOk result
+        (HoldsAlso held.old key (ending_of key.recipient message) held.new) }
+    ensures line { OnOk result (line.new ≡ accepting_line line.old message) }
+    ensures err_held { OnErr result (held.new ≡ held.old) }
+    ensures err_line { OnErr result (line.new ≡ line.old) }
+    ensures memory { IfErr result (λ e. e ≡ Memory) }
 {
-    match queue.back() {
-        Some(last) => last.stamp == stamp,
-        None => false,
-    }
-}
-
-/// Takes out the message of the latest push, which has this stamp, as the answer says. It is the last one, or has
-/// ended.
-fn take_out(older: &mut VecDeque<WaitingMessage>, stamp: u64, cause: Option<u8>)
-    ensures { (newer : List WaitingValue) → StampsDiffer (older.old.items ++ newer)
-        → IsLastOrGone stamp older.old.items newer
-        → older.new.items ++ newer ≡ left_waiting (older.old.items ++ newer) stamp cause }
-{
-    if stays(cause) {
-        return;
-    }
-    if is_last(older, stamp) {
-        older.pop_back();
+    let stamp = message.stamp;
+    // The queue has no bound, so that no message makes way for this one: `len` says that there is room.
+    let _count = line.queue.len();
+    let ending = Ending {
+        end: message.ends,
+        recipient: key.recipient,
+        stamp,
+    };
+    line.queue.put(stamp, message)?;
+    match held.hold(key, ending) {
+        Ok(()) => {
+            line.free = stamp + 1;
+            Ok(())
+        }
+        Err(_) => {
+            take_out(&mut line.queue, stamp);
+            Err(Dropped::Memory)
+        }
     }
 }
 
@@ -151,8 +161,7 @@ impl Line {
     {
         Ok(Line {
             address: phone.copy(alloc)?,
-            older: VecDeque::new(alloc),
-            newer: VecDeque::new(alloc),
+            queue: LruCache::unbounded(alloc)?,
             free: 0,
             value: 0,
             reference: 0,
@@ -160,30 +169,15 @@ impl Line {
         })
     }
 
-    /// A moment before which no message of the queue ends.
-    pub(crate) fn earliest(&self) -> u64
-        ensures { All (λ m. result ≤ m.ends) self.now.queue }
+    /// Takes out the message with this stamp, if it has ended.
+    pub(crate) fn forget(&mut self, now: u64, stamp: u64)
+        ensures { self.new ≡ forgetting_line now stamp self.old }
     {
-        let older = earliest_end(&self.older);
-        let newer = earliest_end(&self.newer);
-        older.min(newer)
-    }
-
-    /// Removes the messages whose validity has ended.
-    pub(crate) fn advance(&mut self, now: u64)
-        ensures { self.new ≡ line_at now self.old }
-    {
-        self.older.retain(|message| message.ends > now);
-        self.newer.retain(|message| message.ends > now);
-    }
-
-    /// The first message of the queue.
-    fn first(&self) -> Option<&WaitingMessage>
-        ensures { option_copied result ≡ slice_get self.now.queue 0 }
-    {
-        match self.older.front() {
-            Some(first) => Some(first),
-            None => self.newer.front(),
+        let Some(message) = self.queue.peek(&stamp) else {
+            return;
+        };
+        if message.ends <= now {
+            take_out(&mut self.queue, stamp);
         }
     }
 
@@ -191,23 +185,23 @@ impl Line {
     pub(crate) fn push(&mut self, alloc: Global) -> Result<Step, Dropped>
         ensures { LinePushes self.old result self.new }
     {
-        let Some(first) = self.first() else {
+        let Some((stamp, first)) = self.queue.peek_lru() else {
             return Ok(Step {
                 outcome: Outcome::NothingWaits,
                 packets: Vec::new(alloc),
             });
         };
-        let more = self.older.len() + self.newer.len() > 1;
+        let stamp = *stamp;
+        let more = self.queue.len() > 1;
         let packet = delivery_packet(alloc, self.value, self.reference, first, more)?;
         let latest = Push {
             value: self.value,
             reference: self.reference,
-            stamp: first.stamp,
+            stamp,
             ends: first.ends,
         };
         let packets = vec![in alloc; packet]?;
-        self.older.append(&mut self.newer)?;
-        self.older.rotate_left(1);
+        self.queue.promote(&stamp);
         self.latest = Some(latest);
         self.value = (self.value + 1) % 7;
         self.reference = self.reference.wrapping_add(1);
@@ -234,11 +228,13 @@ impl Line {
         if tag.value != latest.value || tag.reference != latest.reference || latest.ends <= now {
             return Err(Dropped::Unmatched);
         }
-        let stamp = latest.stamp;
+        let pushed = latest.stamp;
         let packet = acknowledgement(alloc, false, tag.value)?;
         let packets = vec![in alloc; packet]?;
         self.latest = None;
-        take_out(&mut self.older, stamp, cause);
+        if !stays(cause) {
+            take_out(&mut self.queue, pushed);
+        }
         Ok(Step {
             outcome: verdict(cause),
             packets,

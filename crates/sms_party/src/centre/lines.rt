@@ -1,14 +1,15 @@
 //! What the centre knows of all recipients.
 
-ghost use Rattle.std.specs.Prelude.{◌≡◌, ◌<◌, ◌≤◌, IsTrue, length, map, IfSome, IfOk, IfErr, OnOk, OnErr};
+ghost use Rattle.std.specs.Prelude.{◌≡◌, ◌≢◌, ◌<◌, ◌≤◌, IsTrue, All, length, map, IfOk, IfErr, OnOk, OnErr};
 ghost use Rattle.sms_party.specs.Address.{are_distinct, phone_at, address_of};
-ghost use Rattle.sms_party.specs.Centre.Value.{line_at, addresses};
-ghost use Rattle.sms_party.specs.Centre.Lines.{new_line, accepting_line, LinePushes, LineHears, ChangesLine};
+ghost use Rattle.sms_party.specs.Centre.Value.{addresses};
+ghost use Rattle.sms_party.specs.Centre.Lines.{new_line, accepting_line, forgetting_line, LinePushes, LineHears, ChangesLine};
+ghost use Rattle.sms_party.specs.Centre.Holdings.{ending_of};
 ghost use Rattle.sms_party.specs.Centre.Kept.{free_at, HoldsAlso};
 ghost use Rattle.sms_party.specs.declared.outcome.Dropped.TheVariants.{Memory};
 
-use crate::centre::held::{HeldKey, HeldMessages};
-use crate::centre::line::Line;
+use crate::centre::held::{Ending, HeldKey, HeldMessages};
+use crate::centre::line::{Line, hold};
 use crate::centre::waiting::WaitingMessage;
 use crate::message::Tag;
 use crate::outcome::{Dropped, Step};
@@ -23,43 +24,17 @@ pub(crate) struct Lines {
     lines: Vec<Line>,
     /// The addresses of the phones in the same order, so that a phone is found by one look-up.
     phones: IndexSet<Address>,
-    /// No message that waits ends before this moment.
-    earliest: u64,
 }
 
 impl Model for Lines {
     ghost use Rattle.std.specs.Prelude.{◌≡◌, List};
     ghost use Rattle.sms_party.specs.Centre.Value.{LineValue, addresses};
-    ghost use Rattle.sms_party.specs.Centre.Lines.{AllEndFrom};
 
     ghost Value = { List LineValue };
 
     ghost view = { λ l. l.lines.items };
 
-    ghost invariant = { λ l.
-        (l.phones.keys ≡ addresses l.lines.items) × AllEndFrom l.earliest l.lines.items };
-}
-
-/// Holds a message, and puts it into the queue of its recipient. All growths come before the first
-/// change; if memory runs out, nothing has changed.
-fn hold(
-    held: &mut HeldMessages,
-    line: &mut Line,
-    key: HeldKey,
-    message: WaitingMessage,
-) -> Result<(), Dropped>
-    requires { line.old.free ≤ message.stamp }
-    ensures held { OnOk result (HoldsAlso held.old key message.ends held.new) }
-    ensures line { OnOk result (line.new ≡ accepting_line line.old message) }
-    ensures err_held { OnErr result (held.new ≡ held.old) }
-    ensures err_line { OnErr result (line.new ≡ line.old) }
-    ensures memory { IfErr result (λ e. e ≡ Memory) }
-{
-    line.newer.reserve(1)?;
-    held.hold(key, message.ends)?;
-    line.free = message.stamp + 1;
-    line.newer.push_back_reserved(message);
-    Ok(())
+    ghost invariant = { λ l. l.phones.keys ≡ addresses l.lines.items };
 }
 
 impl Lines {
@@ -74,11 +49,7 @@ impl Lines {
             lines.push(Line::new(alloc, address)?)?;
             phones.insert(address.copy(alloc)?)?;
         }
-        Ok(Lines {
-            lines,
-            phones,
-            earliest: u64::MAX,
-        })
+        Ok(Lines { lines, phones })
     }
 
     /// The phone with this address.
@@ -104,19 +75,14 @@ impl Lines {
         self.lines[phone].free
     }
 
-    /// Removes the messages whose validity has ended. Where none has, it looks at no line.
-    pub(crate) fn advance(&mut self, now: u64)
-        ensures { self.new ≡ map (line_at now) self.old }
+    /// Takes a message out of the queue of its recipient, if it waits there and has ended.
+    pub(crate) fn forget(&mut self, now: u64, ending: Ending)
+        requires { ending.recipient < length self.old }
+        ensures { ChangesLine ending.recipient self.old self.new
+            (λ line new. new ≡ forgetting_line now ending.stamp line) }
     {
-        if now < self.earliest {
-            return;
-        }
-        let mut earliest = u64::MAX;
-        for line in self.lines.iter_mut() {
-            line.advance(now);
-            earliest = earliest.min(line.earliest());
-        }
-        self.earliest = earliest;
+        let line = &mut self.lines[ending.recipient];
+        line.forget(now, ending.stamp);
     }
 
     /// Puts out the first message of a phone's queue. If memory runs out, the line is as it was.
@@ -146,27 +112,26 @@ impl Lines {
         line.hear(alloc, now, tag, cause)
     }
 
-    /// Holds a message, and puts it into the queue of its recipient. If memory runs out, nothing has changed.
+    /// Holds a message, and puts it at the end of the queue of its recipient. If memory runs out, nothing has changed.
     pub(crate) fn hold(
         &mut self,
         held: &mut HeldMessages,
-        recipient: usize,
         key: HeldKey,
         message: WaitingMessage,
     ) -> Result<(), Dropped>
-        requires recipient { recipient < length self.old }
-        requires stamp { free_at self.old recipient ≤ message.stamp }
-        ensures held { OnOk result (HoldsAlso held.old key message.ends held.new) }
-        ensures line { OnOk result (ChangesLine recipient self.old self.new
+        requires recipient { key.recipient < length self.old }
+        requires stamp { free_at self.old key.recipient ≤ message.stamp }
+        requires absent { All (λ e. e ≢ ending_of key.recipient message) held.old.endings }
+        ensures held { OnOk result
+            (HoldsAlso held.old key (ending_of key.recipient message) held.new) }
+        ensures line { OnOk result (ChangesLine key.recipient self.old self.new
             (λ line new. new ≡ accepting_line line message)) }
         ensures err_held { OnErr result (held.new ≡ held.old) }
         ensures err_lines { OnErr result (self.new ≡ self.old) }
         ensures memory { IfErr result (λ e. e ≡ Memory) }
     {
-        let ends = message.ends;
-        let line = &mut self.lines[recipient];
+        let line = &mut self.lines[key.recipient];
         hold(held, line, key, message)?;
-        self.earliest = self.earliest.min(ends);
         Ok(())
     }
 }

@@ -8,7 +8,7 @@ pub returns-then-stamp-ge-LAST_MOMENT-clause-result_is : goal.returns-then-stamp
 returns-then-stamp-ge-LAST_MOMENT-clause-result_is c =
     space_late c.args.self.now.limit (books_in c.args.self.now c.args.now c.args.phone c.args.submission.now) c.args.submission.now c.args.ends c.args.recipient c.max-stamp.result
     (sym c.is_duplicate.ensures ∙ c.if-is_duplicate.false)
-    (subst (λ (v : CentreValue). length v.held.ends < v.limit) c.self.view_is (let n : c.count.result ≡ length c.self.inside.held.ends = c.count.ensures in omega arith))
+    (subst (λ (v : CentreValue). length v.held.endings < v.limit) c.self.view_is (let n : c.count.result ≡ length c.self.inside.holdings.held.endings = c.count.ensures in omega arith))
     (c.max-stamp.ensures ∙ ap (λ n. max n c.args.now) (c.free.ensures ∙ ap (λ (v : CentreValue). free_at v.lines c.args.recipient) c.self.view_is))
     c.if-stamp-ge-LAST_MOMENT.true
 
@@ -16,6 +16,6 @@ pub returns-clause-result_is : goal.returns-clause-result_is
 returns-clause-result_is c =
     space_free c.args.self.now.limit (books_in c.args.self.now c.args.now c.args.phone c.args.submission.now) c.args.submission.now c.args.ends c.args.recipient c.max-stamp.result
     (sym c.is_duplicate.ensures ∙ c.if-is_duplicate.false)
-    (subst (λ (v : CentreValue). length v.held.ends < v.limit) c.self.view_is (let n : c.count.result ≡ length c.self.inside.held.ends = c.count.ensures in omega arith))
+    (subst (λ (v : CentreValue). length v.held.endings < v.limit) c.self.view_is (let n : c.count.result ≡ length c.self.inside.holdings.held.endings = c.count.ensures in omega arith))
     (c.max-stamp.ensures ∙ ap (λ n. max n c.args.now) (c.free.ensures ∙ ap (λ (v : CentreValue). free_at v.lines c.args.recipient) c.self.view_is))
     c.if-stamp-ge-LAST_MOMENT.false

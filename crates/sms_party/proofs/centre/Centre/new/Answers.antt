@@ -1,14 +1,15 @@
 use Rattle.std.proofs.Common.{ap, sym, subst, ◌∙◌}
 use Rattle.sms_party.specs.Centre.State.{new_centre}
-use Rattle.sms_party.specs.Centre.Value.{HeldValue, addresses}
+use Rattle.sms_party.specs.Centre.Value.{HoldingsValue, addresses}
+use Rattle.sms_party.specs.Centre.Lines.{new_line}
 use Rattle.sms_party.specs.Centre.Standing.{StandsFor}
 use Rattle.sms_party.proofs.NewCentre.{new_addresses, new_centre_stands}
 use Rattle.sms_party.proofs.centre.Centre.new.Goals as goal
 
 pub returns-clause-stands : goal.returns-clause-stands
 returns-clause-stands c = λ clock.
-    subst (λ (h : HeldValue). StandsFor c.args.held c.args.phones.now clock (record { limit = c.args.held; held = h; lines = c.in_ok-new.field-0 }) new_centre) (sym c.new.ensures)
-    (new_centre_stands c.args.held c.args.phones.now c.in_ok-new.field-0 c.in_ok-new.ensures clock)
+    subst (λ (h : HoldingsValue). StandsFor c.args.held c.args.phones.now clock (record { limit = c.args.held; held = h.held; lines = h.lines }) new_centre) (sym c.in_ok-new.ensures)
+    (new_centre_stands c.args.held c.args.phones.now clock)
 
 pub returns-clause-phones : goal.returns-clause-phones
-returns-clause-phones c = ap addresses c.in_ok-new.ensures ∙ new_addresses c.args.phones.now
+returns-clause-phones c = ap (λ (h : HoldingsValue). addresses h.lines) c.in_ok-new.ensures ∙ new_addresses c.args.phones.now

@@ -5,7 +5,7 @@ use Rattle.sms_party.specs.declared.message.Relay.TheVariants.{Answer}
 use Rattle.sms_party.specs.declared.outcome.Dropped.TheVariants.{Unmatched}
 use Rattle.sms_party.specs.Centre.{centre_answered}
 use Rattle.sms_party.specs.Centre.Verdicts.{centre_hears}
-use Rattle.sms_party.specs.Centre.Value.{LineValue, CentreValue, phones_of}
+use Rattle.sms_party.specs.Centre.Value.{LineValue, HeldValue, CentreValue, phones_of}
 use Rattle.sms_party.specs.Centre.Standing.{StandsFor}
 use Rattle.sms_party.specs.Centre.Calls.{CentreAnswers}
 use Rattle.sms_party.proofs.Taking.{nothing_comes}
@@ -15,16 +15,17 @@ use Rattle.sms_party.proofs.centre.Centre.take_answer.Goals as goal
 pub returns-in-FromPhone-clause-steps : goal.returns-in-FromPhone-clause-steps
 unfolding centre_answered
 returns-in-FromPhone-clause-steps c = λ limit phones s origin stands.
-    let v : CentreValue = record { limit = c.self.inside.limit; held = c.self.inside.held; lines = c.self.inside.lines } in
-    let h = c.hear.ensures in
-    subst (λ (r : Relay). CentreAnswers limit phones c.args.now s (centre_answered s c.args.now c.args.phone c.args.tag r) c.hear.result (record { limit = v.limit; held = v.held; lines = c.hear.new.self })) (sym (c.in-Answer.is ∙ ap (λ (x : Side). Answer x c.in-Answer.cause c.in-Answer.report) c.in-FromPhone.is))
+    let v : CentreValue = record { limit = c.self.inside.limit; held = c.self.inside.holdings.held; lines = c.self.inside.holdings.lines } in
+    let h = c.hear.ensures.line in
+    subst (λ (r : Relay). CentreAnswers limit phones c.args.now s (centre_answered s c.args.now c.args.phone c.args.tag r) c.hear.result (record { limit = v.limit; held = c.hear.new.self.held; lines = c.hear.new.self.lines })) (sym (c.in-Answer.is ∙ ap (λ (x : Side). Answer x c.in-Answer.cause c.in-Answer.report) c.in-FromPhone.is))
+    (subst (λ (held : HeldValue). CentreAnswers limit phones c.args.now s (centre_hears s c.args.now c.args.phone c.args.tag c.in-Answer.cause (s.line c.args.phone).latest) c.hear.result (record { limit = v.limit; held = held; lines = c.hear.new.self.lines })) (sym c.hear.ensures.held)
     (subst (λ (lines : List LineValue). CentreAnswers limit phones c.args.now s (centre_hears s c.args.now c.args.phone c.args.tag c.in-Answer.cause (s.line c.args.phone).latest) c.hear.result (record { limit = v.limit; held = v.held; lines = lines })) (sym h.others_stay)
     (hear_steps limit phones c.args.now v s c.args.phone h.before h.after h.is_there
-    (subst (λ (w : CentreValue). StandsFor limit phones c.args.now w s) (sym c.self.view_is) stands) c.args.tag c.in-Answer.cause c.hear.result h.how))
+    (subst (λ (w : CentreValue). StandsFor limit phones c.args.now w s) (sym c.self.view_is) stands) c.args.tag c.in-Answer.cause c.hear.result h.how)))
 
 pub returns-in-FromPhone-clause-phones : goal.returns-in-FromPhone-clause-phones
 returns-in-FromPhone-clause-phones c =
-    heard_phones c.args.now c.args.tag c.in-Answer.cause c.args.phone c.self.inside.lines c.hear.new.self c.hear.result c.hear.ensures ∙ ap phones_of c.self.view_is
+    heard_phones c.args.now c.args.tag c.in-Answer.cause c.args.phone c.self.inside.holdings.lines c.hear.new.self.lines c.hear.result c.hear.ensures.line ∙ ap phones_of c.self.view_is
 
 pub returns-in-Answer-clause-steps : goal.returns-in-Answer-clause-steps
 unfolding centre_answered

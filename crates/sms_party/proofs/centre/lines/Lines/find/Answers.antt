@@ -10,4 +10,4 @@ pub returns : goal.returns
 returns c =
     c.get_index_of.ensures.index
     ∙ (ap (λ (p : AddressValue → Bool). position p c.self.inside.phones.keys) (same_test c.args.target.now ∙ either_way c.args.target.now)
-    ∙ ap (λ (l : List AddressValue). phone_at l c.args.target.now) (c.self.invariant.0 ∙ ap addresses c.self.view_is))
+    ∙ ap (λ (l : List AddressValue). phone_at l c.args.target.now) (c.self.invariant ∙ ap addresses c.self.view_is))

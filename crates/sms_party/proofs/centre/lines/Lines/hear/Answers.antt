@@ -1,22 +1,18 @@
-use Rattle.std.proofs.Common.{◌<◌, List, length, refl, sym, ap, ◌∙◌, subst, arith}
+use Rattle.std.proofs.Common.{◌<◌, List, length, refl, sym, ap, ◌∙◌, subst}
 use Rattle.std.specs.List.{slice_get}
 use Rattle.std.proofs.Math.ListN.{set}
 use Rattle.std.proofs.lemmas.Option.{slice_get_read}
 use Rattle.sms_party.specs.Centre.Value.{LineValue}
 use Rattle.sms_party.proofs.Lines.{addresses_set}
 use Rattle.sms_party.proofs.Hearing.{heard_address}
-use Rattle.sms_party.proofs.Earliest.{set_end, line_ends, heard_ends}
 use Rattle.sms_party.proofs.centre.lines.Lines.hear.Goals as goal
 
 pub invariant_of-self : goal.invariant_of-self
 invariant_of-self c =
     let items = c.self.inside.lines.items in
     let within = subst (λ (l : List LineValue). c.args.phone < length l) (sym c.self.view_is) c.requires.phone in
-    let there = slice_get_read items (length items) c.args.phone c.index_mut-line.result.now refl within c.index_mut-line.ensures.value in (
-      c.self.invariant.0 ∙ sym (addresses_set items c.args.phone c.index_mut-line.result.now c.hear.new.self there (heard_address c.args.now c.args.tag c.args.cause c.index_mut-line.result.now c.hear.new.self c.hear.result c.hear.ensures)),
-      set_end items c.args.phone c.hear.new.self c.self.inside.earliest c.self.inside.earliest (omega arith) c.self.invariant.1
-          (heard_ends c.args.now c.args.tag c.args.cause c.index_mut-line.result.now c.hear.new.self c.hear.result c.self.inside.earliest (line_ends items c.args.phone c.index_mut-line.result.now c.self.inside.earliest within c.index_mut-line.ensures.value c.self.invariant.1) c.hear.ensures),
-    )
+    let there = slice_get_read items (length items) c.args.phone c.index_mut-line.result.now refl within c.index_mut-line.ensures.value in
+    c.self.invariant ∙ sym (addresses_set items c.args.phone c.index_mut-line.result.now c.hear.new.self there (heard_address c.args.now c.args.tag c.args.cause c.index_mut-line.result.now c.hear.new.self c.hear.result c.hear.ensures))
 
 pub returns : goal.returns
 returns c =

@@ -1,8 +1,6 @@
-use Rattle.std.proofs.Common.{List, take, sym, ap, ◌∙◌, subst}
-use Rattle.sms_party.specs.Centre.Value.{LineValue, addresses}
-use Rattle.sms_party.specs.Centre.Lines.{AllEndFrom}
+use Rattle.std.proofs.Common.{take, sym, ap, ◌∙◌}
+use Rattle.sms_party.specs.Centre.Value.{addresses}
 use Rattle.sms_party.proofs.NewCentre.{new_addresses}
-use Rattle.sms_party.proofs.Earliest.{new_end}
 use Rattle.sms_party.proofs.SameAddresses.{added, line_added}
 use Rattle.sms_party.proofs.centre.lines.Lines.new.Goals as goal
 
@@ -17,7 +15,4 @@ loop-address-preserved c =
 
 pub invariant_of-result : goal.invariant_of-result
 invariant_of-result c =
-    let some = take c.loop-address.address-index c.args.addresses.now in (
-      c.loop-address.invariant.1 ∙ sym (ap addresses c.loop-address.invariant.0 ∙ new_addresses some),
-      subst (λ (l : List LineValue). AllEndFrom 18446744073709551615 l) (sym c.loop-address.invariant.0) (new_end some 18446744073709551615),
-    )
+    c.loop-address.invariant.1 ∙ sym (ap addresses c.loop-address.invariant.0 ∙ new_addresses (take c.loop-address.address-index c.args.addresses.now))

@@ -1,0 +1,18 @@
+use Rattle.std.proofs.Common.{List, ◌∷◌, ap, ◌∙◌, sym, arith}
+use Rattle.std.specs.Map.{keys_of}
+use Rattle.sms_party.specs.Centre.Value.{HeldValue}
+use Rattle.sms_party.specs.Centre.Kept.{is_kept}
+use Rattle.sms_party.specs.declared.centre.held.Ending.{Ending}
+use Rattle.sms_party.specs.declared.centre.held.HeldKey.{HeldKey}
+use Rattle.sms_party.proofs.HeldMaps.{taken_first}
+use Rattle.sms_party.proofs.centre.held.HeldMessages.forget_first.Goals as goal
+
+pub returns : goal.returns
+returns c =
+    let removal = c.in_ok-ending.ensures.removal in
+    let end = taken_first c.self.inside.endings.entries c.pop_first.new.self.entries c.in_ok-ending.ending c.in_ok-first.first.now c.in_ok-ending.key c.in_ok-first.field-0-1.now removal c.in_ok-first.ensures.first in (
+      omega (arith, end),
+      sym (ap (λ (v : HeldValue). v.endings) c.self.view_is)
+          ∙ (ap (λ (l : List (Ending × HeldKey)). keys_of l) removal ∙ ap (λ (l : List Ending). c.in_ok-ending.ending ∷ l) (sym c.forget_key.ensures.endings)),
+      λ key at le. c.forget_key.ensures.kept key at le ∙ ap (λ (v : HeldValue). is_kept v.last key at) c.self.view_is,
+    )

@@ -1,0 +1,8 @@
+use Rattle.std.proofs.Common.{List, ap, subst}
+use Rattle.sms_party.specs.Centre.Value.{LineValue, HeldValue, HoldingsValue}
+use Rattle.sms_party.specs.Centre.Lines.{ChangesLine, LinePushes}
+use Rattle.sms_party.proofs.Holdings.{pushed_held}
+use Rattle.sms_party.proofs.centre.holdings.Holdings.push.Goals as goal
+
+pub invariant_of-self : goal.invariant_of-self
+invariant_of-self c = pushed_held c.self.inside.held.endings c.args.phone c.self.inside.lines c.push.new.self c.push.result c.push.ensures c.self.invariant
