@@ -1,6 +1,7 @@
 #!/bin/sh
 # Times `sms play` over scripts of 25,000, 50,000 and 100,000 lines (or of as many as the words say), which script.awk
-# prints. It needs crates/sms/out/sms, which `rt run` in crates/sms leaves there. PROGRAM names another one.
+# prints. It needs crates/sms/out/sms, which `rt run` in crates/sms leaves there. PROGRAM names another one, and TICK the
+# seconds between two texts.
 set -eu
 here=$(cd "$(dirname "$0")" && pwd)
 room=${BENCH_ROOM:-${TMPDIR:-/tmp}/sms-bench}
@@ -8,7 +9,7 @@ program=${PROGRAM:-$here/../crates/sms/out/sms}
 mkdir -p "$room"
 [ $# -gt 0 ] || set -- 25000 50000 100000
 for lines in "$@"; do
-	awk -v LINES="$lines" -f "$here/script.awk" > "$room/script.txt"
+	awk -v LINES="$lines" -v TICK="${TICK:-0}" -f "$here/script.awk" > "$room/script.txt"
 	for turn in 1 2 3; do
 		begin=$(date +%s%N)
 		"$program" play < "$room/script.txt" > "$room/transcript.txt"
