@@ -118,3 +118,6 @@ impl HeldMessages {
         Ok(())
     }
 }
+
+#[cfg(test)]
+mod tests;
