@@ -112,7 +112,8 @@ fn stays(cause: Option<u8>) -> bool
 
 /// Takes out the message with this stamp, if one waits.
 fn take_out(queue: &mut LruCache<u64, WaitingMessage>, stamp: u64)
-    ensures { queue.new ≡ lru_cache (remove_entry (nat_eq stamp) queue.old.entries) queue.old.cap }
+    ensures { queue.new
+        ≡ lru_cache (remove_entry (nat_eq stamp) queue.old.entries) queue.old.cap }
 {
     queue.pop(&stamp);
 }
