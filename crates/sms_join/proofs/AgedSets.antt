@@ -55,7 +55,7 @@ young_sets old now (s ∷ ss) h =
 agree : (now : ℕ) (ls ss : List SetValue) → AreOpen (ls ++ ss) → Agree (is_old now (all_pieces (ls ++ ss))) now ss
 agree now ls [] o = tt
 agree now ls (s ∷ ss) o = (
-  (let b = between ls s ss o in ap (λ n. leb (n + 604800) now) (opened_of ls s ss b.before b.behind b.open_set.is_set.as_many b.open_set.some)),
+  (let b = between ls s ss o in ap (λ n. leb (n + 604800) now) (opened_of ls s ss b.before b.after b.open_set.is_set.as_many b.open_set.some)),
   subst (λ l. Agree (is_old now (all_pieces l)) now ss) same (agree now (ls ++ s ∷ []) ss (subst AreOpen (sym same) o)),
 )
   where

@@ -142,8 +142,8 @@ steps-full own room (p ∷ pieces) [] back text piece before after next short s 
     let m = further own s.0.before s.0.after before (next ∷ after) short_before (s.0.parts ∙ sym e2) (omega (arith, ap length units)) in
     let short_more = (short-append own s.0.before m.0 before (sym m.1) (short-append own before (next ∷ after) text e2 short).0).1 in
     let none : m.0 ≡ [] = no_units own m.0 short_more (omega (arith, ap length units, ap (λ l. length (flat_map own l)) m.1, ap length (flat_map-append own s.0.before m.0), length-append (flat_map own s.0.before) (flat_map own m.0))) in
-    let behind : s.0.after ≡ next ∷ after = m.2 ∙ ap (λ l. l ++ next ∷ after) none in
-    let stops : Stops own room (length p) (next ∷ after) = subst (λ l. Stops own room (length p) l) behind s.0.stops in
+    let follows : s.0.after ≡ next ∷ after = m.2 ∙ ap (λ l. l ++ next ∷ after) none in
+    let stops : Stops own room (length p) (next ∷ after) = subst (λ l. Stops own room (length p) l) follows s.0.stops in
     subst (λ l. room < length l + length (own next)) (sym first) stops
 steps-full own room (p ∷ pieces) (q ∷ front) back text piece before after next short s e1 e2 e3 =
     let first : q ≡ p = cc in
@@ -233,13 +233,13 @@ steps_within own room zero (c ∷ text) wide le short = absurd (omega arith)
 steps_within own room (suc count) (c ∷ text) wide le short = go (front_of own room (c ∷ text)) (λ after fewer all. steps_within own room count after wide fewer all)
   where
     go : (f : Front own room (c ∷ text)) → ((after : List ℕ) → length after ≤ count → AllByRecursion (IsShort own) after → (pieces : List (List ℕ)) × Steps own room after pieces) → (pieces : List (List ℕ)) × Steps own room (c ∷ text) pieces
-    go f rest = behind f.before f.after f.parts f.fits f.stops
+    go f rest = follows f.before f.after f.parts f.fits f.stops
       where
-        behind : (before after : List ℕ) → before ++ after ≡ c ∷ text → length (flat_map own before) ≤ room → Stops own room (length (flat_map own before)) after → (pieces : List (List ℕ)) × Steps own room (c ∷ text) pieces
-        behind [] after e fits stops =
+        follows : (before after : List ℕ) → before ++ after ≡ c ∷ text → length (flat_map own before) ≤ room → Stops own room (length (flat_map own before)) after → (pieces : List (List ℕ)) × Steps own room (c ∷ text) pieces
+        follows [] after e fits stops =
             let stops_here : room < 0 + length (own c) = subst (λ l. Stops own room 0 l) e stops in
             absurd (omega (arith, short.0.1))
-        behind (b ∷ before) after e fits stops =
+        follows (b ∷ before) after e fits stops =
             let shorts = short-append own (b ∷ before) after (c ∷ text) e short in
             let r = rest after (omega (arith, ap length e, length-append before after)) shorts.1 in
             (flat_map own (b ∷ before) ∷ r.0, (record { before = b ∷ before; after = after; parts = e; is = refl; some = omega (arith, units-cons own b before, shorts.0.0.0); fits = fits; stops = stops }, r.1))

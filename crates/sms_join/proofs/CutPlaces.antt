@@ -69,9 +69,9 @@ ends_with begins own room n before (c ∷ after) g h wide fits stops (Inside mor
         of_length (inr whole) = full_room begins own room n before (u ∷ v ∷ flat_map own after) g wide (omega (arith, whole, fits)) is
 
 -- a piece has a unit
-ends_behind : (begins : ℕ → Bool) (room n : ℕ) (units : List ℕ) → 2 ≤ room → 0 < length units → EndsAt begins room units n → 0 < n
-ends_behind begins room n units wide some (Last le e) = omega (arith, e, some)
-ends_behind begins room n units wide some (Inside more e) = go (begins (get_or units (room - 1) 0)) e
+ends_after : (begins : ℕ → Bool) (room n : ℕ) (units : List ℕ) → 2 ≤ room → 0 < length units → EndsAt begins room units n → 0 < n
+ends_after begins room n units wide some (Last le e) = omega (arith, e, some)
+ends_after begins room n units wide some (Inside more e) = go (begins (get_or units (room - 1) 0)) e
   where
     go : (b : Bool) → n ≡ cond b (room - 1) room → 0 < n
     go true is = omega (arith, is, wide)
@@ -87,18 +87,18 @@ steps_of_pieces begins own room (piece ∷ pieces) text g wide p =
     let ends : EndsAt begins room (flat_map own f.before ++ flat_map own f.after) p.0 = subst (λ l. EndsAt begins room l p.0) parts p.1 in
     let n : p.0 ≡ length (flat_map own f.before) = ends_with begins own room p.0 f.before f.after groups.0 groups.1 wide f.fits f.stops ends in
     let is : piece ≡ flat_map own f.before = p.3 ∙ ap (take p.0) parts ∙ take_at (flat_map own f.before) (flat_map own f.after) p.0 (sym n) in
-    let behind : drop p.0 (flat_map own text) ≡ flat_map own f.after = ap (drop p.0) parts ∙ drop_at (flat_map own f.before) (flat_map own f.after) p.0 (sym n) in
+    let follows : drop p.0 (flat_map own text) ≡ flat_map own f.after = ap (drop p.0) parts ∙ drop_at (flat_map own f.before) (flat_map own f.after) p.0 (sym n) in
     let as_long : length (flat_map own f.before) ≡ length piece = ap length (sym is) in (
       record {
         before = f.before;
         after = f.after;
         parts = f.parts;
         is = is;
-        some = omega (arith, ends_behind begins room p.0 (flat_map own text) wide p.2 p.1, n, as_long);
+        some = omega (arith, ends_after begins room p.0 (flat_map own text) wide p.2 p.1, n, as_long);
         fits = omega (arith, f.fits, as_long);
         stops = subst (λ k. Stops own room k f.after) as_long f.stops;
       },
-      steps_of_pieces begins own room pieces f.after groups.1 wide (subst (λ l. Pieces begins room l pieces) behind p.4),
+      steps_of_pieces begins own room pieces f.after groups.1 wide (subst (λ l. Pieces begins room l pieces) follows p.4),
     )
 
 -- ---- the loop
@@ -119,8 +119,8 @@ IsEnd begins units room start end =
     (length units - start ≤ room → end ≡ length units)
     × (room < length units - start → end ≡ cond (begins (get_or units (start + room - 1) 0)) (start + room - 1) (start + room))
 
-pub end_behind : (begins : ℕ → Bool) (units : List ℕ) (room start end : ℕ) → start < length units → 2 ≤ room → IsEnd begins units room start end → (start < end) × (end ≤ length units)
-end_behind begins units room start end inside wide is = go (cases_lt room (length units - start))
+pub end_after : (begins : ℕ → Bool) (units : List ℕ) (room start end : ℕ) → start < length units → 2 ≤ room → IsEnd begins units room start end → (start < end) × (end ≤ length units)
+end_after begins units room start end inside wide is = go (cases_lt room (length units - start))
   where
     by : (b : Bool) → room < length units - start → end ≡ cond b (start + room - 1) (start + room) → (start < end) × (end ≤ length units)
     by true more e = (omega (arith, e, wide, more), omega (arith, e, wide, more))
@@ -152,10 +152,10 @@ one_piece_more units room start end pieces part inside wide is same p =
     let begins = begins_pair (alphabet_in units) in
     let ns : List ℕ = numbers units in
     let piece : List ℕ = slice_range ns start end in
-    let behind = end_behind begins ns room start end inside wide is in
-    let place : start + (end - start) ≡ end = omega (arith, behind.0) in
+    let follows = end_after begins ns room start end inside wide is in
+    let place : start + (end - start) ≡ end = omega (arith, follows.0) in
     record {
-      inside = behind.1;
+      inside = follows.1;
       lists = p.lists ++ piece ∷ [];
       same = ap (λ l. l ++ part ∷ []) p.same ∙ ap (λ x. map (units_in (alphabet_in units)) p.lists ++ x ∷ []) same ∙ sym (map-append (units_in (alphabet_in units)) p.lists (piece ∷ []));
       goes_on = λ rest more.
@@ -206,12 +206,12 @@ pub one_counted_more : (units : Units) (room start end count : ℕ) → start < 
     → CountedUpTo units room start count → CountedUpTo units room end (count + 1)
 one_counted_more units room start end count inside wide is c =
     let part : Units = units_in (alphabet_in units) (slice_range (numbers units) start end) in
-    let behind = end_behind (begins_pair (alphabet_in units)) (numbers units) room start end inside wide is in
+    let follows = end_after (begins_pair (alphabet_in units)) (numbers units) room start end inside wide is in
     record {
       pieces = c.pieces ++ part ∷ [];
       parted = one_piece_more units room start end c.pieces part inside wide is refl c.parted;
       many = omega (arith, c.many, length-append c.pieces (part ∷ []));
-      few = omega (arith, c.few, behind.0);
+      few = omega (arith, c.few, follows.0);
     }
 
 pub all_counted : (units : Units) (room start count : ℕ) (text : List ℕ) → IsText text → 2 ≤ room → units ≡ units_of_text text → length (numbers units) ≤ start → CountedUpTo units room start count

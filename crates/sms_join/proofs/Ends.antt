@@ -10,7 +10,7 @@ use Rattle.sms_join.specs.declared.segment.Segment.{Segment}
 use Rattle.sms_join.specs.UnitsOfText.{numbers, alphabet_in, begins_pair}
 use Rattle.sms_join.specs.Segments.{AreNumbered}
 use Rattle.sms_join.specs.SegmentsValue.{RiseTo, part_of, pieces_at, segments_from, segments_at, start_at}
-use Rattle.sms_join.proofs.CutPlaces.{PartedUpTo, IsEnd, end_behind, one_piece_more, nothing_parted}
+use Rattle.sms_join.proofs.CutPlaces.{PartedUpTo, IsEnd, end_after, one_piece_more, nothing_parted}
 
 -- ---- the loop
 
@@ -33,7 +33,7 @@ nothing_ends units room = record { parted = nothing_parted units room; rising = 
 pub one_end_more : (units : Units) (room start end : ℕ) (ends : List ℕ) → start < length (numbers units) → 2 ≤ room → IsEnd (begins_pair (alphabet_in units)) (numbers units) room start end
     → EndsUpTo units room start ends → EndsUpTo units room end (ends ++ end ∷ [])
 one_end_more units room start end ends inside wide is so_far =
-    let after = end_behind (begins_pair (alphabet_in units)) (numbers units) room start end inside wide is in
+    let after = end_after (begins_pair (alphabet_in units)) (numbers units) room start end inside wide is in
     record {
       parted = rw (pieces-push units 0 start end ends so_far.rising) (one_piece_more units room start end (pieces_at units 0 ends) (part_of units start end) inside wide is refl so_far.parted);
       rising = rise-push 0 start end ends so_far.rising (omega (arith, after.0));

@@ -75,10 +75,10 @@ numbered_own k opened low (n ∷ ns) (u ∷ us) high ys r h o = (λ e. (first, l
 
 pub set_numbered : (ls : List SetValue) (s : SetValue) (rs : List SetValue) → has_set ls s.key ≡ false → has_set rs s.key ≡ false → IsSet s
     → AreDistinct (all_pieces (ls ++ s ∷ rs)) s.key (maximum_of s.key)
-set_numbered ls s rs before behind is =
+set_numbered ls s rs before after is =
     subst (λ l. AreDistinct l s.key (maximum_of s.key)) (sym (all-append ls (s ∷ rs)))
     (numbered_after (all_pieces ls) (pieces_in s ++ all_pieces rs) s.key (maximum_of s.key) (others_closed ls s.key before)
-    (numbered_own s.key s.opened 0 s.sequences s.units (maximum_of s.key) (all_pieces rs) is.rising is.as_many (others_closed rs s.key behind)))
+    (numbered_own s.key s.opened 0 s.sequences s.units (maximum_of s.key) (all_pieces rs) is.rising is.as_many (others_closed rs s.key after)))
 
 pub none_numbered : (ss : List SetValue) (k : Key) (n : ℕ) → has_set ss k ≡ false → AreDistinct (all_pieces ss) k n
 none_numbered ss k n h = numbered_closed (all_pieces ss) k n (others_closed ss k h)
@@ -115,15 +115,15 @@ full_units k opened low (n ∷ ns) (u ∷ us) high i r e h t =
 pub whole_units : (ls : List SetValue) (s : SetValue) (rs : List SetValue) → has_set ls s.key ≡ false → has_set rs s.key ≡ false → IsSet s
     → length s.sequences ≡ maximum_of s.key → has_all (all_pieces (ls ++ s ∷ rs)) s.key (maximum_of s.key) ≡ true
     → units_upto (all_pieces (ls ++ s ∷ rs)) s.key (maximum_of s.key) ≡ s.units
-whole_units ls s rs before behind is full all =
+whole_units ls s rs before after is full all =
     units_upto_is (all_pieces (ls ++ s ∷ rs)) s.key s.units (maximum_of s.key) right (let a = is.as_many in omega arith) all
     ∙ take_all (maximum_of s.key) s.units (let a = is.as_many in omega arith)
   where
     right : (i : ℕ) → has (all_pieces (ls ++ s ∷ rs)) s.key i ≡ true → units_at (all_pieces (ls ++ s ∷ rs)) s.key i ≡ get_or s.units (i - 1) (Gsm [])
     right i h =
-        let t : is_in i s.sequences ≡ true = sym (set_has ls s rs before behind is.as_many i) ∙ h in
+        let t : is_in i s.sequences ≡ true = sym (set_has ls s rs before after is.as_many i) ∙ h in
         let e : 0 + length s.sequences ≡ maximum_of s.key = omega arith in
-        set_units ls s rs before behind is.as_many i t
+        set_units ls s rs before after is.as_many i t
         ∙ full_units s.key s.opened 0 s.sequences s.units (maximum_of s.key) i is.rising e is.as_many t
 
 older : (p : Piece) (ps : List Piece) (k : Key) → is_open ps k ≡ true → opened_at (p ∷ ps) k ≡ opened_at ps k
@@ -136,18 +136,18 @@ older p ps k h = rw h (go (same_key p.key k))
 -- when a set was opened
 pub opened_of : (ls : List SetValue) (s : SetValue) (rs : List SetValue) → has_set ls s.key ≡ false → has_set rs s.key ≡ false
     → length s.units ≡ length s.sequences → 0 < length s.sequences → opened_at (all_pieces (ls ++ s ∷ rs)) s.key ≡ s.opened
-opened_of ls s rs before behind as_many some =
+opened_of ls s rs before after as_many some =
     ap (λ l. opened_at l s.key) (all-append ls (s ∷ rs))
     ∙ (opened-append (all_pieces ls) (pieces_in s ++ all_pieces rs) s.key
     ∙ (rw (open-append (pieces_in s) (all_pieces rs) s.key, own) refl
     ∙ (opened-append (pieces_in s) (all_pieces rs) s.key
-    ∙ (rw (others_closed rs s.key behind) (own_opened s.key s.opened s.sequences s.units own)))))
+    ∙ (rw (others_closed rs s.key after) (own_opened s.key s.opened s.sequences s.units own)))))
   where
     own : is_open (pieces_in s) s.key ≡ true
     own = own_open s.key s.opened s.sequences s.units as_many some
 
 -- one more piece of a set
-module _ (ls : List SetValue) (s : SetValue) (rs : List SetValue) (before : has_set ls s.key ≡ false) (behind : has_set rs s.key ≡ false)
+module _ (ls : List SetValue) (s : SetValue) (rs : List SetValue) (before : has_set ls s.key ≡ false) (after : has_set rs s.key ≡ false)
     (o : IsSet s) (some : 0 < length s.sequences) (p : Piece) (key : p.key ≡ s.key) (new : is_in p.sequence s.sequences ≡ false) where
   place : ℕ
   place = place_of p.sequence s.sequences
@@ -191,7 +191,7 @@ module _ (ls : List SetValue) (s : SetValue) (rs : List SetValue) (before : has_
       ∙ (ap (λ l. all_pieces ls ++ (l ++ all_pieces rs)) parts_more ∙ simp append_assoc)
 
   set_opened : opened_at (all_pieces (ls ++ s ∷ rs)) s.key ≡ s.opened
-  set_opened = opened_of ls s rs before behind o.as_many some
+  set_opened = opened_of ls s rs before after o.as_many some
 
   pub set_is_open : is_open (all_pieces (ls ++ s ∷ rs)) s.key ≡ true
   set_is_open =
@@ -209,7 +209,7 @@ module _ (ls : List SetValue) (s : SetValue) (rs : List SetValue) (before : has_
   old_none : has ((all_pieces ls ++ front) ++ (back ++ all_pieces rs)) p.key p.sequence ≡ false
   old_none =
       ap (λ l. has l p.key p.sequence) (sym old_list)
-      ∙ (ap (λ k. has (all_pieces (ls ++ s ∷ rs)) k p.sequence) key ∙ (set_has ls s rs before behind o.as_many p.sequence ∙ new))
+      ∙ (ap (λ k. has (all_pieces (ls ++ s ∷ rs)) k p.sequence) key ∙ (set_has ls s rs before after o.as_many p.sequence ∙ new))
 
   pub one_more : (finished : List Key)
       → IsSame (record { kept = all_pieces (ls ++ with_piece s p.sequence p.units ∷ rs); finished = finished })

@@ -25,15 +25,15 @@ joiner_of ss finished = record { kept = all_pieces ss; finished = finished }
 pub record Between (ls : List SetValue) (s : SetValue) (rs : List SetValue) : Type 0 where
   pub open_set : IsOpen s
   pub before : has_set ls s.key ≡ false
-  pub behind : has_set rs s.key ≡ false
+  pub after : has_set rs s.key ≡ false
 
 pub between : (ls : List SetValue) (s : SetValue) (rs : List SetValue) → AreOpen (ls ++ s ∷ rs) → Between ls s rs
-between [] s rs h = record { open_set = h.0; before = refl; behind = h.1 }
+between [] s rs h = record { open_set = h.0; before = refl; after = h.1 }
 between (l ∷ ls) s rs h =
     let b = between ls s rs h.2 in
     let q = or_parts (has_set ls l.key) (same_key s.key l.key || has_set rs l.key) (sym (has_set-append ls (s ∷ rs) l.key) ∙ h.1) in
     let r = or_parts (same_key s.key l.key) (has_set rs l.key) q.1 in
-    record { open_set = b.open_set; before = rw (flip s.key l.key r.0, b.before) refl; behind = b.behind }
+    record { open_set = b.open_set; before = rw (flip s.key l.key r.0, b.before) refl; after = b.after }
 
 pub are_open_without : (ls : List SetValue) (s : SetValue) (rs : List SetValue) → AreOpen (ls ++ s ∷ rs) → AreOpen (ls ++ rs)
 are_open_without [] s rs h = h.2
@@ -99,14 +99,14 @@ module _ (ls : List SetValue) (s : SetValue) (rs : List SetValue) (finished : Li
   there_repeats h =
       or_right (is_among finished p.key) (has (all_pieces (ls ++ s ∷ rs)) p.key p.sequence)
       (ap (λ k. has (all_pieces (ls ++ s ∷ rs)) k p.sequence) key
-      ∙ (set_has ls s rs b.before b.behind b.open_set.is_set.as_many p.sequence ∙ h))
+      ∙ (set_has ls s rs b.before b.after b.open_set.is_set.as_many p.sequence ∙ h))
 
   no_repeat : is_among finished p.key ≡ false → is_in p.sequence s.sequences ≡ false → is_repeat (joiner_of (ls ++ s ∷ rs) finished) p ≡ false
   unfolding is_repeat
   no_repeat h new =
       let e : has (all_pieces (ls ++ s ∷ rs)) p.key p.sequence ≡ false =
       ap (λ k. has (all_pieces (ls ++ s ∷ rs)) k p.sequence) key
-      ∙ (set_has ls s rs b.before b.behind b.open_set.is_set.as_many p.sequence ∙ new) in
+      ∙ (set_has ls s rs b.before b.after b.open_set.is_set.as_many p.sequence ∙ new) in
       rw (h, e) refl
 
   whole_if_full : InPlace p → is_repeat (joiner_of (ls ++ s ∷ rs) finished) p ≡ false
@@ -115,12 +115,12 @@ module _ (ls : List SetValue) (s : SetValue) (rs : List SetValue) (finished : Li
       whole_if_many (joiner_of (ls ++ s ∷ rs) finished) p numbered i.from_one (let a = i.maximum in let c = i.within in omega arith) r
       ∙ (ap (λ n. eqb (suc (count_of (all_pieces (ls ++ s ∷ rs)) p.key)) n) (i.maximum ∙ ap maximum_of key)
       ∙ (ap (λ k. eqb (suc (count_of (all_pieces (ls ++ s ∷ rs)) k)) (maximum_of s.key)) key
-      ∙ ap (λ n. eqb (suc n) (maximum_of s.key)) (set_count ls s rs b.before b.behind b.open_set.is_set.as_many)))
+      ∙ ap (λ n. eqb (suc n) (maximum_of s.key)) (set_count ls s rs b.before b.after b.open_set.is_set.as_many)))
     where
       numbered : AreDistinct (all_pieces (ls ++ s ∷ rs)) p.key p.maximum
       numbered =
           subst (λ n. AreDistinct (all_pieces (ls ++ s ∷ rs)) p.key n) (sym i.maximum)
-          (subst (λ k. AreDistinct (all_pieces (ls ++ s ∷ rs)) k (maximum_of k)) (sym key) (set_numbered ls s rs b.before b.behind b.open_set.is_set))
+          (subst (λ k. AreDistinct (all_pieces (ls ++ s ∷ rs)) k (maximum_of k)) (sym key) (set_numbered ls s rs b.before b.after b.open_set.is_set))
 
   pub keeps_more : (open_max remembered : ℕ) → InPlace p → is_among finished p.key ≡ false → is_in p.sequence s.sequences ≡ false
       → eqb (suc (length s.sequences)) (maximum_of s.key) ≡ false
@@ -133,10 +133,10 @@ module _ (ls : List SetValue) (s : SetValue) (rs : List SetValue) (finished : Li
       (k.0, subst (λ j. IsSame (joiner_of (ls ++ with_piece s p.sequence p.units ∷ rs) finished) j) (sym k.1) same)
     where
       same : IsSame (joiner_of (ls ++ with_piece s p.sequence p.units ∷ rs) finished) (record { kept = p ∷ all_pieces (ls ++ s ∷ rs); finished = finished })
-      same = one_more ls s rs b.before b.behind b.open_set.is_set b.open_set.some p key new finished
+      same = one_more ls s rs b.before b.after b.open_set.is_set b.open_set.some p key new finished
 
       room : has_room open_max (joiner_of (ls ++ s ∷ rs) finished) p ≡ true
-      room = rw (ap (is_open (all_pieces (ls ++ s ∷ rs))) key ∙ set_is_open ls s rs b.before b.behind b.open_set.is_set b.open_set.some p key new) refl
+      room = rw (ap (is_open (all_pieces (ls ++ s ∷ rs))) key ∙ set_is_open ls s rs b.before b.after b.open_set.is_set b.open_set.some p key new) refl
 
   pub finishes_set : (open_max remembered : ℕ) → InPlace p → is_among finished p.key ≡ false → is_in p.sequence s.sequences ≡ false
       → eqb (suc (length s.sequences)) (maximum_of s.key) ≡ true
@@ -146,7 +146,7 @@ module _ (ls : List SetValue) (s : SetValue) (rs : List SetValue) (finished : Li
   finishes_set open_max remembered i h new full =
       let r = no_repeat h new in
       let f = says_finished open_max remembered (joiner_of (ls ++ s ∷ rs) finished) p (with_piece s p.sequence p.units).units r (whole r) units in
-      (f.0, f.1 ∙ rw (key, set_without ls s rs b.before b.behind b.open_set.is_set.as_many) refl)
+      (f.0, f.1 ∙ rw (key, set_without ls s rs b.before b.after b.open_set.is_set.as_many) refl)
     where
       whole : is_repeat (joiner_of (ls ++ s ∷ rs) finished) p ≡ false → is_whole (joiner_of (ls ++ s ∷ rs) finished) p ≡ true
       whole r = whole_if_full i r ∙ full
@@ -155,7 +155,7 @@ module _ (ls : List SetValue) (s : SetValue) (rs : List SetValue) (finished : Li
       t = with_piece s p.sequence p.units
 
       same : IsSame (joiner_of (ls ++ with_piece s p.sequence p.units ∷ rs) finished) (record { kept = p ∷ all_pieces (ls ++ s ∷ rs); finished = finished })
-      same = one_more ls s rs b.before b.behind b.open_set.is_set b.open_set.some p key new finished
+      same = one_more ls s rs b.before b.after b.open_set.is_set b.open_set.some p key new finished
 
       all : has_all (all_pieces (ls ++ with_piece s p.sequence p.units ∷ rs)) s.key (maximum_of s.key) ≡ true
       all =
@@ -168,7 +168,7 @@ module _ (ls : List SetValue) (s : SetValue) (rs : List SetValue) (finished : Li
           ap (units_upto (p ∷ all_pieces (ls ++ s ∷ rs)) p.key) (i.maximum ∙ ap maximum_of key)
           ∙ (ap (λ k. units_upto (p ∷ all_pieces (ls ++ s ∷ rs)) k (maximum_of s.key)) key
           ∙ (sym (units_upto-same (all_pieces (ls ++ with_piece s p.sequence p.units ∷ rs)) (p ∷ all_pieces (ls ++ s ∷ rs)) s.key (maximum_of s.key) (λ n. same.units s.key n) all)
-          ∙ whole_units ls (with_piece s p.sequence p.units) rs b.before b.behind
+          ∙ whole_units ls (with_piece s p.sequence p.units) rs b.before b.after
           (with_piece_set s p.sequence p.units b.open_set.is_set i.from_one (subst (λ k. p.sequence ≤ maximum_of k) key i.within) new)
           (with_piece_length s p.sequence p.units ∙ eqb-true _ _ full) all))
 

@@ -149,7 +149,7 @@ own_count k opened (n ∷ ns) [] h = absurd (omega arith)
 own_count k opened (n ∷ ns) (u ∷ us) h = rw (same_key_refl k) (ap suc (own_count k opened ns us (omega arith)))
 
 -- a set between others
-module _ (ls : List SetValue) (s : SetValue) (rs : List SetValue) (before : has_set ls s.key ≡ false) (behind : has_set rs s.key ≡ false)
+module _ (ls : List SetValue) (s : SetValue) (rs : List SetValue) (before : has_set ls s.key ≡ false) (after : has_set rs s.key ≡ false)
     (as_many : length s.units ≡ length s.sequences) where
   split : all_pieces (ls ++ s ∷ rs) ≡ all_pieces ls ++ (pieces_in s ++ all_pieces rs)
   split = all-append ls (s ∷ rs)
@@ -161,7 +161,7 @@ module _ (ls : List SetValue) (s : SetValue) (rs : List SetValue) (before : has_
         has-append (all_pieces ls) (pieces_in s ++ all_pieces rs) s.key n,
         has-append (pieces_in s) (all_pieces rs) s.key n,
         closed_has (all_pieces ls) s.key n (others_closed ls s.key before),
-        closed_has (all_pieces rs) s.key n (others_closed rs s.key behind),
+        closed_has (all_pieces rs) s.key n (others_closed rs s.key after),
         own_has s.key s.opened n s.sequences s.units as_many,
       ) (or_false (is_in n s.sequences))
     where
@@ -176,7 +176,7 @@ module _ (ls : List SetValue) (s : SetValue) (rs : List SetValue) (before : has_
         count-append (all_pieces ls) (pieces_in s ++ all_pieces rs) s.key,
         count-append (pieces_in s) (all_pieces rs) s.key,
         closed_count (all_pieces ls) s.key (others_closed ls s.key before),
-        closed_count (all_pieces rs) s.key (others_closed rs s.key behind),
+        closed_count (all_pieces rs) s.key (others_closed rs s.key after),
         own_count s.key s.opened s.sequences s.units as_many,
       ) (omega arith)
 
@@ -187,7 +187,7 @@ module _ (ls : List SetValue) (s : SetValue) (rs : List SetValue) (before : has_
         without-append (all_pieces ls) (pieces_in s ++ all_pieces rs) s.key,
         without-append (pieces_in s) (all_pieces rs) s.key,
         closed_without (all_pieces ls) s.key (others_closed ls s.key before),
-        closed_without (all_pieces rs) s.key (others_closed rs s.key behind),
+        closed_without (all_pieces rs) s.key (others_closed rs s.key after),
         own_without s.key s.opened s.sequences s.units,
       ) (sym (all-append ls rs))
 

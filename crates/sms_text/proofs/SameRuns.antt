@@ -153,8 +153,8 @@ cut_after bs front others e are some text = go front e are some
         (IsCharBoundary-after_ascii bs (length front) text (omega (arith, ap length e, length-append (c ∷ front) others))
         (subst (λ (l : List ℕ). get_or l (length front) 0 < 128) (sym e) (last_small (c ∷ front) others (length front) refl are)))
 
-pub behind_block : (bs front others : List ℕ) → bs ≡ front ++ others → others ≡ drop (length front) bs
-behind_block bs front others e = sym (ap (drop (length front)) e ∙ drop_at front others (length front) refl)
+pub block_after : (bs front others : List ℕ) → bs ≡ front ++ others → others ≡ drop (length front) bs
+block_after bs front others e = sym (ap (drop (length front)) e ∙ drop_at front others (length front) refl)
 
 -- ---- blocks of such codes
 

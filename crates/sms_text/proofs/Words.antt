@@ -298,10 +298,10 @@ pub record PackedSoFar (fill : ℕ) (septets rest base items : List ℕ) : Type 
   pub octets : IsOctets part
 
 -- octets that are added to `base` are those of the septets
-abbrev pub PackedBehind : ℕ → List ℕ → List ℕ → List ℕ → Type 0
-PackedBehind fill septets base items = (packed : List ℕ) × PackedPlain fill septets packed × IsOctets packed × (items ≡ base ++ packed)
+abbrev pub PackedAfter : ℕ → List ℕ → List ℕ → List ℕ → Type 0
+PackedAfter fill septets base items = (packed : List ℕ) × PackedPlain fill septets packed × IsOctets packed × (items ≡ base ++ packed)
 
-pub few_added : (fill w n : ℕ) (septets base items : List ℕ) → fill < 7 → n ≡ length septets → n < fill → low_septets n w ≡ septets → w < 2 ^ (7 * n) → items ≡ base ++ low_octets (n + 1) ((w * 2 ^ fill) % 2 ^ 64) → PackedBehind fill septets base items
+pub few_added : (fill w n : ℕ) (septets base items : List ℕ) → fill < 7 → n ≡ length septets → n < fill → low_septets n w ≡ septets → w < 2 ^ (7 * n) → items ≡ base ++ low_octets (n + 1) ((w * 2 ^ fill) % 2 ^ 64) → PackedAfter fill septets base items
 few_added fill w n septets base items small len few is bound e =
     let part : List ℕ = low_octets (n + 1) ((w * 2 ^ fill) % 2 ^ 64) in
     (part, few_packed fill w n septets [] part small len few is bound refl refl, octets_first [] part (n + 1) _ refl refl, e)
@@ -320,7 +320,7 @@ more_added fill septets rest last base old new packed are e same so_far = record
   octets = octets-append so_far.part packed so_far.octets are;
 }
 
-pub last_added : (fill w : ℕ) (septets rest base old new : List ℕ) → length rest < 8 → low_septets (length rest) w ≡ rest → w < 2 ^ (7 * length rest) → new ≡ old ++ low_octets (length rest) w → PackedSoFar fill septets rest base old → PackedBehind fill septets base new
+pub last_added : (fill w : ℕ) (septets rest base old new : List ℕ) → length rest < 8 → low_septets (length rest) w ≡ rest → w < 2 ^ (7 * length rest) → new ≡ old ++ low_octets (length rest) w → PackedSoFar fill septets rest base old → PackedAfter fill septets base new
 last_added fill w septets rest base old new few is bound e so_far =
     let part : List ℕ = so_far.part ++ low_octets (length rest) w in
     (part, last_packed fill w rest so_far.part part septets few is bound refl so_far.bits_are, octets_more so_far.part part (length rest) w so_far.octets refl, e ∙ ap (λ (l : List ℕ). l ++ low_octets (length rest) w) so_far.added ∙ append_assoc base so_far.part (low_octets (length rest) w))
@@ -337,8 +337,8 @@ cut fill k m j w octets enough is =
     let width : 8 * m ≡ fill + (7 * k + left) = omega arith in
     let front : octet_bits (take m octets) ≡ bits fill w ++ (septet_bits (low_septets k v) ++ more) = ap octet_bits (sym is) ∙ octets_of_word m w ∙ ap (λ (n : ℕ). bits n w) width ∙ bits-split fill (7 * k + left) w ∙ ap (λ (l : List ℕ). bits fill w ++ l) (bits-split (7 * k) left v ∙ ap (λ (l : List ℕ). l ++ more) (sym (septets_of_word k v))) in
     let whole : octet_bits octets ≡ bits fill w ++ ((septet_bits (low_septets k v) ++ more) ++ back) = ap octet_bits (sym (take-append-drop m octets)) ∙ octet_bits-append (take m octets) (drop m octets) ∙ ap (λ (l : List ℕ). l ++ back) front ∙ append_assoc (bits fill w) (septet_bits (low_septets k v) ++ more) back in
-    let behind : drop fill (octet_bits octets) ≡ septet_bits (low_septets k v) ++ (more ++ back) = ap (drop fill) whole ∙ drop_at (bits fill w) ((septet_bits (low_septets k v) ++ more) ++ back) fill (length-bits fill w) ∙ append_assoc (septet_bits (low_septets k v)) more back in
-    ap (septets_of (k + j)) behind ∙ septets_first (low_septets k v) (more ++ back) k j (septets-low k v) (length-low_septets k v)
+    let follows : drop fill (octet_bits octets) ≡ septet_bits (low_septets k v) ++ (more ++ back) = ap (drop fill) whole ∙ drop_at (bits fill w) ((septet_bits (low_septets k v) ++ more) ++ back) fill (length-bits fill w) ∙ append_assoc (septet_bits (low_septets k v)) more back in
+    ap (septets_of (k + j)) follows ∙ septets_first (low_septets k v) (more ++ back) k j (septets-low k v) (length-low_septets k v)
 
 -- where no bit is left over
 cut_even : (fill k m j w : ℕ) (octets : List ℕ) → fill + 7 * k ≡ 8 * m → low_octets m w ≡ take m octets → septets_of (k + j) (drop fill (octet_bits octets)) ≡ low_septets k (w / 2 ^ fill) ++ septets_of j (octet_bits (drop m octets))
@@ -407,9 +407,9 @@ pub block_unpacked : (rest others old new : List ℕ) (w left : ℕ) (total : Li
 block_unpacked rest others old new w left total big is after e so_far =
     let sum : 8 + (left - 8) ≡ left = omega arith in
     let same : w / 2 ^ 0 ≡ w = omega arith in
-    let behind : List ℕ = septets_of (left - 8) (octet_bits (drop 7 rest)) in
-    let block : septets_of (8 + (left - 8)) (octet_bits rest) ≡ low_septets 8 w ++ behind = cut_even 0 8 7 (left - 8) w rest (omega arith) is ∙ ap (λ (x : ℕ). low_septets 8 x ++ behind) same in
-    ap (λ (l : List ℕ). new ++ septets_of (left - 8) (octet_bits l)) after ∙ ap (λ (l : List ℕ). l ++ behind) e ∙ append_assoc old (low_septets 8 w) behind ∙ ap (λ (l : List ℕ). old ++ l) (sym block ∙ ap (λ (n : ℕ). septets_of n (octet_bits rest)) sum) ∙ so_far
+    let follows : List ℕ = septets_of (left - 8) (octet_bits (drop 7 rest)) in
+    let block : septets_of (8 + (left - 8)) (octet_bits rest) ≡ low_septets 8 w ++ follows = cut_even 0 8 7 (left - 8) w rest (omega arith) is ∙ ap (λ (x : ℕ). low_septets 8 x ++ follows) same in
+    ap (λ (l : List ℕ). new ++ septets_of (left - 8) (octet_bits l)) after ∙ ap (λ (l : List ℕ). l ++ follows) e ∙ append_assoc old (low_septets 8 w) follows ∙ ap (λ (l : List ℕ). old ++ l) (sym block ∙ ap (λ (n : ℕ). septets_of n (octet_bits rest)) sum) ∙ so_far
 
 pub last_unpacked : (rest last old new : List ℕ) (w left : ℕ) (total : List ℕ) → left ≤ length rest → last ≡ take left rest → low_octets (length last) w ≡ last → new ≡ old ++ low_septets left w → old ++ septets_of left (octet_bits rest) ≡ total → new ≡ total
 last_unpacked rest last old new w left total enough front spelled e so_far =

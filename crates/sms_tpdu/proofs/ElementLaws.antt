@@ -28,17 +28,17 @@ both_parts : (e f : Element) (xs ys : List Element) → e ≡ f → xs ≡ ys �
 both_parts e f xs ys p q = cc
 
 -- a list that begins with the octets of some elements has these elements first
-pub behind : (front others : List Element) (rest : List ℕ) → flat_map element_octets others ≡ flat_map element_octets front ++ rest → (more : List Element) × Spells more rest × (others ≡ front ++ more)
-behind [] others rest e = (others, e, refl)
-behind (f ∷ front) [] rest e = absurd cc
-behind (f ∷ front) (o ∷ others) rest e =
+pub follows : (front others : List Element) (rest : List ℕ) → flat_map element_octets others ≡ flat_map element_octets front ++ rest → (more : List Element) × Spells more rest × (others ≡ front ++ more)
+follows [] others rest e = (others, e, refl)
+follows (f ∷ front) [] rest e = absurd cc
+follows (f ∷ front) (o ∷ others) rest e =
     let ids : o.identifier ≡ f.identifier = cc in
     let sizes : length o.octets ≡ length f.octets = cc in
     let both : o.octets ++ flat_map element_octets others ≡ (f.octets ++ flat_map element_octets front) ++ rest = cc in
     let tails : o.octets ++ flat_map element_octets others ≡ f.octets ++ (flat_map element_octets front ++ rest) = both ∙ append_assoc f.octets (flat_map element_octets front) rest in
     let octets : o.octets ≡ f.octets = sides_front o.octets f.octets (flat_map element_octets others) (flat_map element_octets front ++ rest) sizes tails in
     let left : flat_map element_octets others ≡ flat_map element_octets front ++ rest = sides_back o.octets f.octets (flat_map element_octets others) (flat_map element_octets front ++ rest) sizes tails in
-    let h = behind front others rest left in
+    let h = follows front others rest left in
     (h.0, h.1, both_parts o f others (front ++ h.0) (same_element o f ids octets) h.2)
 
 nothing_spelled : (more : List Element) → Spells more [] → more ≡ []
@@ -47,7 +47,7 @@ nothing_spelled (o ∷ more) e = absurd cc
 
 one_spelling : (a b : List Element) (header : List ℕ) → Spells a header → Spells b header → a ≡ b
 one_spelling a b header p q =
-    let h = behind b a [] (p ∙ sym q ∙ sym (append-nil (flat_map element_octets b))) in
+    let h = follows b a [] (p ∙ sym q ∙ sym (append-nil (flat_map element_octets b))) in
     h.2 ∙ ap (λ (l : List Element). b ++ l) (nothing_spelled h.0 h.1) ∙ append-nil b
 
 pub one_list : (header : List ℕ) (a b : List Element) → AreElements header a → AreElements header b → a ≡ b
@@ -88,18 +88,18 @@ one_tells : (elements : List Element) (c : Concat) → LastTells elements c → 
 one_tells elements c l h = some_tells l.front l.element l.back c l.tells (subst (AllByRecursion TellsNone) l.parts h)
 
 -- the last that tells a place is the first element, or stands after it
-first_or_behind : (e : Element) (elements : List Element) (c : Concat) (front : List Element) (element : Element) (back : List Element) → e ∷ elements ≡ front ++ element ∷ back → Tells element c → AllByRecursion TellsNone back
+first_or_after : (e : Element) (elements : List Element) (c : Concat) (front : List Element) (element : Element) (back : List Element) → e ∷ elements ≡ front ++ element ∷ back → Tells element c → AllByRecursion TellsNone back
     → LastTells elements c ⊎ (Tells e c × AllByRecursion TellsNone elements)
-first_or_behind e elements c [] element back parts t h =
+first_or_after e elements c [] element back parts t h =
     let same : element ≡ e = cc in
     let rest : back ≡ elements = cc in
     inr (subst (λ (x : Element). Tells x c) same t, subst (AllByRecursion TellsNone) rest h)
-first_or_behind e elements c (x ∷ front) element back parts t h =
+first_or_after e elements c (x ∷ front) element back parts t h =
     let rest : elements ≡ front ++ element ∷ back = cc in
     inl (record { front = front; element = element; back = back; parts = rest; tells = t; others = h })
 
 split : (e : Element) (elements : List Element) (c : Concat) → LastTells (e ∷ elements) c → LastTells elements c ⊎ (Tells e c × AllByRecursion TellsNone elements)
-split e elements c l = first_or_behind e elements c l.front l.element l.back l.parts l.tells l.others
+split e elements c l = first_or_after e elements c l.front l.element l.back l.parts l.tells l.others
 
 nowhere : (c : Concat) (front : List Element) (e : Element) (back : List Element) → [] ≡ front ++ e ∷ back → ⊥
 nowhere c [] e back p = cc
@@ -110,10 +110,10 @@ same_last [] c d p q = absurd (nowhere c p.front p.element p.back p.parts)
 same_last (e ∷ elements) c d p q = go (same_last elements c d) (split e elements c p) (split e elements d q)
   where
     go : (LastTells elements c → LastTells elements d → c ≡ d) → LastTells elements c ⊎ (Tells e c × AllByRecursion TellsNone elements) → LastTells elements d ⊎ (Tells e d × AllByRecursion TellsNone elements) → c ≡ d
-    go behind (inl l) (inl k) = behind l k
-    go behind (inl l) (inr k) = absurd (one_tells elements c l k.1)
-    go behind (inr l) (inl k) = absurd (one_tells elements d k l.1)
-    go behind (inr l) (inr k) = told_alike e c d l.0 k.0
+    go follows (inl l) (inl k) = follows l k
+    go follows (inl l) (inr k) = absurd (one_tells elements c l k.1)
+    go follows (inr l) (inl k) = absurd (one_tells elements d k l.1)
+    go follows (inr l) (inr k) = told_alike e c d l.0 k.0
 
 one_last : (elements : List Element) (a b : Option Concat) → IsLastOf elements a → IsLastOf elements b → a ≡ b
 one_last elements (Some c) (Some d) p q = ap Some (same_last elements c d p q)
@@ -175,7 +175,7 @@ at_end header (x ∷ rest) last e r = absurd (omega arith)
 cut : (header rest : List ℕ) (last : Option Concat) → ((more : List Element) → Spells more rest → ⊥) → Reached header rest last → IsConcatOf header None
 cut header rest last none r = record {
   elements = [];
-  are = inr (refl, (λ others s. let h = behind r.front others rest (s ∙ r.parts) in none h.0 h.1));
+  are = inr (refl, (λ others s. let h = follows r.front others rest (s ∙ r.parts) in none h.0 h.1));
   last = tt;
 }
 
@@ -193,8 +193,8 @@ short_of identifier size octets few (e ∷ more) s =
     let left : e.octets ++ flat_map element_octets more ≡ octets = cc in
     omega (arith, sizes, few, ap length left, length-append e.octets (flat_map element_octets more))
 
-pub cut_behind_length : (header rest : List ℕ) (last : Option Concat) → 2 ≤ length rest → length (from_third rest) < get_or rest 1 0 → Reached header rest last → IsConcatOf header None
-cut_behind_length header rest last two few r = cut header rest last (λ more s. short_of (get_or rest 0 0) (get_or rest 1 0) (from_third rest) few more (s ∙ two_first rest two)) r
+pub cut_after_length : (header rest : List ℕ) (last : Option Concat) → 2 ≤ length rest → length (from_third rest) < get_or rest 1 0 → Reached header rest last → IsConcatOf header None
+cut_after_length header rest last two few r = cut header rest last (λ more s. short_of (get_or rest 0 0) (get_or rest 1 0) (from_third rest) few more (s ∙ two_first rest two)) r
 
 -- ---- a header of one's own
 

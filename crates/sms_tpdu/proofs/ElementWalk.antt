@@ -4,7 +4,7 @@ use Rattle.std.specs.List.{flat_map}
 use Rattle.std.proofs.lemmas.List.{append-nil, drop_at, take-append-drop, length-take}
 use Rattle.std.proofs.lemmas.Grind.{flat_map-append}
 use Rattle.sms_tpdu.specs.UserData.Elements.{Element, element_octets, Spells, AreElements, AreWhole, StartsAt}
-use Rattle.sms_tpdu.proofs.ElementLaws.{behind, two_first, from_third, short_of}
+use Rattle.sms_tpdu.proofs.ElementLaws.{follows, two_first, from_third, short_of}
 
 -- some elements were passed
 pub record Passed (header rest : List ℕ) : Type 0 where
@@ -38,10 +38,10 @@ pub nothing_whole : AreWhole []
 nothing_whole = record { elements = []; spelled = refl }
 
 starts_cut : (header rest : List ℕ) → ((more : List Element) → Spells more rest → ⊥) → Passed header rest → StartsAt header []
-starts_cut header rest none r = record { elements = []; are = inr (refl, (λ others s. let h = behind r.front others rest (s ∙ r.parts) in none h.0 h.1)); spelled = refl }
+starts_cut header rest none r = record { elements = []; are = inr (refl, (λ others s. let h = follows r.front others rest (s ∙ r.parts) in none h.0 h.1)); spelled = refl }
 
-pub starts_cut_behind : (header rest : List ℕ) → 2 ≤ length rest → length (from_third rest) < get_or rest 1 0 → Passed header rest → StartsAt header []
-starts_cut_behind header rest two few r = starts_cut header rest (λ more s. short_of (get_or rest 0 0) (get_or rest 1 0) (from_third rest) few more (s ∙ two_first rest two)) r
+pub starts_cut_after : (header rest : List ℕ) → 2 ≤ length rest → length (from_third rest) < get_or rest 1 0 → Passed header rest → StartsAt header []
+starts_cut_after header rest two few r = starts_cut header rest (λ more s. short_of (get_or rest 0 0) (get_or rest 1 0) (from_third rest) few more (s ∙ two_first rest two)) r
 
 one_left : (xs : List ℕ) → 1 ≤ length xs → length xs < 2 → (more : List Element) → Spells more xs → ⊥
 one_left xs some few [] s = omega (arith, ap length s)

@@ -11,7 +11,7 @@ use Rattle.sms_tpdu.specs.declared.user_data.concat.Width.{Width}
 use Rattle.sms_tpdu.specs.declared.user_data.concat.Width.TheVariants.{Eight, Sixteen}
 use Rattle.sms_tpdu.specs.UserData.Elements.{Element}
 use Rattle.sms_tpdu.specs.UserData.Concatenation.{Tells, TellsNone, ToldBy, IsConcatOf}
-use Rattle.sms_tpdu.proofs.ElementLaws.{Reached, one_list, one_concat, at_start, further, at_end, cut_before_length, cut_behind_length}
+use Rattle.sms_tpdu.proofs.ElementLaws.{Reached, one_list, one_concat, at_start, further, at_end, cut_before_length, cut_after_length}
 use Rattle.sms_tpdu.specs.UserData.ConcatenationFound.{told_by, last_told, concat_of_header, IsPlace, ElementsAreOne, ConcatIsThere, ConcatIsOne, ConcatIsPlace}
 
 abbrev element : ℕ → List ℕ → Element
@@ -135,30 +135,30 @@ either_place : (a b : Option Concat) → IsPlace a → IsPlace b → IsPlace (op
 either_place None b p q = q
 either_place (Some c) b p q = p
 
-module _ (header : List ℕ) (i size : ℕ) (behind : List ℕ) (last : Option Concat) (o : IsOctets behind) (r : Reached header (i ∷ size ∷ behind) last) where
-  all : take (length (i ∷ size ∷ behind) - 2) behind ≡ behind
-  all = take_all (length (i ∷ size ∷ behind) - 2) behind (omega arith)
+module _ (header : List ℕ) (i size : ℕ) (after : List ℕ) (last : Option Concat) (o : IsOctets after) (r : Reached header (i ∷ size ∷ after) last) where
+  all : take (length (i ∷ size ∷ after) - 2) after ≡ after
+  all = take_all (length (i ∷ size ∷ after) - 2) after (omega arith)
 
-  one_further : size ≤ length behind → Reached header (drop size behind) (option_or (told_by i (take size behind)) last)
+  one_further : size ≤ length after → Reached header (drop size after) (option_or (told_by i (take size after)) last)
   one_further enough =
-      further header (i ∷ size ∷ behind) (take size behind) (drop size behind) (told_by i (take size behind)) last (omega arith)
+      further header (i ∷ size ∷ after) (take size after) (drop size after) (told_by i (take size after)) last (omega arith)
       (subst (λ (l : List ℕ). size ≤ length l) (sym all) enough) (ap (take size) (sym all)) (ap (drop size) (sym all))
-      (told_is i (take size behind) (octets_taken size behind o)) r
+      (told_is i (take size after) (octets_taken size after o)) r
 
-  over : (b : Bool) → nat_le size (length behind) ≡ b → (found : Option Concat) → (size ≤ length behind → IsConcatOf header found) → IsConcatOf header (cond b found None)
+  over : (b : Bool) → nat_le size (length after) ≡ b → (found : Option Concat) → (size ≤ length after → IsConcatOf header found) → IsConcatOf header (cond b found None)
   over true e found h = h (grind (arith, nat_tests))
   over false e found h =
-      let few : length behind < size = grind (arith, nat_tests) in
-      cut_behind_length header (i ∷ size ∷ behind) last (omega arith) (subst (λ (l : List ℕ). length l < size) (sym all) few) r
+      let few : length after < size = grind (arith, nat_tests) in
+      cut_after_length header (i ∷ size ∷ after) last (omega arith) (subst (λ (l : List ℕ). length l < size) (sym all) few) r
 
 walk : (n : ℕ) (header rest : List ℕ) (last : Option Concat) → length rest ≤ n → IsOctets rest → Reached header rest last → IsConcatOf header (last_told n rest last)
 walk n header [] last le o r = at_end header [] last refl r
 walk n header (i ∷ []) last le o r = cut_before_length header (i ∷ []) last (omega arith) (omega arith) r
-walk zero header (i ∷ size ∷ behind) last le o r = absurd (omega arith)
-walk (suc n) header (i ∷ size ∷ behind) last le o r =
-    over header i size behind last o.1.1 r (nat_le size (length behind)) refl (last_told n (drop size behind) (option_or (told_by i (take size behind)) last))
-    (λ enough. walk n header (drop size behind) (option_or (told_by i (take size behind)) last) (let h = less_dropped size behind in omega arith)
-    (octets_dropped size behind o.1.1) (one_further header i size behind last o.1.1 r enough))
+walk zero header (i ∷ size ∷ after) last le o r = absurd (omega arith)
+walk (suc n) header (i ∷ size ∷ after) last le o r =
+    over header i size after last o.1.1 r (nat_le size (length after)) refl (last_told n (drop size after) (option_or (told_by i (take size after)) last))
+    (λ enough. walk n header (drop size after) (option_or (told_by i (take size after)) last) (let h = less_dropped size after in omega arith)
+    (octets_dropped size after o.1.1) (one_further header i size after last o.1.1 r enough))
 
 test_place : (b : Bool) (a : Option Concat) → IsPlace a → IsPlace (cond b a None)
 test_place true a p = p
@@ -167,10 +167,10 @@ test_place false a p = tt
 places : (n : ℕ) (rest : List ℕ) (last : Option Concat) → IsOctets rest → IsPlace last → IsPlace (last_told n rest last)
 places n [] last o p = p
 places n (i ∷ []) last o p = tt
-places zero (i ∷ size ∷ behind) last o p = tt
-places (suc n) (i ∷ size ∷ behind) last o p =
-    test_place (nat_le size (length behind)) _ (places n (drop size behind) (option_or (told_by i (take size behind)) last) (octets_dropped size behind o.1.1)
-    (either_place (told_by i (take size behind)) last (told_place i (take size behind) (octets_taken size behind o.1.1)) p))
+places zero (i ∷ size ∷ after) last o p = tt
+places (suc n) (i ∷ size ∷ after) last o p =
+    test_place (nat_le size (length after)) _ (places n (drop size after) (option_or (told_by i (take size after)) last) (octets_dropped size after o.1.1)
+    (either_place (told_by i (take size after)) last (told_place i (take size after) (octets_taken size after o.1.1)) p))
 
 pub concat_is_there : ConcatIsThere
 concat_is_there header o = walk (length header) header header None (omega arith) o (at_start header)

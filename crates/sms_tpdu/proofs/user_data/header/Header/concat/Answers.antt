@@ -3,12 +3,12 @@ use Rattle.std.proofs.lemmas.Bool.{eqb-true, eqb-false}
 use Rattle.sms_text.specs.Octets.{IsOctets}
 use Rattle.sms_tpdu.specs.UserData.ConcatenationFound.{IsPlace}
 use Rattle.sms_tpdu.proofs.Headers.{concat_is_one, concat_is_place}
-use Rattle.sms_tpdu.proofs.ElementLaws.{one_concat, further, at_end, cut_before_length, cut_behind_length}
+use Rattle.sms_tpdu.proofs.ElementLaws.{one_concat, further, at_end, cut_before_length, cut_after_length}
 use Rattle.sms_tpdu.proofs.user_data.header.Header.concat.Goals as goal
 
 pub returns-then-after-length : goal.returns-then-after-length
 returns-then-after-length c =
-    let told = cut_behind_length c.args.self.now c.loop-rest.rest.now c.loop-rest.last c.in-len2-up.len_at_least c.if-after-length.true c.loop-rest.invariant in
+    let told = cut_after_length c.args.self.now c.loop-rest.rest.now c.loop-rest.last c.in-len2-up.len_at_least c.if-after-length.true c.loop-rest.invariant in
     let are : IsOctets c.args.self.now = subst IsOctets c.self.view_is c.self.invariant.1 in
     let same = concat_is_one c.args.self.now None are told in
     record { told = told; only = λ other o. one_concat c.args.self.now other None o told; value = same; in_range = subst IsPlace (sym same) (concat_is_place c.args.self.now are) }
