@@ -1,0 +1,92 @@
+//! Septets packed into octets, and unpacked from them.
+
+mod rows;
+
+ghost use Rattle.std.specs.Prelude.{◌<◌};
+ghost use Rattle.sms_text.specs.Bits.{AreSeptets};
+
+use crate::found::{are, is_below, septets_of};
+use rows::{PACKED, Packed};
+use sms_text::{pack, pack_into, unpack};
+use std::alloc::Global;
+use std::process::Abort;
+use std::test::Fail;
+
+/// The fill bits of a row, fewer than seven.
+fn fill_of(rt: &impl Abort, row: &Packed) -> u8
+    ensures { result < 7 }
+{
+    is_below(rt, row.text, row.fill, 7);
+    row.fill
+}
+
+/// What is found of a row is what is wanted.
+fn is(rt: &impl Abort, row: &Packed, found: Option<&[u8]>, wanted: Option<&[u8]>) {
+    assert_eq!(rt; found, wanted, "{} {}", row.fill, row.text);
+}
+
+/// The septets are packed so.
+fn packs(rt: &impl Abort, alloc: Global, row: &Packed, septets: &[u8]) -> Result<(), Fail>
+    requires { AreSeptets septets.now }
+{
+    let packed = pack(alloc, septets, fill_of(rt, row))?;
+    is(rt, row, Some(&packed), Some(row.plain));
+    Ok(())
+}
+
+/// The septets are packed so behind other octets.
+fn packs_behind(rt: &impl Abort, alloc: Global, row: &Packed, septets: &[u8]) -> Result<(), Fail>
+    requires { AreSeptets septets.now }
+{
+    let mut longer = Vec::from_slice(alloc, row.plain)?;
+    pack_into(&mut longer, septets, fill_of(rt, row))?;
+    is(rt, row, longer.get(row.plain.len()..), Some(row.plain));
+    Ok(())
+}
+
+/// What is unpacked from octets is this.
+fn unpacks(
+    rt: &impl Abort,
+    alloc: Global,
+    row: &Packed,
+    octets: &[u8],
+    count: usize,
+    wanted: Option<&[u8]>,
+) -> Result<(), Fail> {
+    let again = unpack(alloc, octets, fill_of(rt, row), count)?;
+    is(rt, row, again.as_deref(), wanted);
+    Ok(())
+}
+
+/// The septets come back from octets whose other bits are set, and not from fewer.
+fn come_back(rt: &impl Abort, alloc: Global, row: &Packed, septets: &[u8]) -> Result<(), Fail> {
+    unpacks(rt, alloc, row, row.set, septets.len(), Some(septets))?;
+    match row.set {
+        [fewer @ .., _] => unpacks(rt, alloc, row, fewer, septets.len(), None),
+        [] => Ok(()),
+    }
+}
+
+/// The septets of the text are packed so, and come back.
+fn is_packed(rt: &impl Abort, alloc: Global, row: &Packed) -> Result<(), Fail> {
+    let septets = septets_of(alloc, row.text)?;
+    packs(rt, alloc, row, &septets)?;
+    packs_behind(rt, alloc, row, &septets)?;
+    come_back(rt, alloc, row, &septets)
+}
+
+#[test]
+fn packing(rt: HostRuntime) -> Result<(), Fail> {
+    for row in PACKED.as_slice() {
+        is_packed(&rt, rt.alloc(), row)?;
+    }
+    Ok(())
+}
+
+#[test]
+fn packs_hello(rt: HostRuntime) -> Result<(), Fail> {
+    let hello = septets_of(rt.alloc(), "hello")?;
+    let packed = pack(rt.alloc(), &hello, 0)?;
+    are(&rt, "hello", &packed, &[0xE8, 0x32, 0x9B, 0xFD, 0x06]);
+    Ok(())
+}

@@ -1,0 +1,163 @@
+//! Texts in units of 16 bits, and their octets.
+
+use crate::found::are;
+use sms_text::{octets_of_units, text_of_ucs2, ucs2_of, units_of_octets};
+use std::alloc::Global;
+use std::process::Abort;
+use std::test::Fail;
+
+/// Two units of which one is half a pair, and their text.
+#[derive(Clone, Copy)]
+struct Half {
+    units: [u16; 2],
+    text: &'static str,
+}
+
+const HALVES: [Half; 4] = [
+    Half {
+        units: [0xD83D, 0x41],
+        text: "\u{fffd}A",
+    },
+    Half {
+        units: [0x41, 0xD83D],
+        text: "A\u{fffd}",
+    },
+    Half {
+        units: [0xDE00, 0x41],
+        text: "\u{fffd}A",
+    },
+    Half {
+        units: [0xDE00, 0xD83D],
+        text: "\u{fffd}\u{fffd}",
+    },
+];
+
+/// Three octets, and the unit of the first two.
+#[derive(Clone, Copy)]
+struct Odd {
+    octets: [u8; 3],
+    unit: u16,
+}
+
+const ODD: [Odd; 2] = [
+    Odd {
+        octets: [0x00, 0x41, 0x04],
+        unit: 0x41,
+    },
+    Odd {
+        octets: [0x04, 0x16, 0xFF],
+        unit: 0x416,
+    },
+];
+
+/// The units of a row are those that are wanted.
+fn are_units(rt: &impl Abort, row: &str, found: &[u16], wanted: &[u16]) {
+    assert_eq!(rt; found, wanted, "{row}");
+}
+
+/// The units of a row of octets are those that are wanted.
+fn are_read(rt: &impl Abort, octets: &[u8], found: &[u16], wanted: &[u16]) {
+    assert_eq!(rt; found, wanted, "{octets:?}");
+}
+
+/// The text of a row of units is the one that is wanted.
+fn is_text(rt: &impl Abort, units: &[u16], found: &str, wanted: &str) {
+    assert_eq!(rt; found, wanted, "{units:?}");
+}
+
+/// The text has these units.
+fn writes(rt: &impl Abort, alloc: Global, text: &str, units: &[u16]) -> Result<(), Fail> {
+    let written = ucs2_of(alloc, text)?;
+    are_units(rt, text, &written, units);
+    Ok(())
+}
+
+/// The units stand for the text.
+fn reads(rt: &impl Abort, alloc: Global, units: &[u16], text: &str) -> Result<(), Fail> {
+    let read = text_of_ucs2(alloc, units)?;
+    is_text(rt, units, &read, text);
+    Ok(())
+}
+
+/// The units are spelled in these octets.
+fn puts(
+    rt: &impl Abort,
+    alloc: Global,
+    text: &str,
+    units: &[u16],
+    octets: &[u8],
+) -> Result<(), Fail> {
+    let put = octets_of_units(alloc, units)?;
+    are(rt, text, &put, octets);
+    Ok(())
+}
+
+/// The octets spell these units.
+fn takes(rt: &impl Abort, alloc: Global, octets: &[u8], units: &[u16]) -> Result<(), Fail> {
+    let taken = units_of_octets(alloc, octets)?;
+    are_read(rt, octets, &taken, units);
+    Ok(())
+}
+
+/// The text has these units, and they these octets; and back.
+fn spells(
+    rt: &impl Abort,
+    alloc: Global,
+    text: &str,
+    units: &[u16],
+    octets: &[u8],
+) -> Result<(), Fail> {
+    writes(rt, alloc, text, units)?;
+    puts(rt, alloc, text, units, octets)?;
+    takes(rt, alloc, octets, units)?;
+    reads(rt, alloc, units, text)
+}
+
+/// A text, its units, and their octets.
+struct Wide {
+    text: &'static str,
+    units: &'static [u16],
+    octets: &'static [u8],
+}
+
+static WIDE: [Wide; 3] = [
+    Wide {
+        text: "",
+        units: &[],
+        octets: &[],
+    },
+    Wide {
+        text: "AЖ",
+        units: &[0x41, 0x416],
+        octets: &[0x00, 0x41, 0x04, 0x16],
+    },
+    Wide {
+        text: "😀",
+        units: &[0xD83D, 0xDE00],
+        octets: &[0xD8, 0x3D, 0xDE, 0x00],
+    },
+];
+
+#[test]
+fn wide_texts(rt: HostRuntime) -> Result<(), Fail> {
+    for row in WIDE.as_slice() {
+        spells(&rt, rt.alloc(), row.text, row.units, row.octets)?;
+    }
+    Ok(())
+}
+
+#[test]
+fn halves(rt: HostRuntime) -> Result<(), Fail> {
+    for Half { units, text } in HALVES {
+        reads(&rt, rt.alloc(), &units, text)?;
+    }
+    Ok(())
+}
+
+#[test]
+fn odd_octets(rt: HostRuntime) -> Result<(), Fail> {
+    for Odd { octets, unit } in ODD {
+        takes(&rt, rt.alloc(), &octets, &[unit])?;
+    }
+    Ok(())
+}
