@@ -116,6 +116,3 @@ impl Address {
         Ok(view.to_value(alloc)?)
     }
 }
-
-#[cfg(test)]
-mod tests;

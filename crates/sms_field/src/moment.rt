@@ -88,6 +88,3 @@ impl Stamp {
         (days * 86_400 + time).checked_sub_signed(seconds_of_zone(date.quarters))
     }
 }
-
-#[cfg(test)]
-mod tests;

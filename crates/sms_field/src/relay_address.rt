@@ -190,6 +190,3 @@ impl RpAddress {
         Ok(RpAddressView::some_to_value(alloc, &view)?)
     }
 }
-
-#[cfg(test)]
-mod tests;

@@ -149,6 +149,3 @@ impl Stamp {
         Ok(Stamp::new(octets))
     }
 }
-
-#[cfg(test)]
-mod tests;

@@ -64,6 +64,3 @@ impl Validity {
         }
     }
 }
-
-#[cfg(test)]
-mod tests;

@@ -1,30 +1,30 @@
-use super::*;
-use crate::fault::{AddressFault, TextFault};
-use std::test::Fail;
+//! Rows of the tests of addresses.
 
-const NINETEEN: &[u8] = b"\x13\x81\x21\x43\x65\x87\x09\x21\x43\x65\x87\xF9";
+use sms_field::{AddressFault, FieldFault};
 
-const TWENTY: &[u8] = b"\x14\x81\x21\x43\x65\x87\x09\x21\x43\x65\x87\x09";
+pub const NINETEEN: &[u8] = b"\x13\x81\x21\x43\x65\x87\x09\x21\x43\x65\x87\xF9";
+
+pub const TWENTY: &[u8] = b"\x14\x81\x21\x43\x65\x87\x09\x21\x43\x65\x87\x09";
 
 /// Octets that are read as an address of digits, and how many of them it takes.
 #[derive(Clone, Copy)]
-struct Found {
-    octets: &'static [u8],
-    type_of_number: u8,
-    plan: u8,
-    digits: &'static [u8],
-    used: usize,
+pub struct Found {
+    pub octets: &'static [u8],
+    pub type_of_number: u8,
+    pub plan: u8,
+    pub digits: &'static [u8],
+    pub used: usize,
 }
 
 /// Octets that are no address, and the place and the reason of the refusal.
 #[derive(Clone, Copy)]
-struct Refused {
-    octets: &'static [u8],
-    place: usize,
-    why: FieldFault,
+pub struct Refused {
+    pub octets: &'static [u8],
+    pub place: usize,
+    pub why: FieldFault,
 }
 
-const FOUND: [Found; 10] = [
+pub const FOUND: [Found; 10] = [
     Found {
         octets: b"\x00\x81",
         type_of_number: 0,
@@ -97,7 +97,7 @@ const FOUND: [Found; 10] = [
     },
 ];
 
-const REFUSED: [Refused; 16] = [
+pub const REFUSED: [Refused; 16] = [
     Refused {
         octets: b"",
         place: 0,
@@ -180,49 +180,14 @@ const REFUSED: [Refused; 16] = [
     },
 ];
 
-#[test]
-fn addresses_read_or_refused(rt: HostRuntime) -> Result<(), Fail> {
-    for Found {
-        octets,
-        type_of_number,
-        plan,
-        digits,
-        used,
-    } in FOUND {
-        match Address::read(rt.alloc(), octets) {
-            Ok((address, count)) => {
-                assert_eq!(rt; address.type_of_number, type_of_number, "{octets:?}");
-                assert_eq!(rt; address.plan, plan, "{octets:?}");
-                match &address.symbols {
-                    Symbols::Digits(found) => assert_eq!(rt;
-                        found.as_slice(),
-                        digits,
-                        "{octets:?}"
-                    ),
-                    Symbols::Name(_) => assert!(rt; false, "{octets:?}"),
-                }
-                assert_eq!(rt; count, used, "{octets:?}");
-            }
-            Err(refusal) => assert!(rt; false, "{octets:?}: {refusal:?}"),
-        }
-    }
-    for Refused { octets, place, why } in REFUSED {
-        match Address::read(rt.alloc(), octets) {
-            Ok(_) => assert!(rt; false, "{octets:?}"),
-            Err(refusal) => assert_eq!(rt; refusal, Refusal::At { place, why }, "{octets:?}"),
-        }
-    }
-    Ok(())
-}
-
 /// Octets of an address, and those with which it is written.
 #[derive(Clone, Copy)]
-struct Written {
-    octets: &'static [u8],
-    want: &'static [u8],
+pub struct Written {
+    pub octets: &'static [u8],
+    pub want: &'static [u8],
 }
 
-const WRITTEN: [Written; 4] = [
+pub const WRITTEN: [Written; 4] = [
     Written {
         octets: b"\x00\x01",
         want: b"\x00\x81",
@@ -241,48 +206,21 @@ const WRITTEN: [Written; 4] = [
     },
 ];
 
-#[test]
-fn addresses_written(rt: HostRuntime) -> Result<(), Fail> {
-    for Written { octets, want } in WRITTEN {
-        let (address, _) = Address::read(rt.alloc(), octets)?;
-        let mut out = Vec::new(rt.alloc());
-        address.write_to(&mut out)?;
-        assert_eq!(rt; out.as_slice(), want, "{octets:?}");
-    }
-    Ok(())
-}
-
-/// Whether a text is the address of these octets, and is its text again.
-fn is_text_of(alloc: Global, text: &str, octets: &[u8]) -> Result<bool, Fail> {
-    let address = Address::from_text(alloc, text)?;
-    let written = address.write(alloc)?;
-    let again = address.to_text(alloc)?;
-    Ok(written.as_slice() == octets && again.as_str() == text)
-}
-
-/// Whether a text is refused for this reason.
-fn is_refused(alloc: Global, text: &str, fault: AddressFault) -> bool {
-    match Address::from_text(alloc, text) {
-        Ok(_) => false,
-        Err(why) => why == TextFault::Address(fault),
-    }
-}
-
 /// A text that says an address, and the address's octets.
 #[derive(Clone, Copy)]
-struct Spelled {
-    text: &'static str,
-    octets: &'static [u8],
+pub struct Spelled {
+    pub text: &'static str,
+    pub octets: &'static [u8],
 }
 
 /// A text that says no address, and why.
 #[derive(Clone, Copy)]
-struct Bad {
-    text: &'static str,
-    fault: AddressFault,
+pub struct Bad {
+    pub text: &'static str,
+    pub fault: AddressFault,
 }
 
-const SPELLED: [Spelled; 12] = [
+pub const SPELLED: [Spelled; 12] = [
     Spelled {
         text: "",
         octets: b"\x00\x81",
@@ -333,7 +271,7 @@ const SPELLED: [Spelled; 12] = [
     },
 ];
 
-const BAD: [Bad; 11] = [
+pub const BAD: [Bad; 11] = [
     Bad {
         text: "+12x",
         fault: AddressFault::BadDigit,
@@ -380,25 +318,14 @@ const BAD: [Bad; 11] = [
     },
 ];
 
-#[test]
-fn addresses_from_texts(rt: HostRuntime) -> Result<(), Fail> {
-    for Spelled { text, octets } in SPELLED {
-        assert!(rt; is_text_of(rt.alloc(), text, octets)?, "{text}");
-    }
-    for Bad { text, fault } in BAD {
-        assert!(rt; is_refused(rt.alloc(), text, fault), "{text}");
-    }
-    Ok(())
-}
-
 /// The octets of a name, and its text.
 #[derive(Clone, Copy)]
-struct Named {
-    octets: &'static [u8],
-    text: &'static str,
+pub struct Named {
+    pub octets: &'static [u8],
+    pub text: &'static str,
 }
 
-const NAMED: [Named; 4] = [
+pub const NAMED: [Named; 4] = [
     Named {
         octets: b"\x0D\xD0\xE8\x32\x9B\xFD\x46\x97\x01",
         text: "hellohe",
@@ -416,14 +343,3 @@ const NAMED: [Named; 4] = [
         text: "",
     },
 ];
-
-#[test]
-fn names_read(rt: HostRuntime) -> Result<(), Fail> {
-    for Named { octets, text } in NAMED {
-        let (address, used) = Address::read(rt.alloc(), octets)?;
-        assert_eq!(rt; used, octets.len(), "{text}");
-        assert_eq!(rt; address.to_text(rt.alloc())?.as_str(), text, "{octets:?}");
-        assert!(rt; address.copy(rt.alloc())? == address, "{text}");
-    }
-    Ok(())
-}

@@ -1,0 +1,176 @@
+//! Addresses that are read, written, and told in texts.
+
+mod rows;
+
+use crate::found::{are, holds, holds_of, is, is_text};
+use rows::{BAD, FOUND, Found, NAMED, Named, REFUSED, SPELLED, Spelled, WRITTEN};
+use sms_field::{Address, AddressFault, FieldFault, Refusal, Symbols, TextFault};
+use std::alloc::Global;
+use std::process::Abort;
+use std::test::Fail;
+
+/// The digits of an address without a name.
+fn digits_of(address: &Address) -> Option<&[u8]> {
+    match &address.symbols {
+        Symbols::Digits(digits) => Some(digits.as_slice()),
+        Symbols::Name(_) => None,
+    }
+}
+
+/// The digits of a row are those that are wanted.
+fn has_digits(rt: &impl Abort, row: &Found, found: Option<&[u8]>) {
+    assert_eq!(rt; found, Some(row.digits), "{:?}", row.octets);
+}
+
+/// An address is what its row says.
+fn is_found(rt: &impl Abort, row: &Found, address: &Address) {
+    is(rt, row.octets, address.type_of_number, row.type_of_number);
+    is(rt, row.octets, address.plan, row.plan);
+    has_digits(rt, row, digits_of(address));
+}
+
+/// The octets of a row are not refused.
+fn is_no_refusal(rt: &impl Abort, octets: &[u8], refusal: Refusal<FieldFault>) {
+    assert!(rt; false, "{octets:?}: {refusal:?}");
+}
+
+/// The octets of a row are read as it says.
+fn reads(rt: &impl Abort, alloc: Global, row: &Found) {
+    match Address::read(alloc, row.octets) {
+        Ok((address, used)) => {
+            is_found(rt, row, &address);
+            is(rt, row.octets, used, row.used);
+        }
+        Err(refusal) => is_no_refusal(rt, row.octets, refusal),
+    }
+}
+
+/// Whether octets are refused at this place for this reason.
+fn is_no_address(alloc: Global, octets: &[u8], place: usize, why: FieldFault) -> bool {
+    match Address::read(alloc, octets) {
+        Ok(_) => false,
+        Err(refusal) => refusal == Refusal::At { place, why },
+    }
+}
+
+#[test]
+fn addresses_read(rt: HostRuntime) {
+    for row in FOUND {
+        reads(&rt, rt.alloc(), &row);
+    }
+}
+
+#[test]
+fn addresses_refused(rt: HostRuntime) {
+    for row in REFUSED {
+        let refused = is_no_address(rt.alloc(), row.octets, row.place, row.why);
+        holds(&rt, row.octets, refused);
+    }
+}
+
+/// The octets of an address are written so.
+fn writes(
+    rt: &impl Abort,
+    alloc: Global,
+    octets: &[u8],
+    address: &Address,
+    want: &[u8],
+) -> Result<(), Fail> {
+    let mut out = Vec::new(alloc);
+    address.write_to(&mut out)?;
+    are(rt, octets, &out, want);
+    Ok(())
+}
+
+/// The octets are read, and written so.
+fn is_written(rt: &impl Abort, alloc: Global, octets: &[u8], want: &[u8]) -> Result<(), Fail> {
+    let (address, _) = Address::read(alloc, octets)?;
+    writes(rt, alloc, octets, &address, want)
+}
+
+#[test]
+fn addresses_written(rt: HostRuntime) -> Result<(), Fail> {
+    for row in WRITTEN {
+        is_written(&rt, rt.alloc(), row.octets, row.want)?;
+    }
+    Ok(())
+}
+
+/// The address has these octets.
+fn has_octets(
+    rt: &impl Abort,
+    alloc: Global,
+    address: &Address,
+    row: &Spelled,
+) -> Result<(), Fail> {
+    let written = address.write(alloc)?;
+    are(rt, row.text.as_bytes(), &written, row.octets);
+    Ok(())
+}
+
+/// The address has this text.
+fn has_text(
+    rt: &impl Abort,
+    alloc: Global,
+    address: &Address,
+    octets: &[u8],
+    text: &str,
+) -> Result<(), Fail> {
+    let again = address.to_text(alloc)?;
+    is_text(rt, octets, &again, text);
+    Ok(())
+}
+
+/// A text is the address of its octets, and is its text again.
+fn spells(rt: &impl Abort, alloc: Global, row: &Spelled) -> Result<(), Fail> {
+    let address = Address::from_text(alloc, row.text)?;
+    has_octets(rt, alloc, &address, row)?;
+    has_text(rt, alloc, &address, row.octets, row.text)
+}
+
+/// Whether a text is refused for this reason.
+fn is_refused(alloc: Global, text: &str, fault: AddressFault) -> bool {
+    match Address::from_text(alloc, text) {
+        Ok(_) => false,
+        Err(why) => why == TextFault::Address(fault),
+    }
+}
+
+#[test]
+fn addresses_from_texts(rt: HostRuntime) -> Result<(), Fail> {
+    for row in SPELLED {
+        spells(&rt, rt.alloc(), &row)?;
+    }
+    Ok(())
+}
+
+#[test]
+fn texts_without_addresses(rt: HostRuntime) {
+    for row in BAD {
+        let refused = is_refused(rt.alloc(), row.text, row.fault);
+        holds_of(&rt, row.text, refused);
+    }
+}
+
+/// The copy of an address is the address.
+fn is_copied(rt: &impl Abort, alloc: Global, text: &str, address: &Address) -> Result<(), Fail> {
+    let copy = address.copy(alloc)?;
+    holds_of(rt, text, copy == *address);
+    Ok(())
+}
+
+/// All octets of a row are read as its name.
+fn is_named(rt: &impl Abort, alloc: Global, row: Named) -> Result<(), Fail> {
+    let (address, used) = Address::read(alloc, row.octets)?;
+    is(rt, row.octets, used, row.octets.len());
+    has_text(rt, alloc, &address, row.octets, row.text)?;
+    is_copied(rt, alloc, row.text, &address)
+}
+
+#[test]
+fn names_read(rt: HostRuntime) -> Result<(), Fail> {
+    for row in NAMED {
+        is_named(&rt, rt.alloc(), row)?;
+    }
+    Ok(())
+}
