@@ -82,6 +82,3 @@ pub fn put_parts(
     put_octet(out, dcs)?;
     put_data(out, user)
 }
-
-#[cfg(test)]
-mod tests;

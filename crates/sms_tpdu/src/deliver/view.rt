@@ -122,6 +122,3 @@ impl<'a> DeliverView<'a> {
         see(input)
     }
 }
-
-#[cfg(test)]
-mod tests;

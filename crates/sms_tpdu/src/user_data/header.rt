@@ -179,6 +179,3 @@ impl Unit for Header {
 
     ghost laws = { header_laws };
 }
-
-#[cfg(test)]
-mod tests;

@@ -1,8 +1,14 @@
 //! Reports whose octets are known from the standard's tables.
 
-use super::ReportData;
-use crate::{DeliverAck, DeliverError, Refusal, SubmitAck, SubmitError, Unit, UnitFault, reread};
-use std::alloc::Global;
+ghost use Rattle.std.specs.Prelude.{[]};
+
+use crate::again::rewritten;
+use crate::found::{are, holds, same};
+use sms_tpdu::{
+    DeliverAck, DeliverError, Refusal, ReportData, SubmitAck, SubmitError, Unit, UnitFault,
+};
+use std::alloc::{AllocError, Global};
+use std::process::Abort;
 use std::test::Fail;
 
 /// The four kinds of report.
@@ -239,25 +245,35 @@ static ROWS: [Row; 14] = [
     },
 ];
 
-/// What octets say as a report on a submission, how many they are, and how it is written.
-fn submit_report(
-    alloc: Global,
-    kind: Kind,
-    octets: &[u8],
-) -> Result<(Said, usize, Vec<u8>), Refusal<UnitFault>> {
-    if let Kind::SubmitAck = kind {
-        let (report, used) = SubmitAck::read(alloc, octets)?;
-        let written = report.write(alloc)?;
-        let said = Said {
-            has_header: report.has_header,
-            cause: 0,
-            stamp: report.stamp.octets(),
-            pid: report.pid,
-            dcs: report.dcs,
-            user: report.user,
-        };
-        return Ok((said, used, written));
-    }
+/// What a report says, how many octets it takes, and how it is written.
+#[derive(Drop)]
+struct Read {
+    said: Said,
+    used: usize,
+    written: Vec<u8>,
+}
+
+/// What octets say as the report on a submission that was taken.
+fn submit_ack(alloc: Global, octets: &[u8]) -> Result<Read, Refusal<UnitFault>> {
+    let (report, used) = SubmitAck::read(alloc, octets)?;
+    let written = report.write(alloc)?;
+    let said = Said {
+        has_header: report.has_header,
+        cause: 0,
+        stamp: report.stamp.octets(),
+        pid: report.pid,
+        dcs: report.dcs,
+        user: report.user,
+    };
+    Ok(Read {
+        said,
+        used,
+        written,
+    })
+}
+
+/// The same where it was not.
+fn submit_error(alloc: Global, octets: &[u8]) -> Result<Read, Refusal<UnitFault>> {
     let (report, used) = SubmitError::read(alloc, octets)?;
     let written = report.write(alloc)?;
     let said = Said {
@@ -268,28 +284,34 @@ fn submit_report(
         dcs: report.dcs,
         user: report.user,
     };
-    Ok((said, used, written))
+    Ok(Read {
+        said,
+        used,
+        written,
+    })
 }
 
-/// The same as a report on a delivery.
-fn deliver_report(
-    alloc: Global,
-    kind: Kind,
-    octets: &[u8],
-) -> Result<(Said, usize, Vec<u8>), Refusal<UnitFault>> {
-    if let Kind::DeliverAck = kind {
-        let (report, used) = DeliverAck::read(alloc, octets)?;
-        let written = report.write(alloc)?;
-        let said = Said {
-            has_header: report.has_header,
-            cause: 0,
-            stamp: NONE,
-            pid: report.pid,
-            dcs: report.dcs,
-            user: report.user,
-        };
-        return Ok((said, used, written));
-    }
+/// What octets say as the report on a delivery that was taken.
+fn deliver_ack(alloc: Global, octets: &[u8]) -> Result<Read, Refusal<UnitFault>> {
+    let (report, used) = DeliverAck::read(alloc, octets)?;
+    let written = report.write(alloc)?;
+    let said = Said {
+        has_header: report.has_header,
+        cause: 0,
+        stamp: NONE,
+        pid: report.pid,
+        dcs: report.dcs,
+        user: report.user,
+    };
+    Ok(Read {
+        said,
+        used,
+        written,
+    })
+}
+
+/// The same where it was not.
+fn deliver_error(alloc: Global, octets: &[u8]) -> Result<Read, Refusal<UnitFault>> {
     let (report, used) = DeliverError::read(alloc, octets)?;
     let written = report.write(alloc)?;
     let said = Said {
@@ -300,18 +322,20 @@ fn deliver_report(
         dcs: report.dcs,
         user: report.user,
     };
-    Ok((said, used, written))
+    Ok(Read {
+        said,
+        used,
+        written,
+    })
 }
 
-/// The same as a report of a kind.
-fn report(
-    alloc: Global,
-    kind: Kind,
-    octets: &[u8],
-) -> Result<(Said, usize, Vec<u8>), Refusal<UnitFault>> {
+/// What octets say as a report of a kind.
+fn report(alloc: Global, kind: Kind, octets: &[u8]) -> Result<Read, Refusal<UnitFault>> {
     match kind {
-        Kind::SubmitAck | Kind::SubmitError => submit_report(alloc, kind, octets),
-        Kind::DeliverAck | Kind::DeliverError => deliver_report(alloc, kind, octets),
+        Kind::SubmitAck => submit_ack(alloc, octets),
+        Kind::SubmitError => submit_error(alloc, octets),
+        Kind::DeliverAck => deliver_ack(alloc, octets),
+        Kind::DeliverError => deliver_error(alloc, octets),
     }
 }
 
@@ -326,23 +350,37 @@ fn are_data(user: &Option<ReportData>, wanted: Option<Data>) -> bool {
     }
 }
 
-/// Whether the octets of a row, and others after them, are read and written as the row says.
-fn is_right(alloc: Global, row: &Row) -> Result<bool, Fail> {
-    let mut octets = Vec::from_slice(alloc, row.octets)?;
-    octets.extend_from_slice(b"\x00\xFF")?;
-    let (said, used, written) = report(alloc, row.kind, &octets)?;
-    let right = said.has_header == row.has_header
+/// Whether a report says what its row says.
+fn says(said: &Said, row: &Row) -> bool {
+    said.has_header == row.has_header
         && (said.cause, said.stamp) == (row.cause, row.stamp)
         && (said.pid, said.dcs) == (row.pid, row.dcs)
-        && are_data(&said.user, row.user);
-    Ok(right && used == row.octets.len() && written.as_slice() == row.written)
+        && are_data(&said.user, row.user)
+}
+
+/// The octets, and others after them.
+fn with_others(alloc: Global, octets: &[u8]) -> Result<Vec<u8>, AllocError> {
+    let mut octets = Vec::from_slice(alloc, octets)?;
+    octets.extend_from_slice(b"\x00\xFF")?;
+    Ok(octets)
+}
+
+/// Whether the octets of a row, and others after them, are read and written as the row says.
+fn is_right(alloc: Global, row: &Row) -> Result<bool, Fail> {
+    let octets = with_others(alloc, row.octets)?;
+    let found = report(alloc, row.kind, &octets)?;
+    Ok(
+        says(&found.said, row)
+            && found.used == row.octets.len()
+            && found.written.as_slice() == row.written,
+    )
 }
 
 #[test]
 fn reads_and_writes_reports(rt: HostRuntime) -> Result<(), Fail> {
     for row in ROWS.as_slice() {
         let right = is_right(rt.alloc(), row)?;
-        assert!(rt; right, "{:?} {:?}", row.kind, row.octets);
+        holds(&rt, &(row.kind, row.octets), right);
     }
     Ok(())
 }
@@ -356,7 +394,6 @@ fn is_refused(alloc: Global, kind: Kind, octets: &[u8], place: usize, why: UnitF
 }
 
 /// Octets that are no report of a kind, and the place and the reason of the refusal.
-#[derive(Clone, Copy)]
 struct Refused {
     kind: Kind,
     octets: &'static [u8],
@@ -364,7 +401,7 @@ struct Refused {
     why: UnitFault,
 }
 
-const REFUSED: [Refused; 10] = [
+static REFUSED: [Refused; 10] = [
     Refused {
         kind: Kind::SubmitAck,
         octets: b"\x00",
@@ -427,24 +464,27 @@ const REFUSED: [Refused; 10] = [
     },
 ];
 
+/// All fronts of a report are refused, as too short.
+fn needs_all(rt: &impl Abort, alloc: Global, row: &Row) {
+    for n in 0..row.octets.len() {
+        let short = is_refused(alloc, row.kind, &row.octets[..n], n, UnitFault::Short);
+        holds(rt, &(row.kind, row.octets, n), short);
+    }
+}
+
 #[test]
-fn refuses_what_is_no_report(rt: HostRuntime) -> Result<(), Fail> {
+fn refuses_cut_reports(rt: HostRuntime) {
     for row in ROWS.as_slice() {
-        for n in 0..row.octets.len() {
-            let short = is_refused(rt.alloc(), row.kind, &row.octets[..n], n, UnitFault::Short);
-            assert!(rt; short, "{:?} {:?} {n}", row.kind, row.octets);
-        }
+        needs_all(&rt, rt.alloc(), row);
     }
-    for Refused {
-        kind,
-        octets,
-        place,
-        why,
-    } in REFUSED {
-        let refused = is_refused(rt.alloc(), kind, octets, place, why);
-        assert!(rt; refused, "{kind:?} {octets:?}");
+}
+
+#[test]
+fn refuses_what_is_no_report(rt: HostRuntime) {
+    for row in REFUSED.as_slice() {
+        let refused = is_refused(rt.alloc(), row.kind, row.octets, row.place, row.why);
+        holds(&rt, &(row.kind, row.octets), refused);
     }
-    Ok(())
 }
 
 /// The octets of a report on a delivery with 181 septets, which are 159 octets.
@@ -454,21 +494,33 @@ fn longest(alloc: Global) -> Result<Vec<u8>, Fail> {
     Ok(octets)
 }
 
+/// What is read of the octets is read again, and then written so. Says how many octets were read.
+fn rereads<U: Unit>(
+    rt: &impl Abort,
+    alloc: Global,
+    octets: &[u8],
+    wanted: &[u8],
+) -> Result<usize, Refusal<U::Why>>
+    requires { (report : U) → U.may_follow report [] }
+{
+    let (report, used) = U::read(alloc, octets)?;
+    let written = rewritten(alloc, &report)?;
+    are(rt, &octets, &written, wanted);
+    Ok(used)
+}
+
 #[test]
 fn rereads_reports(rt: HostRuntime) -> Result<(), Fail> {
-    let (ack, _) = SubmitAck::read(rt.alloc(), ROWS[1].octets)?;
-    let again = reread(rt.alloc(), &ack)?.write(rt.alloc())?;
-    assert_eq!(rt; again.as_slice(), ROWS[1].written);
-    let (error, _) = SubmitError::read(rt.alloc(), ROWS[5].octets)?;
-    let again = reread(rt.alloc(), &error)?.write(rt.alloc())?;
-    assert_eq!(rt; again.as_slice(), ROWS[5].written);
-    let (error, _) = DeliverError::read(rt.alloc(), ROWS[11].octets)?;
-    let again = reread(rt.alloc(), &error)?.write(rt.alloc())?;
-    assert_eq!(rt; again.as_slice(), ROWS[11].written);
+    rereads::<SubmitAck>(&rt, rt.alloc(), ROWS[1].octets, ROWS[1].written)?;
+    rereads::<SubmitError>(&rt, rt.alloc(), ROWS[5].octets, ROWS[5].written)?;
+    rereads::<DeliverError>(&rt, rt.alloc(), ROWS[11].octets, ROWS[11].written)?;
+    Ok(())
+}
+
+#[test]
+fn rereads_the_longest_report(rt: HostRuntime) -> Result<(), Fail> {
     let octets = longest(rt.alloc())?;
-    let (ack, used) = DeliverAck::read(rt.alloc(), &octets)?;
-    assert_eq!(rt; used, 162);
-    let again = reread(rt.alloc(), &ack)?.write(rt.alloc())?;
-    assert_eq!(rt; again.as_slice(), octets.as_slice());
+    let used = rereads::<DeliverAck>(&rt, rt.alloc(), &octets, &octets)?;
+    same(&rt, &"octets", &used, &162);
     Ok(())
 }

@@ -1,6 +1,9 @@
 //! Headers whose octets are known from the standard's tables.
 
-use crate::{Concat, Header, Refusal, Unit, UnitFault, Width};
+use crate::found::{are, same};
+use sms_tpdu::{Concat, Header, Refusal, Unit, UnitFault, Width};
+use std::alloc::{AllocError, Global};
+use std::process::Abort;
 use std::test::Fail;
 
 /// The first of two segments with reference 10.
@@ -52,13 +55,12 @@ const GREATEST: Concat = Concat {
 };
 
 /// The octets of a header, and the place of a segment that it tells, if it tells one.
-#[derive(Clone, Copy)]
 struct Told {
     octets: &'static [u8],
     want: Option<Concat>,
 }
 
-const TOLD: [Told; 20] = [
+static TOLD: [Told; 20] = [
     Told {
         octets: b"\x05\x00\x03\x0A\x02\x01",
         want: Some(TEN),
@@ -146,32 +148,20 @@ const TOLD: [Told; 20] = [
     },
 ];
 
-#[test]
-fn tells_the_place_of_a_segment(rt: HostRuntime) -> Result<(), Fail> {
-    for Told { octets, want } in TOLD {
-        let (header, used) = Header::read(rt.alloc(), octets)?;
-        assert_eq!(rt; used, octets.len(), "of {octets:?}");
-        assert_eq!(rt; header.concat(), want, "of {octets:?}");
-    }
-    Ok(())
-}
-
 /// The place of a segment, and the octets of its header.
-#[derive(Clone, Copy)]
 struct Written {
     concat: Concat,
     want: &'static [u8],
 }
 
 /// Octets that are no header, and the place and the reason of the refusal.
-#[derive(Clone, Copy)]
 struct Refused {
     octets: &'static [u8],
     place: usize,
     why: UnitFault,
 }
 
-const REFUSED: [Refused; 4] = [
+static REFUSED: [Refused; 4] = [
     Refused {
         octets: b"",
         place: 0,
@@ -194,7 +184,7 @@ const REFUSED: [Refused; 4] = [
     },
 ];
 
-const WRITTEN: [Written; 3] = [
+static WRITTEN: [Written; 3] = [
     Written {
         concat: TEN,
         want: b"\x05\x00\x03\x0A\x02\x01",
@@ -209,35 +199,86 @@ const WRITTEN: [Written; 3] = [
     },
 ];
 
+/// The header at the front of the octets takes all of them, and tells what is wanted.
+fn tells(rt: &impl Abort, alloc: Global, row: &Told) -> Result<(), Fail> {
+    let (header, used) = Header::read(alloc, row.octets)?;
+    same(rt, &row.octets, &used, &row.octets.len());
+    same(rt, &row.octets, &header.concat(), &row.want);
+    Ok(())
+}
+
 #[test]
-fn reads_and_writes_a_header(rt: HostRuntime) -> Result<(), Fail> {
-    for Written { concat, want } in WRITTEN {
-        assert!(rt;
-            concat.width == Width::Sixteen || concat.reference < 256,
-            "{concat:?}"
-        );
-        let header = Header::of(rt.alloc(), concat)?.copy(rt.alloc())?;
-        assert_eq!(rt; header.write(rt.alloc())?.as_slice(), want, "{concat:?}");
-        assert_eq!(rt; header.concat(), Some(concat), "{concat:?}");
-    }
-    let longest = Header::new(Vec::from_slice(rt.alloc(), &[7; 139])?);
-    assert_eq!(rt; longest.as_slice(), [7; 139].as_slice());
-    let mut written = longest.write(rt.alloc())?;
-    assert_eq!(rt; (written.len(), written.first().copied()), (140, Some(139)));
-    written.push(9)?;
-    let (again, used) = Header::read(rt.alloc(), &written)?;
-    assert_eq!(rt; used, 140);
-    assert_eq!(rt; again.into_vec().as_slice(), [7; 139].as_slice());
-    for Refused { octets, place, why } in &REFUSED {
-        let answer = Header::read(rt.alloc(), *octets);
-        assert_eq!(rt;
-            answer.err(),
-            Some(Refusal::At {
-                place: *place,
-                why: *why
-            }),
-            "of {octets:?}"
-        );
+fn tells_the_place_of_a_segment(rt: HostRuntime) -> Result<(), Fail> {
+    for row in TOLD.as_slice() {
+        tells(&rt, rt.alloc(), row)?;
     }
     Ok(())
+}
+
+/// A copy of the header of a segment.
+fn header_of(rt: &impl Abort, alloc: Global, concat: Concat) -> Result<Header, AllocError> {
+    let fits = concat.width == Width::Sixteen || concat.reference < 256;
+    assert!(rt; fits, "{concat:?}");
+    Header::of(alloc, concat)?.copy(alloc)
+}
+
+/// The header of a segment is written as its row says, and tells the segment.
+fn is_written(rt: &impl Abort, alloc: Global, row: &Written) -> Result<(), Fail> {
+    let header = header_of(rt, alloc, row.concat)?;
+    let written = header.write(alloc)?;
+    are(rt, &row.concat, &written, row.want);
+    same(rt, &row.concat, &header.concat(), &Some(row.concat));
+    Ok(())
+}
+
+#[test]
+fn reads_and_writes_a_header(rt: HostRuntime) -> Result<(), Fail> {
+    for row in WRITTEN.as_slice() {
+        is_written(&rt, rt.alloc(), row)?;
+    }
+    Ok(())
+}
+
+/// The header of 139 octets.
+fn longest(alloc: Global) -> Result<Header, AllocError> {
+    let octets = Vec::from_slice(alloc, &[7; 139])?;
+    Ok(Header::new(octets))
+}
+
+/// What is written of the header is 140 octets.
+fn is_long(rt: &impl Abort, written: &[u8]) {
+    let front = (written.len(), written.first().copied());
+    same(rt, &"length", &front, &(140, Some(139)));
+}
+
+/// The octets are read as the header of 139, with another octet after it.
+fn is_longest(rt: &impl Abort, alloc: Global, octets: &[u8]) -> Result<(), Fail> {
+    let (again, used) = Header::read(alloc, octets)?;
+    same(rt, &"octets", &used, &140);
+    are(rt, &"again", &again.into_vec(), &[7; 139]);
+    Ok(())
+}
+
+#[test]
+fn reads_and_writes_the_longest_header(rt: HostRuntime) -> Result<(), Fail> {
+    let header = longest(rt.alloc())?;
+    are(&rt, &"longest", header.as_slice(), &[7; 139]);
+    let mut written = header.write(rt.alloc())?;
+    is_long(&rt, &written);
+    written.push(9)?;
+    is_longest(&rt, rt.alloc(), &written)
+}
+
+/// Octets are refused as their row says.
+fn is_refused(rt: &impl Abort, alloc: Global, row: &Refused) {
+    let refusal = Header::read(alloc, row.octets).err();
+    let (place, why) = (row.place, row.why);
+    same(rt, &row.octets, &refusal, &Some(Refusal::At { place, why }));
+}
+
+#[test]
+fn refuses_what_is_no_header(rt: HostRuntime) {
+    for row in REFUSED.as_slice() {
+        is_refused(&rt, rt.alloc(), row);
+    }
 }

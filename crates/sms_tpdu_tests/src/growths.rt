@@ -5,10 +5,11 @@ ghost use Rattle.std.specs.Prelude.{IfOk};
 ghost use Rattle.sms_field.specs.Coding.{alphabet_at};
 ghost use Rattle.sms_tpdu.specs.UserData.{FitsAlphabet};
 
-use super::octets_in;
-use crate::{Body, Deliver, Refusal, Septets, Submit, Unit, UnitFault, UserData};
+use crate::deliver::octets_in;
+use crate::found::holds;
 use sms_field::{Address, Symbols, Validity};
 use sms_text::gsm_of;
+use sms_tpdu::{Body, Deliver, Refusal, Septets, Submit, Unit, UnitFault, UserData};
 use std::alloc::{AllocError, Global};
 use std::test::Fail;
 
@@ -99,7 +100,7 @@ fn is_written(alloc: Global) -> Result<bool, AllocError> {
 #[test]
 fn reads_160_septets(rt: HostRuntime) -> Result<(), Fail> {
     let read = is_read(rt.alloc())?;
-    assert!(rt; read);
+    holds(&rt, &"160 letters", read);
     Ok(())
 }
 
@@ -109,14 +110,14 @@ fn reads_160_septets_after_a_refused_growth(rt: HostRuntime) -> Result<(), Fail>
         Err(Refusal::Memory) => is_read(rt.alloc())?,
         answer => answer?,
     };
-    assert!(rt; read);
+    holds(&rt, &"160 letters", read);
     Ok(())
 }
 
 #[test]
 fn writes_160_letters(rt: HostRuntime) -> Result<(), Fail> {
     let written = is_written(rt.alloc())?;
-    assert!(rt; written);
+    holds(&rt, &"160 letters", written);
     Ok(())
 }
 
@@ -126,6 +127,6 @@ fn writes_160_letters_after_a_refused_growth(rt: HostRuntime) -> Result<(), Fail
         Ok(written) => written,
         Err(_) => is_written(rt.alloc())?,
     };
-    assert!(rt; written);
+    holds(&rt, &"160 letters", written);
     Ok(())
 }
