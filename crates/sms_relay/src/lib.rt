@@ -28,6 +28,3 @@ pub use side::Side;
 pub use transaction::Transaction;
 pub use unwrapping::{unwrap, unwrap_view};
 pub use wrap::{wrap_acknowledgement, wrap_answer, wrap_transfer};
-
-#[cfg(test)]
-mod tests;

@@ -1,6 +1,6 @@
 //! Rows of the tests: octets, and what they say.
 
-use crate::RelayFault;
+use sms_relay::RelayFault;
 
 /// A packet.
 pub struct Packet {

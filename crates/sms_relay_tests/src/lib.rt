@@ -1,0 +1,9 @@
+//! Packets, against the public calls of `sms_relay`, and of what lies below it.
+#![tactic(auto)]
+
+#[cfg(test)]
+mod hostile;
+#[cfg(test)]
+mod packets;
+#[cfg(test)]
+mod written;

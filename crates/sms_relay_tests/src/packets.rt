@@ -1,0 +1,510 @@
+//! Packets whose octets are known from the standard's tables.
+
+mod rows;
+
+ghost use Rattle.std.specs.Prelude.{◌<◌};
+ghost use Rattle.std.specs.Option.{ForSome};
+
+use crate::written::is_written;
+use rows::{
+    AGAIN, Again, DELIVER, DELIVER_ACK, DELIVER_ERROR, HEADER, NO_PACKETS, NO_RELAYS, PACKETS,
+    Packet, Refused, SUBMIT, SUBMIT_ACK, SUBMIT_ERROR,
+};
+use sms_field::{Refusal, RpAddress};
+use sms_relay::{
+    CpBody, CpMessage, Inner, RelayFault, RpBody, RpMessage, Side, WrapFault, unwrap,
+    wrap_acknowledgement, wrap_answer, wrap_transfer,
+};
+use sms_tpdu::{Deliver, DeliverAck, DeliverError, Header, Submit, SubmitAck, SubmitError, Unit};
+use std::alloc::Global;
+use std::process::Abort;
+use std::test::Fail;
+
+/// A text that says this.
+fn said(alloc: Global, text: &str) -> Result<String, Fail> {
+    Ok(String::from_str(alloc, text)?)
+}
+
+/// What is said of an address.
+fn said_of_address(alloc: Global, address: &RpAddress) -> Result<String, Fail> {
+    Ok(address.to_text(alloc)?)
+}
+
+/// What is said of the address of a transfer, or of there being none.
+fn said_of_centre(alloc: Global, address: Option<&RpAddress>) -> Result<String, Fail> {
+    match address {
+        Some(address) => said_of_address(alloc, address),
+        None => said(alloc, "none"),
+    }
+}
+
+/// What is said of a transfer.
+fn said_of_transfer(
+    alloc: Global,
+    message: &RpMessage,
+    address: Option<&RpAddress>,
+) -> Result<String, Fail> {
+    let (side, reference) = (message.side, message.reference);
+    let address = said_of_centre(alloc, address)?;
+    Ok(format!(in alloc; "data {side:?} {reference} {address}")?)
+}
+
+/// What is said of an acknowledgement.
+fn said_of_ack(alloc: Global, message: &RpMessage) -> Result<String, Fail> {
+    let (side, reference) = (message.side, message.reference);
+    Ok(format!(in alloc; "ack {side:?} {reference}")?)
+}
+
+/// What is said of an error.
+fn said_of_fail(
+    alloc: Global,
+    message: &RpMessage,
+    cause: u8,
+    diagnostic: Option<u8>,
+) -> Result<String, Fail> {
+    let (side, reference) = (message.side, message.reference);
+    Ok(format!(in alloc; "error {side:?} {reference} {cause} {diagnostic:?}")?)
+}
+
+/// What an RP message says beside its user data.
+fn said_of_relay(alloc: Global, message: &RpMessage) -> Result<String, Fail> {
+    match &message.body {
+        RpBody::Transfer { address, .. } => said_of_transfer(alloc, message, address.as_ref()),
+        RpBody::Ack { .. } => said_of_ack(alloc, message),
+        RpBody::Fail {
+            cause,
+            diagnostic,
+            ..
+        } => said_of_fail(alloc, message, *cause, *diagnostic),
+    }
+}
+
+/// What is said of octets that are no RP message.
+fn said_of_bad(alloc: Global, place: usize, why: RelayFault) -> Result<String, Fail> {
+    Ok(format!(in alloc; "{why:?} at {place}")?)
+}
+
+/// What is found in a CP message, beside user data.
+fn said_inside(alloc: Global, inner: &Inner) -> Result<String, Fail> {
+    match inner {
+        Inner::Empty => said(alloc, "empty"),
+        Inner::Relay(message) => said_of_relay(alloc, message),
+        Inner::Bad { place, why } => said_of_bad(alloc, *place, *why),
+    }
+}
+
+/// Whether this is said of what is found in a CP message.
+fn is_said(alloc: Global, inner: &Inner, says: &str) -> Result<bool, Fail> {
+    let said = said_inside(alloc, inner)?;
+    Ok(said.as_str() == says)
+}
+
+/// The user data of an RP message.
+fn user_data(message: &RpMessage) -> Option<&[u8]> {
+    match &message.body {
+        RpBody::Transfer { user, .. } => Some(user.as_slice()),
+        RpBody::Ack { user: Some(user) } => Some(user.as_slice()),
+        RpBody::Fail {
+            user: Some(user),
+            ..
+        } => Some(user.as_slice()),
+        _ => None,
+    }
+}
+
+/// The user data of a packet.
+fn user_of(row: &Packet) -> Option<&'static [u8]> {
+    match row.user {
+        Some(place) => row.octets.get(place..),
+        None => None,
+    }
+}
+
+/// Whether the octets of a CP-DATA are written as they were read, and end with the user data that begin at a place.
+fn is_kept(
+    alloc: Global,
+    row: &Packet,
+    message: &CpMessage,
+    relay: &RpMessage,
+) -> Result<bool, Fail> {
+    match &message.body {
+        CpBody::Transfer(octets) => Ok(
+            is_written(alloc, relay, octets.as_slice())? && user_data(relay) == user_of(row),
+        ),
+        _ => Ok(false),
+    }
+}
+
+/// Whether what is found in a packet is kept as it was read.
+fn is_kept_inside(
+    alloc: Global,
+    row: &Packet,
+    message: &CpMessage,
+    inner: &Inner,
+) -> Result<bool, Fail> {
+    match inner {
+        Inner::Relay(relay) => is_kept(alloc, row, message, relay),
+        _ => Ok(true),
+    }
+}
+
+/// Whether a message is what its row tells, and is written as it was read.
+fn is_told(alloc: Global, row: &Packet, message: &CpMessage, inner: &Inner) -> Result<bool, Fail> {
+    Ok(
+        is_kept_inside(alloc, row, message, inner)?
+            && is_said(alloc, inner, row.says)?
+            && is_written(alloc, message, row.octets)?
+            && (message.flag, message.value) == (row.flag, row.value),
+    )
+}
+
+/// Whether a packet says what its row tells, and is written as it was read.
+fn is_read(alloc: Global, row: &Packet) -> Result<bool, Fail> {
+    let (message, inner) = unwrap(alloc, row.octets)?;
+    is_told(alloc, row, &message, &inner)
+}
+
+/// What is told of octets holds.
+fn holds_of(rt: &impl Abort, octets: &[u8], told: bool) {
+    assert!(rt; told, "{octets:?}");
+}
+
+/// The octets are those that are wanted.
+fn are(rt: &impl Abort, found: &[u8], wanted: &[u8]) {
+    assert_eq!(rt; found, wanted);
+}
+
+#[test]
+fn reads_and_writes_packets(rt: HostRuntime) -> Result<(), Fail> {
+    for row in PACKETS.as_slice() {
+        holds_of(&rt, row.octets, is_read(rt.alloc(), row)?);
+    }
+    Ok(())
+}
+
+/// An acknowledgement of the connection is written so.
+fn acknowledges(
+    rt: &impl Abort,
+    alloc: Global,
+    flag: bool,
+    value: u8,
+    wanted: &[u8],
+) -> Result<(), Fail>
+    requires { value < 7 }
+{
+    let packet = wrap_acknowledgement(alloc, flag, value)?;
+    are(rt, &packet, wanted);
+    Ok(())
+}
+
+#[test]
+fn writes_acknowledgements(rt: HostRuntime) -> Result<(), Fail> {
+    acknowledges(&rt, rt.alloc(), false, 0, &[0x09, 0x04])?;
+    acknowledges(&rt, rt.alloc(), true, 6, &[0xE9, 0x04])
+}
+
+/// The refusal of octets as a packet.
+fn refusal_of_packet(alloc: Global, octets: &[u8]) -> Option<Refusal<RelayFault>> {
+    match unwrap(alloc, octets) {
+        Ok(_) => None,
+        Err(refusal) => Some(refusal),
+    }
+}
+
+/// The refusal of octets as an RP message.
+fn refusal_of_relay(alloc: Global, octets: &[u8]) -> Option<Refusal<RelayFault>> {
+    match RpMessage::read(alloc, octets) {
+        Ok(_) => None,
+        Err(refusal) => Some(refusal),
+    }
+}
+
+/// A refusal is the one of its row.
+fn is_refused(rt: &impl Abort, row: &Refused, refusal: Option<Refusal<RelayFault>>) {
+    let (place, why) = (row.place, row.why);
+    assert_eq!(rt;
+        refusal,
+        Some(Refusal::At { place, why }),
+        "{:?}",
+        row.octets
+    );
+}
+
+#[test]
+fn refuses_what_is_no_packet(rt: HostRuntime) {
+    for row in NO_PACKETS.as_slice() {
+        is_refused(&rt, row, refusal_of_packet(rt.alloc(), row.octets));
+    }
+}
+
+#[test]
+fn refuses_what_is_no_relay(rt: HostRuntime) {
+    for row in NO_RELAYS.as_slice() {
+        is_refused(&rt, row, refusal_of_relay(rt.alloc(), row.octets));
+    }
+}
+
+/// As many octets of a row are used.
+fn uses(rt: &impl Abort, row: &Again, used: usize) {
+    assert_eq!(rt; used, row.written.len(), "{:?}", row.octets);
+}
+
+/// The message of a row is written as it tells.
+fn is_again(rt: &impl Abort, alloc: Global, row: &Again) -> Result<(), Fail> {
+    let (message, used) = RpMessage::read(alloc, row.octets)?;
+    uses(rt, row, used);
+    holds_of(rt, row.octets, is_written(alloc, &message, row.written)?);
+    Ok(())
+}
+
+#[test]
+fn writes_ignored_bits_anew(rt: HostRuntime) -> Result<(), Fail> {
+    for row in AGAIN.as_slice() {
+        is_again(&rt, rt.alloc(), row)?;
+    }
+    Ok(())
+}
+
+/// Whether these user data are found in a CP message.
+fn has_user(inner: &Inner, user: &[u8]) -> bool {
+    match inner {
+        Inner::Relay(message) => user_data(message) == Some(user),
+        _ => false,
+    }
+}
+
+/// Whether a packet says this, and holds these user data.
+fn holds(alloc: Global, packet: &[u8], said: &str, user: &[u8]) -> Result<bool, Fail> {
+    let (_, inner) = unwrap(alloc, packet)?;
+    Ok(is_said(alloc, &inner, said)? && has_user(&inner, user))
+}
+
+/// A transfer that a unit is put into, and what is said of it.
+struct Transfer {
+    flag: bool,
+    value: u8,
+    side: Side,
+    reference: u8,
+    centre: Option<&'static str>,
+    says: &'static str,
+}
+
+static TRANSFERS: [Transfer; 2] = [
+    Transfer {
+        flag: false,
+        value: 6,
+        side: Side::FromPhone,
+        reference: 255,
+        centre: Some("+1000"),
+        says: "data FromPhone 255 +1000",
+    },
+    Transfer {
+        flag: true,
+        value: 0,
+        side: Side::ToPhone,
+        reference: 0,
+        centre: None,
+        says: "data ToPhone 0 none",
+    },
+];
+
+/// An answer that a unit is put into, and what is said of it.
+struct Answer {
+    side: Side,
+    reference: u8,
+    cause: Option<u8>,
+    says: &'static str,
+}
+
+static ANSWERS: [Answer; 2] = [
+    Answer {
+        side: Side::ToPhone,
+        reference: 7,
+        cause: None,
+        says: "ack ToPhone 7",
+    },
+    Answer {
+        side: Side::FromPhone,
+        reference: 8,
+        cause: Some(127),
+        says: "error FromPhone 8 127 None",
+    },
+];
+
+/// The address of the centre of a row.
+fn centre_of(alloc: Global, row: &Transfer) -> Result<Option<RpAddress>, Fail> {
+    match row.centre {
+        Some(text) => Ok(Some(RpAddress::from_text(alloc, text)?)),
+        None => Ok(None),
+    }
+}
+
+/// The packet of a transfer.
+fn transferred<U: Unit>(alloc: Global, row: &Transfer, unit: &U) -> Result<Vec<u8>, Fail> {
+    let centre = centre_of(alloc, row)?;
+    let packet = wrap_transfer(
+        alloc,
+        row.flag,
+        row.value % 7,
+        row.side,
+        row.reference,
+        centre.as_ref(),
+        unit,
+    )?;
+    Ok(packet)
+}
+
+/// The cause of an answer.
+fn cause_of(row: &Answer) -> Option<u8>
+    ensures { ForSome result (λ cause. cause < 128) }
+{
+    match row.cause {
+        Some(cause) if cause < 128 => Some(cause),
+        _ => None,
+    }
+}
+
+/// The packet of an answer.
+fn answered<U: Unit>(alloc: Global, row: &Answer, unit: &U) -> Result<Vec<u8>, Fail> {
+    let packet = wrap_answer(
+        alloc,
+        true,
+        3,
+        row.side,
+        row.reference,
+        cause_of(row),
+        Some(unit),
+    )?;
+    Ok(packet)
+}
+
+/// The unit that is read from octets.
+fn unit_of<U: Unit>(alloc: Global, octets: &[u8]) -> Result<U, Fail> {
+    match U::read(alloc, octets) {
+        Ok((unit, _)) => Ok(unit),
+        Err(_) => Err("a unit".into()),
+    }
+}
+
+/// Whether a unit comes back out of a transfer.
+fn is_transferred<U: Unit>(
+    alloc: Global,
+    row: &Transfer,
+    unit: &U,
+    octets: &[u8],
+) -> Result<bool, Fail> {
+    let packet = transferred(alloc, row, unit)?;
+    holds(alloc, &packet, row.says, octets)
+}
+
+/// Whether a unit comes back out of an answer.
+fn is_answered<U: Unit>(
+    alloc: Global,
+    row: &Answer,
+    unit: &U,
+    octets: &[u8],
+) -> Result<bool, Fail> {
+    let packet = answered(alloc, row, unit)?;
+    holds(alloc, &packet, row.says, octets)
+}
+
+/// Whether a unit comes back out of each transfer and each answer.
+fn is_carried<U: Unit>(alloc: Global, unit: &U, octets: &[u8]) -> Result<bool, Fail> {
+    let [up, down] = &TRANSFERS;
+    let [taken, failed] = &ANSWERS;
+    Ok(
+        is_transferred(alloc, up, unit, octets)?
+            && is_transferred(alloc, down, unit, octets)?
+            && is_answered(alloc, taken, unit, octets)?
+            && is_answered(alloc, failed, unit, octets)?,
+    )
+}
+
+/// Whether the unit that is read from octets comes back out of each transfer and each answer.
+fn comes_back<U: Unit>(alloc: Global, octets: &[u8]) -> Result<bool, Fail> {
+    let unit = unit_of::<U>(alloc, octets)?;
+    is_carried(alloc, &unit, octets)
+}
+
+/// What is told of a unit holds.
+fn is_back(rt: &impl Abort, unit: &str, told: bool) {
+    assert!(rt; told, "{unit}");
+}
+
+#[test]
+fn units_come_back(rt: HostRuntime) -> Result<(), Fail> {
+    let alloc = rt.alloc();
+    is_back(&rt, "header", comes_back::<Header>(alloc, HEADER)?);
+    is_back(&rt, "submit", comes_back::<Submit>(alloc, SUBMIT)?);
+    is_back(&rt, "deliver", comes_back::<Deliver>(alloc, DELIVER)?);
+    is_back(
+        &rt,
+        "submit-ack",
+        comes_back::<SubmitAck>(alloc, SUBMIT_ACK)?,
+    );
+    is_back(
+        &rt,
+        "submit-error",
+        comes_back::<SubmitError>(alloc, SUBMIT_ERROR)?,
+    );
+    is_back(
+        &rt,
+        "deliver-ack",
+        comes_back::<DeliverAck>(alloc, DELIVER_ACK)?,
+    );
+    is_back(
+        &rt,
+        "deliver-error",
+        comes_back::<DeliverError>(alloc, DELIVER_ERROR)?,
+    );
+    Ok(())
+}
+
+#[test]
+fn wraps_an_error_without_a_unit(rt: HostRuntime) -> Result<(), Fail> {
+    let refused = wrap_answer::<Header>(rt.alloc(), true, 0, Side::ToPhone, 5, Some(96), None)?;
+    are(&rt, &refused, b"\x89\x01\x04\x05\x05\x01\x60");
+    Ok(())
+}
+
+#[test]
+fn wraps_an_acknowledgement_without_a_unit(rt: HostRuntime) -> Result<(), Fail> {
+    let taken = wrap_answer::<Header>(rt.alloc(), false, 6, Side::FromPhone, 255, None, None)?;
+    are(&rt, &taken, b"\x69\x01\x02\x02\xFF");
+    Ok(())
+}
+
+/// A CP message that has user data of a number of octets, and three octets before them.
+fn long(alloc: Global, count: u8) -> Result<Vec<u8>, Fail> {
+    let mut octets = Vec::from_slice(alloc, &[0x09, 0x01, count])?;
+    octets.extend_from_slice(&[7; 255])?;
+    Ok(octets)
+}
+
+/// What wrapping a CP message answers.
+fn refusal_of(alloc: Global, unit: &CpMessage) -> Option<WrapFault> {
+    match wrap_transfer(alloc, false, 0, Side::FromPhone, 0, None, unit) {
+        Ok(_) => None,
+        Err(fault) => Some(fault),
+    }
+}
+
+/// What wrapping a CP message answers that has user data of a number of octets, and three octets before them.
+fn wrapped_long(alloc: Global, count: u8) -> Result<Option<WrapFault>, Fail> {
+    let octets = long(alloc, count)?;
+    let (unit, _) = CpMessage::read(alloc, &octets)?;
+    Ok(refusal_of(alloc, &unit))
+}
+
+/// Wrapping a CP message that has user data of a number of octets answers this.
+fn wraps(rt: &impl Abort, count: u8, found: Option<WrapFault>, wanted: Option<WrapFault>) {
+    assert_eq!(rt; found, wanted, "{count}");
+}
+
+#[test]
+fn wraps_233_octets(rt: HostRuntime) -> Result<(), Fail> {
+    wraps(&rt, 230, wrapped_long(rt.alloc(), 230)?, None);
+    let refused = wrapped_long(rt.alloc(), 231)?;
+    wraps(&rt, 231, refused, Some(WrapFault::DataTooLong));
+    Ok(())
+}
