@@ -192,6 +192,3 @@ impl Joiner {
         Ok(Offer::Kept)
     }
 }
-
-#[cfg(test)]
-mod tests;

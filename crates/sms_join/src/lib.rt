@@ -23,6 +23,3 @@ pub use reading::read_units;
 pub use segment::{Segment, SegmentView, segment_user};
 pub use segments::Segments;
 pub use units::{Ucs2Units, Units};
-
-#[cfg(test)]
-mod tests;

@@ -2,11 +2,13 @@
 
 ghost use Rattle.sms_tpdu.specs.UserData.ConcatenationFound.{IsPlace};
 
-use super::*;
-use crate::cut::cut_text;
-use crate::units::Ucs2Units;
+use crate::found::{holds, same};
+use sms_field::{Address, Stamp};
+use sms_join::{Joiner, Offer, OfferFault, Segment, Segments, Ucs2Units, Units, cut_text};
 use sms_text::gsm_of;
-use sms_tpdu::{Septets, Width};
+use sms_tpdu::{Concat, Septets, Width};
+use std::alloc::{AllocError, Global};
+use std::fmt::Debug;
 use std::process::Abort;
 use std::test::Fail;
 
@@ -85,33 +87,6 @@ fn units_of(alloc: Global, piece: PieceUnits) -> Result<Units, AllocError> {
     }
 }
 
-/// Whether the text finishes just once, where its segments are offered in this order.
-fn finishes_once(alloc: Global, text: &str, order: &[usize]) -> Result<bool, Fail> {
-    let segments = cut_text(alloc, text, Width::Eight)?;
-    let origin = Address::from_text(alloc, "+1001")?;
-    let mut joiner = Joiner::new(alloc, 1, 1)?;
-    let mut finished = Vec::new(alloc);
-    for index in order {
-        let segment = segments
-            .get(*index)
-            .ok_or("no such segment")?
-            .to_value(alloc)?;
-        let place = Concat {
-            width: Width::Eight,
-            reference: 7,
-            maximum: segment.maximum,
-            sequence: segment.sequence,
-        };
-        let units = segment.units;
-        let stamp = Stamp::new([0; 7]);
-        let answer = joiner.offer(0, &origin, stamp, checked(Some(place)), units)?;
-        if let Offer::Finished(text) = answer {
-            finished.push(text)?;
-        }
-    }
-    Ok(finished.len() == 1 && finished.iter().all(|found| found.as_str() == text))
-}
-
 /// A piece that is offered to a joiner, and what is wanted of it.
 #[derive(Clone, Copy)]
 struct Row {
@@ -150,6 +125,26 @@ fn is_wanted(answer: &Result<Offer, OfferFault>, want: Want) -> bool {
     }
 }
 
+/// The joiner says before whether the piece would finish its set.
+fn says(rt: &impl Abort, joiner: &Joiner, origin: &Address, row: &Row) {
+    let finishes = joiner.would_finish(origin, Stamp::new([0; 7]), checked(row.place));
+    let wanted = matches!(&row.want, Want::Finished(_));
+    same(rt, &(row.shows, row.place), &finishes, &wanted);
+}
+
+/// The joiner answers as wanted.
+fn answers(
+    rt: &impl Abort,
+    joiner: &mut Joiner,
+    now: u64,
+    origin: &Address,
+    row: &Row,
+    units: Units,
+) {
+    let answer = joiner.offer(now, origin, Stamp::new([0; 7]), checked(row.place), units);
+    holds(rt, &(row.shows, row.place), is_wanted(&answer, row.want));
+}
+
 /// The joiner answers as wanted, and says before whether the piece would finish its set.
 fn offers(
     rt: &impl Abort,
@@ -159,38 +154,53 @@ fn offers(
     row: &Row,
 ) -> Result<(), Fail> {
     let origin = Address::from_text(alloc, row.from)?;
-    let stamp = Stamp::new([0; 7]);
-    let place = checked(row.place);
-    let finishes = joiner.would_finish(&origin, stamp, place);
-    let wanted = matches!(&row.want, Want::Finished(_));
-    assert_eq!(rt; finishes, wanted, "{} {:?}", row.shows, row.place);
+    says(rt, joiner, &origin, row);
     let units = units_of(alloc, row.piece)?;
-    let answer = joiner.offer(now, &origin, stamp, place, units);
-    assert!(rt;
-        is_wanted(&answer, row.want),
-        "{} {:?}",
-        row.shows,
-        row.place
-    );
+    answers(rt, joiner, now, &origin, row, units);
     Ok(())
+}
+
+/// Offers all rows at a time.
+fn offers_all(
+    rt: &impl Abort,
+    alloc: Global,
+    joiner: &mut Joiner,
+    now: u64,
+    rows: &[Row],
+) -> Result<(), Fail> {
+    for row in rows {
+        offers(rt, alloc, joiner, now, row)?;
+    }
+    Ok(())
+}
+
+/// Whether an offer is answered as wanted; none where it wants memory.
+fn answered(
+    alloc: Global,
+    joiner: &mut Joiner,
+    origin: &Address,
+    row: &Row,
+) -> Result<Option<bool>, AllocError> {
+    let units = units_of(alloc, row.piece)?;
+    let answer = joiner.offer(0, origin, Stamp::new([0; 7]), checked(row.place), units);
+    if matches!(&answer, Err(OfferFault::Memory)) {
+        return Ok(None);
+    }
+    Ok(Some(is_wanted(&answer, row.want)))
 }
 
 /// Whether an offer is answered as wanted, and where it wants memory, one more. The joiner says of the piece before and
 /// between what it said.
 fn is_answered(alloc: Global, joiner: &mut Joiner, row: &Row) -> Result<bool, AllocError> {
     let origin = Address::from_text(alloc, row.from).map_err(|_| AllocError)?;
-    let stamp = Stamp::new([0; 7]);
-    let place = checked(row.place);
-    let units = units_of(alloc, row.piece)?;
-    let again = units_of(alloc, row.piece)?;
+    let (stamp, place) = (Stamp::new([0; 7]), checked(row.place));
     let finishes = joiner.would_finish(&origin, stamp, place);
-    let answer = joiner.offer(0, &origin, stamp, place, units);
-    if !matches!(&answer, Err(OfferFault::Memory)) {
-        return Ok(is_wanted(&answer, row.want));
+    if let Some(wanted) = answered(alloc, joiner, &origin, row)? {
+        return Ok(wanted);
     }
     let same = joiner.would_finish(&origin, stamp, place) == finishes;
-    let answer = joiner.offer(0, &origin, stamp, place, again);
-    Ok(same && is_wanted(&answer, row.want))
+    let again = answered(alloc, joiner, &origin, row)?;
+    Ok(same && again == Some(true))
 }
 
 /// Offers the rows to a new joiner, with two open sets at most, and says which one is answered otherwise than wanted, if
@@ -221,10 +231,7 @@ fn answers_in_turn(rt: HostRuntime) -> Result<(), Fail> {
         Row::letters("forgotten", None, "u", Want::Finished("u")),
     ];
     let mut joiner = Joiner::new(alloc, 1, 1)?;
-    for row in rows.as_slice() {
-        offers(&rt, alloc, &mut joiner, 0, row)?;
-    }
-    Ok(())
+    offers_all(&rt, alloc, &mut joiner, 0, rows.as_slice())
 }
 
 /// Sets of two origins under one reference, and of both widths under one number.
@@ -272,71 +279,172 @@ fn keeps_sets_apart(rt: HostRuntime) -> Result<(), Fail> {
         },
     ];
     let mut joiner = Joiner::new(alloc, 4, 2)?;
-    for row in rows.as_slice() {
-        offers(&rt, alloc, &mut joiner, 0, row)?;
+    offers_all(&rt, alloc, &mut joiner, 0, rows.as_slice())
+}
+
+/// Offers a letter with this sequence in each of six sets.
+fn offers_six(
+    rt: &impl Abort,
+    alloc: Global,
+    joiner: &mut Joiner,
+    sequence: u8,
+    row: Row,
+) -> Result<(), Fail> {
+    for reference in 0..6 {
+        let place = of_two(Width::Eight, reference, sequence);
+        offers(rt, alloc, joiner, 0, &Row { place, ..row })?;
     }
     Ok(())
+}
+
+/// Opens six sets, offers a seventh, and offers the last of each of the six.
+fn holds_six(rt: &impl Abort, alloc: Global, joiner: &mut Joiner) -> Result<(), Fail> {
+    let opens = Row::letters("opens", None, "a", Want::Kept);
+    offers_six(rt, alloc, joiner, 1, opens)?;
+    let seventh = of_two(Width::Eight, 6, 1);
+    let seventh = Row::letters("a seventh", seventh, "a", Want::TooManyOpen);
+    offers(rt, alloc, joiner, 0, &seventh)?;
+    let last = Row::letters("the last", None, "b", Want::Finished("ab"));
+    offers_six(rt, alloc, joiner, 2, last)
 }
 
 /// Six sets are open at a time, and a seventh is one too many.
 #[test]
 fn holds_six_open_sets(rt: HostRuntime) -> Result<(), Fail> {
-    let (alloc, eight) = (rt.alloc(), Width::Eight);
-    let mut joiner = Joiner::new(alloc, 6, 1)?;
-    for reference in 0..6 {
-        let row = Row::letters("opens", of_two(eight, reference, 1), "a", Want::Kept);
-        offers(&rt, alloc, &mut joiner, 0, &row)?;
-    }
-    let row = Row::letters("a seventh", of_two(eight, 6, 1), "a", Want::TooManyOpen);
-    offers(&rt, alloc, &mut joiner, 0, &row)?;
-    for reference in 0..6 {
-        let place = of_two(eight, reference, 2);
-        let row = Row::letters("the last", place, "b", Want::Finished("ab"));
-        offers(&rt, alloc, &mut joiner, 0, &row)?;
-    }
-    Ok(())
+    let mut joiner = Joiner::new(rt.alloc(), 6, 1)?;
+    holds_six(&rt, rt.alloc(), &mut joiner)
+}
+
+/// A set is opened, is there a second before its time, and then makes room.
+fn ages(rt: &impl Abort, alloc: Global, joiner: &mut Joiner) -> Result<(), Fail> {
+    let eight = Width::Eight;
+    let (first, second) = (of_two(eight, 7, 1), of_two(eight, 7, 2));
+    let opens = [Row::letters("opens", first, "a", Want::Kept)];
+    let again = [Row::letters("is there yet", first, "a", Want::Repeat)];
+    let room = [
+        Row::letters("has room", of_two(eight, 8, 1), "c", Want::Kept),
+        Row::letters("was dropped", second, "b", Want::TooManyOpen),
+    ];
+    offers_all(rt, alloc, joiner, 5, opens.as_slice())?;
+    joiner.age(604_804);
+    offers_all(rt, alloc, joiner, 604_804, again.as_slice())?;
+    joiner.age(604_805);
+    offers_all(rt, alloc, joiner, 604_805, room.as_slice())
 }
 
 /// A set is dropped seven days after its first piece, whenever others came, and makes room.
 #[test]
 fn open_sets_age(rt: HostRuntime) -> Result<(), Fail> {
-    let (alloc, eight) = (rt.alloc(), Width::Eight);
-    let (first, second) = (of_two(eight, 7, 1), of_two(eight, 7, 2));
+    let mut joiner = Joiner::new(rt.alloc(), 1, 1)?;
+    ages(&rt, rt.alloc(), &mut joiner)
+}
+
+/// The segment of an index.
+fn segment_at(alloc: Global, segments: &Segments, index: usize) -> Result<Segment, Fail> {
+    match segments.get(index) {
+        Some(segment) => Ok(segment.to_value(alloc)?),
+        None => Err("no such segment".into()),
+    }
+}
+
+/// Whether the set finishes as the text, where this segment is offered; none where it does not finish.
+fn finishes(
+    joiner: &mut Joiner,
+    origin: &Address,
+    segment: Segment,
+    text: &str,
+) -> Result<Option<bool>, Fail> {
+    let place = Concat {
+        width: Width::Eight,
+        reference: 7,
+        maximum: segment.maximum,
+        sequence: segment.sequence,
+    };
+    let stamp = Stamp::new([0; 7]);
+    match joiner.offer(0, origin, stamp, checked(Some(place)), segment.units)? {
+        Offer::Finished(found) => Ok(Some(found.as_str() == text)),
+        _ => Ok(None),
+    }
+}
+
+/// How often the set finishes, and how often as the text, where the segments are offered in this order.
+fn times_finished(
+    alloc: Global,
+    segments: &Segments,
+    text: &str,
+    order: &[usize],
+) -> Result<(usize, usize), Fail> {
+    let origin = Address::from_text(alloc, "+1001")?;
     let mut joiner = Joiner::new(alloc, 1, 1)?;
-    let opens = Row::letters("opens", first, "a", Want::Kept);
-    offers(&rt, alloc, &mut joiner, 5, &opens)?;
-    joiner.age(604_804);
-    let again = Row::letters("is there yet", first, "a", Want::Repeat);
-    offers(&rt, alloc, &mut joiner, 604_804, &again)?;
-    joiner.age(604_805);
-    let room = Row::letters("has room", of_two(eight, 8, 1), "c", Want::Kept);
-    offers(&rt, alloc, &mut joiner, 604_805, &room)?;
-    let dropped = Row::letters("was dropped", second, "b", Want::TooManyOpen);
-    offers(&rt, alloc, &mut joiner, 604_805, &dropped)?;
+    let mut times = 0_usize;
+    let mut right = 0_usize;
+    for index in order {
+        let segment = segment_at(alloc, segments, *index)?;
+        if let Some(same) = finishes(&mut joiner, &origin, segment, text)? {
+            times = times.saturating_add(1);
+            right = right.saturating_add(usize::from(same));
+        }
+    }
+    Ok((times, right))
+}
+
+/// The text finishes just once, where its segments are offered in this order.
+fn finishes_once(
+    rt: &impl Abort,
+    alloc: Global,
+    row: &impl Debug,
+    segments: &Segments,
+    text: &str,
+    order: &[usize],
+) -> Result<(), Fail> {
+    let times = times_finished(alloc, segments, text, order)?;
+    same(rt, row, &times, &(1, 1));
     Ok(())
 }
 
-/// Three segments in each order, and as many as there can be, the last first and mixed.
+/// Three segments in each order.
 #[test]
 fn joins_in_any_order(rt: HostRuntime) -> Result<(), Fail> {
-    let alloc = rt.alloc();
-    let text = letters(alloc, 307)?;
+    let text = letters(rt.alloc(), 307)?;
+    let segments = cut_text(rt.alloc(), &text, Width::Eight)?;
     for order in ORDERS.as_slice() {
-        let joined = finishes_once(alloc, &text, order)?;
-        assert!(rt; joined, "{order:?}");
+        finishes_once(&rt, rt.alloc(), order, &segments, &text, order.as_slice())?;
     }
-    let longest = letters(alloc, 39_015)?;
-    let mut reverse = Vec::new(alloc);
-    let mut shuffled = Vec::new(alloc);
-    for place in 0..255 {
-        reverse.push(254 - place)?;
-        shuffled.push((101 * place + 7) % 255)?;
-    }
-    let backwards = finishes_once(alloc, &longest, &reverse)?;
-    let mixed = finishes_once(alloc, &longest, &shuffled)?;
-    assert!(rt; backwards, "the last first");
-    assert!(rt; mixed, "mixed");
     Ok(())
+}
+
+/// The places of 255 segments, the last first.
+fn reverse(alloc: Global) -> Result<Vec<usize>, AllocError> {
+    let mut order = Vec::new(alloc);
+    for place in 0..255 {
+        order.push(254 - place)?;
+    }
+    Ok(order)
+}
+
+/// The places of 255 segments, mixed.
+fn shuffled(alloc: Global) -> Result<Vec<usize>, AllocError> {
+    let mut order = Vec::new(alloc);
+    for place in 0..255 {
+        order.push((101 * place + 7) % 255)?;
+    }
+    Ok(order)
+}
+
+/// The longest text, of as many segments as there can be, in an order.
+fn joins_longest(rt: &impl Abort, alloc: Global, row: &str, order: &[usize]) -> Result<(), Fail> {
+    let text = letters(alloc, 39_015)?;
+    let segments = cut_text(alloc, &text, Width::Eight)?;
+    finishes_once(rt, alloc, &row, &segments, &text, order)
+}
+
+/// As many segments as there can be, the last first and mixed.
+#[test]
+fn joins_as_many_as_there_can_be(rt: HostRuntime) -> Result<(), Fail> {
+    let order = reverse(rt.alloc())?;
+    joins_longest(&rt, rt.alloc(), "the last first", &order)?;
+    let order = shuffled(rt.alloc())?;
+    joins_longest(&rt, rt.alloc(), "mixed", &order)
 }
 
 /// One growth is refused, whichever it is (docs/CONTRIBUTING.md says how): an offer that wants memory has changed

@@ -1,0 +1,13 @@
+//! Texts cut into segments and joined again, against the public calls of `sms_join`.
+#![tactic(auto)]
+
+#[cfg(test)]
+mod cut;
+#[cfg(test)]
+mod found;
+#[cfg(test)]
+mod joiner;
+#[cfg(test)]
+mod reading;
+#[cfg(test)]
+mod segment;

@@ -1,0 +1,190 @@
+//! The user data of segments.
+
+ghost use Rattle.std.specs.Prelude.{◌≡◌, ◌<◌};
+ghost use Rattle.sms_tpdu.specs.declared.user_data.concat.Width.TheVariants.{Eight};
+ghost use Rattle.sms_join.specs.SegmentUser.{IsSendable};
+
+use crate::cut::{CUTS, repeated};
+use crate::found::{are, holds};
+use sms_join::{SegmentView, cut_text, segment_user, split};
+use sms_tpdu::{Body, UserData, Width};
+use std::alloc::{AllocError, Global};
+use std::process::Abort;
+use std::test::Fail;
+
+/// A letter a number of times and another text, and the header and the body of its last segment under reference 7.
+struct LastSegment {
+    letter: &'static str,
+    times: usize,
+    then: &'static str,
+    width: Width,
+    octets: &'static [u8],
+}
+
+static LAST_SEGMENTS: [LastSegment; 6] = [
+    LastSegment {
+        letter: "a",
+        times: 1,
+        then: "€",
+        width: Width::Eight,
+        octets: &[97, 27, 101],
+    },
+    LastSegment {
+        letter: "a",
+        times: 159,
+        then: "€",
+        width: Width::Eight,
+        octets: &[0, 3, 7, 2, 2, 97, 97, 97, 97, 97, 97, 27, 101],
+    },
+    LastSegment {
+        letter: "a",
+        times: 159,
+        then: "€",
+        width: Width::Sixteen,
+        octets: &[8, 4, 0, 7, 2, 2, 97, 97, 97, 97, 97, 97, 97, 27, 101],
+    },
+    LastSegment {
+        letter: "ж",
+        times: 1,
+        then: "a",
+        width: Width::Eight,
+        octets: &[4, 0x36, 0, 97],
+    },
+    LastSegment {
+        letter: "ж",
+        times: 66,
+        then: "😀aaa",
+        width: Width::Eight,
+        octets: &[0, 3, 7, 2, 2, 0xD8, 0x3D, 0xDE, 0, 0, 97, 0, 97, 0, 97],
+    },
+    LastSegment {
+        letter: "ж",
+        times: 66,
+        then: "😀aaa",
+        width: Width::Sixteen,
+        octets: &[8, 4, 0, 7, 2, 2, 0xD8, 0x3D, 0xDE, 0, 0, 97, 0, 97, 0, 97],
+    },
+];
+
+/// The octets of a body.
+fn octets_in(body: &Body) -> &[u8] {
+    match body {
+        Body::Septets(septets) => septets.as_slice(),
+        Body::Octets(octets) => octets.as_slice(),
+    }
+}
+
+/// The header and the body.
+fn octets_of(alloc: Global, user: &UserData) -> Result<Vec<u8>, AllocError> {
+    let mut octets = Vec::new(alloc);
+    if let Some(header) = &user.header {
+        octets.extend_from_slice(header.as_slice())?;
+    }
+    octets.extend_from_slice(octets_in(&user.body))?;
+    Ok(octets)
+}
+
+/// The user data of the text's last segment under reference 7.
+fn last_user(alloc: Global, text: &str, width: Width) -> Result<UserData, Fail> {
+    let segments = split(alloc, text, width)?;
+    match segments.last() {
+        Some(last) => Ok(segment_user(alloc, last, width, 7)?),
+        None => Err("no segment".into()),
+    }
+}
+
+/// The header and the body of the text's last segment under reference 7.
+fn last_octets(alloc: Global, text: &str, width: Width) -> Result<Vec<u8>, Fail> {
+    let user = last_user(alloc, text, width)?;
+    Ok(octets_of(alloc, &user)?)
+}
+
+/// The last segment of a text is that of a row.
+fn gives(rt: &impl Abort, alloc: Global, text: &str, row: &LastSegment) -> Result<(), Fail> {
+    let found = last_octets(alloc, text, row.width)?;
+    are(rt, &text, &found, row.octets);
+    Ok(())
+}
+
+#[test]
+fn gives_user_data(rt: HostRuntime) -> Result<(), Fail> {
+    for row in LAST_SEGMENTS.as_slice() {
+        let text = repeated(rt.alloc(), row.letter, row.times, row.then)?;
+        gives(&rt, rt.alloc(), &text, row)?;
+    }
+    Ok(())
+}
+
+/// What is written of the user data of a segment.
+fn written_of_user(
+    alloc: Global,
+    segment: &SegmentView<'_>,
+    width: Width,
+    reference: u16,
+) -> Result<Vec<u8>, AllocError>
+    requires sendable { IsSendable width segment.now }
+    requires reference { width ≡ Eight → reference < 256 }
+{
+    let user = segment.user(alloc, width, reference)?;
+    user.write(alloc)
+}
+
+/// What a copy of a segment writes.
+fn written_of_copy(
+    alloc: Global,
+    segment: &SegmentView<'_>,
+    width: Width,
+    reference: u16,
+) -> Result<Vec<u8>, AllocError>
+    requires sendable { IsSendable width segment.now }
+    requires reference { width ≡ Eight → reference < 256 }
+{
+    let owned = segment.to_value(alloc)?;
+    owned.view().write_user(alloc, width, reference)
+}
+
+/// Whether a segment is written as its user data are.
+fn is_written(
+    alloc: Global,
+    segment: &SegmentView<'_>,
+    width: Width,
+    reference: u16,
+) -> Result<bool, AllocError>
+    requires sendable { IsSendable width segment.now }
+    requires reference { width ≡ Eight → reference < 256 }
+{
+    let octets = segment.write_user(alloc, width, reference)?;
+    let user = written_of_user(alloc, segment, width, reference)?;
+    let again = written_of_copy(alloc, segment, width, reference)?;
+    Ok(octets == user && octets == again)
+}
+
+/// Whether all segments of a text are written as their user data are.
+fn are_written(alloc: Global, text: &str, width: Width) -> Result<bool, Fail> {
+    let segments = cut_text(alloc, text, width)?;
+    for place in 0..segments.len() {
+        let segment = segments.get(place).ok_or("no segment")?;
+        if !is_written(alloc, &segment, width, 200)? {
+            return Ok(false);
+        }
+    }
+    Ok(true)
+}
+
+/// The segments of a text are written as their user data are.
+fn writes(rt: &impl Abort, alloc: Global, text: &str) -> Result<(), Fail> {
+    let eight = are_written(alloc, text, Width::Eight)?;
+    let sixteen = are_written(alloc, text, Width::Sixteen)?;
+    holds(rt, &("eight bits", text), eight);
+    holds(rt, &("sixteen bits", text), sixteen);
+    Ok(())
+}
+
+#[test]
+fn writes_user_data(rt: HostRuntime) -> Result<(), Fail> {
+    for row in CUTS.as_slice() {
+        let text = repeated(rt.alloc(), row.letter, row.times, row.then)?;
+        writes(&rt, rt.alloc(), &text)?;
+    }
+    Ok(())
+}
