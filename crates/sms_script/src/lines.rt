@@ -96,6 +96,3 @@ pub fn read_line<S: Source>(source: &mut S, line: &mut Vec<u8>) -> Result<LineEn
         }
     }
 }
-
-#[cfg(test)]
-mod tests;

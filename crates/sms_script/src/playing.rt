@@ -49,6 +49,3 @@ pub fn play<N: Network, S: Source, K: Sink>(
     let network = started(alloc, &script, network)?;
     put_phones(alloc, &script, &network, sink)
 }
-
-#[cfg(test)]
-mod tests;

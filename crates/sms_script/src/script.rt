@@ -144,6 +144,3 @@ impl Script {
         }
     }
 }
-
-#[cfg(test)]
-mod tests;

@@ -104,6 +104,3 @@ pub fn entry_line(alloc: Global, entry: Entry<'_>) -> Result<Vec<u8>, AllocError
     line.push(b'\n')?;
     Ok(line)
 }
-
-#[cfg(test)]
-mod tests;

@@ -1,7 +1,9 @@
 //! What lines say after others, and the first reason for which they say nothing.
 
-use super::*;
-use crate::fault::ScriptFault;
+use sms_field::Address;
+use sms_script::{Event, Limits, PlayFault, Script, ScriptFault};
+use std::alloc::{AllocError, Global};
+use std::process::Abort;
 use std::test::Fail;
 
 /// A line that is at fault. Where two reasons apply, the one that counts.
@@ -206,59 +208,75 @@ fn script_of(alloc: Global, lines: &[&[u8]]) -> Result<Script, PlayFault> {
 
 /// Why a line says nothing after others.
 fn fault_of(alloc: Global, before: &[&[u8]], line: &[u8]) -> Option<PlayFault> {
-    let mut script = match script_of(alloc, before) {
-        Ok(script) => script,
-        Err(fault) => return Some(fault),
-    };
-    take(alloc, &mut script, line).err()
+    match script_of(alloc, before) {
+        Ok(mut script) => take(alloc, &mut script, line).err(),
+        Err(fault) => Some(fault),
+    }
+}
+
+/// The line of a row, at this place, is at fault as the row says.
+fn is_at_fault(rt: &impl Abort, row: usize, found: Option<PlayFault>, line: u64, why: ScriptFault) {
+    let good = found == Some(PlayFault::Script { line, why });
+    assert!(rt; good, "row {row}");
 }
 
 #[test]
-fn first_reasons_count(rt: HostRuntime) -> Result<(), Fail> {
+fn first_reasons_count(rt: HostRuntime) {
     let phones: [&[u8]; 2] = [b"phone a +1001", b"phone b +1002"];
-    for row in FAULTS {
-        let fault = PlayFault::Script {
-            line: 3,
-            why: row.why,
-        };
-        assert_eq!(rt;
-            fault_of(rt.alloc(), &phones, row.line),
-            Some(fault),
-            "{:?}",
-            row.line
-        );
+    for (number, row) in FAULTS.iter().enumerate() {
+        let found = fault_of(rt.alloc(), &phones, row.line);
+        is_at_fault(&rt, number, found, 3, row.why);
     }
-    for row in FAULTS_AFTER_AN_EVENT {
-        let fault = PlayFault::Script {
-            line: 2,
-            why: row.why,
-        };
-        assert_eq!(rt;
-            fault_of(rt.alloc(), &[b"carry 1"], row.line),
-            Some(fault),
-            "{:?}",
-            row.line
-        );
+}
+
+#[test]
+fn first_reasons_count_after_an_event(rt: HostRuntime) {
+    for (number, row) in FAULTS_AFTER_AN_EVENT.iter().enumerate() {
+        let found = fault_of(rt.alloc(), &[b"carry 1"], row.line);
+        is_at_fault(&rt, number, found, 2, row.why);
     }
+}
+
+/// The line of a phone.
+fn phone_line(alloc: Global, n: u32) -> Result<String, AllocError> {
+    format!(in alloc; "phone p{n} {n}")
+}
+
+/// Takes the line of a phone.
+fn take_phone(alloc: Global, script: &mut Script, n: u32) -> Result<(), PlayFault> {
+    let line = phone_line(alloc, n)?;
+    take(alloc, script, line.as_bytes())?;
     Ok(())
 }
 
+/// A script of as many phones.
+fn script_of_phones(alloc: Global, count: u32) -> Result<Script, PlayFault> {
+    let mut script = Script::new(alloc);
+    for n in 0..count {
+        take_phone(alloc, &mut script, n)?;
+    }
+    Ok(script)
+}
+
+/// After a hundred phones.
+static FAULTS_AFTER_A_HUNDRED_PHONES: [Faulty; 2] = [
+    Faulty {
+        line: b"phone p100 100",
+        why: ScriptFault::TooManyPhones,
+    },
+    Faulty {
+        line: b"phone p7 100",
+        why: ScriptFault::NameTaken,
+    },
+];
+
 #[test]
 fn hundred_phones_and_one(rt: HostRuntime) -> Result<(), Fail> {
-    let alloc = rt.alloc();
-    let mut script = Script::new(alloc);
-    for n in 0..100u32 {
-        let line = format!(in alloc; "phone p{n} {n}")?;
-        let taken = take(alloc, &mut script, line.as_bytes());
-        assert!(rt; taken.is_ok(), "phone {n}");
+    let mut script = script_of_phones(rt.alloc(), 100)?;
+    for (number, row) in FAULTS_AFTER_A_HUNDRED_PHONES.iter().enumerate() {
+        let found = take(rt.alloc(), &mut script, row.line).err();
+        is_at_fault(&rt, number, found, 101, row.why);
     }
-    let fault = |why: ScriptFault| -> Option<PlayFault> {
-        Some(PlayFault::Script { line: 101, why })
-    };
-    let one_more = take(alloc, &mut script, b"phone p100 100").err();
-    assert_eq!(rt; one_more, fault(ScriptFault::TooManyPhones));
-    let taken = take(alloc, &mut script, b"phone p7 100").err();
-    assert_eq!(rt; taken, fault(ScriptFault::NameTaken));
     Ok(())
 }
 
@@ -329,6 +347,23 @@ static EVENTS: [Written; 14] = [
     },
 ];
 
+/// What is typed, in words.
+fn typed(alloc: Global, phone: usize, target: &Address, text: &str) -> Result<String, AllocError> {
+    let target = target.to_text(alloc)?;
+    format!(in alloc; "type {phone} [{target}] [{text}]")
+}
+
+/// What is injected, in words.
+fn injected(alloc: Global, up: bool, phone: usize, octets: &[u8]) -> Result<String, AllocError> {
+    let octets = hex::encode_upper(alloc, octets)?;
+    format!(in alloc; "inject {up} {phone} [{octets}]")
+}
+
+/// An event of one number, in words.
+fn numbered(alloc: Global, name: &str, number: u64) -> Result<String, AllocError> {
+    format!(in alloc; "{name} {number}")
+}
+
 /// An event in words.
 fn shown(alloc: Global, event: &Event) -> Result<String, AllocError> {
     match event {
@@ -336,80 +371,85 @@ fn shown(alloc: Global, event: &Event) -> Result<String, AllocError> {
             phone,
             target,
             text,
-        } => {
-            let target = target.to_text(alloc)?;
-            let text = text.as_str();
-            format!(in alloc; "type {phone} [{target}] [{text}]")
-        }
-        Event::Carry(number) => format!(in alloc; "carry {number}"),
-        Event::Timeout(phone) => format!(in alloc; "timeout {phone}"),
-        Event::Push(phone) => format!(in alloc; "push {phone}"),
-        Event::Tick(seconds) => format!(in alloc; "tick {seconds}"),
-        Event::Inject { up, phone, octets } => {
-            let octets = hex::encode_upper(alloc, octets.as_slice())?;
-            format!(in alloc; "inject {up} {phone} [{octets}]")
-        }
+        } => typed(alloc, *phone, target, text.as_str()),
+        Event::Carry(number) => numbered(alloc, "carry", *number),
+        Event::Timeout(phone) => numbered(alloc, "timeout", *phone as u64),
+        Event::Push(phone) => numbered(alloc, "push", *phone as u64),
+        Event::Tick(seconds) => numbered(alloc, "tick", *seconds),
+        Event::Inject { up, phone, octets } => injected(alloc, *up, *phone, octets.as_slice()),
     }
 }
 
-/// The event that a line is after the phones `a` and `b`, in words.
-fn event_in_words(alloc: Global, line: &[u8]) -> Result<String, AllocError> {
-    let phones: [&[u8]; 2] = [b"phone a +1001", b"phone b +1002"];
-    let mut script = match script_of(alloc, &phones) {
-        Ok(script) => script,
-        Err(fault) => return format!(in alloc; "{fault}"),
-    };
-    let answer = take(alloc, &mut script, line);
+/// What a line was taken for, in words.
+fn answer_shown(
+    alloc: Global,
+    answer: &Result<Option<Event>, PlayFault>,
+) -> Result<String, AllocError> {
     match answer {
-        Ok(Some(event)) => shown(alloc, &event),
+        Ok(Some(event)) => shown(alloc, event),
         Ok(None) => "none".to_string(alloc),
-        Err(fault) => format!(in alloc; "{fault}"),
+        Err(fault) => fault.to_string(alloc),
     }
+}
+
+/// What a line is taken for after the phones `a` and `b`.
+fn answer_to(alloc: Global, line: &[u8]) -> Result<Option<Event>, PlayFault> {
+    let phones: [&[u8]; 2] = [b"phone a +1001", b"phone b +1002"];
+    let mut script = script_of(alloc, &phones)?;
+    take(alloc, &mut script, line)
+}
+
+/// A text is what a row wants.
+fn is_text(rt: &impl Abort, row: usize, found: &str, wanted: &str) {
+    assert_eq!(rt; found, wanted, "row {row}");
 }
 
 #[test]
 fn events_as_written(rt: HostRuntime) -> Result<(), Fail> {
-    for row in EVENTS {
-        let event = event_in_words(rt.alloc(), row.line)?;
-        assert_eq!(rt; event.as_str(), row.event, "{:?}", row.line);
+    for (number, row) in EVENTS.iter().enumerate() {
+        let answer = answer_to(rt.alloc(), row.line);
+        let event = answer_shown(rt.alloc(), &answer)?;
+        is_text(&rt, number, &event, row.event);
     }
     Ok(())
 }
 
+static SETTINGS: [&[u8]; 12] = [
+    b"held 9",
+    b"held 1000",
+    b"open 1",
+    b"remembered 2",
+    b"store 3",
+    b"clock 3155759999",
+    b"brief",
+    b"wide",
+    b"reject",
+    b"phone a +1001",
+    b"phone b 1001",
+    b"",
+];
+
+/// Whether the settings have said what they say.
+fn is_set(script: &Script) -> bool {
+    let limits = Limits {
+        held: 1000,
+        open_max: 1,
+        remembered: 2,
+        store: 3,
+        wide: true,
+        reject: true,
+    };
+    script.limits() == limits
+        && script.clock() == Some(3_155_759_999)
+        && script.is_brief()
+        && script.lines() == 12
+        && script.addresses().len() == 2
+        && script.name(1) == "b"
+}
+
 #[test]
 fn settings_as_written(rt: HostRuntime) -> Result<(), Fail> {
-    let lines: [&[u8]; 12] = [
-        b"held 9",
-        b"held 1000",
-        b"open 1",
-        b"remembered 2",
-        b"store 3",
-        b"clock 3155759999",
-        b"brief",
-        b"wide",
-        b"reject",
-        b"phone a +1001",
-        b"phone b 1001",
-        b"",
-    ];
-    match script_of(rt.alloc(), &lines) {
-        Ok(script) => {
-            let limits = Limits {
-                held: 1000,
-                open_max: 1,
-                remembered: 2,
-                store: 3,
-                wide: true,
-                reject: true,
-            };
-            assert_eq!(rt; script.limits(), limits);
-            assert_eq!(rt; script.clock(), Some(3_155_759_999));
-            assert!(rt; script.is_brief());
-            assert_eq!(rt; script.lines(), 12);
-            assert_eq!(rt; script.addresses().len(), 2);
-            assert_eq!(rt; script.name(1), "b");
-        }
-        Err(fault) => assert!(rt; false, "{fault:?}"),
-    }
+    let script = script_of(rt.alloc(), &SETTINGS)?;
+    assert!(rt; is_set(&script));
     Ok(())
 }

@@ -3,15 +3,13 @@
 ghost use Rattle.std.specs.Prelude.{◌≡◌, codes, length, replicate, []};
 ghost use Rattle.sms_script.specs.Play.Runs.{nothing_ended};
 
-use super::*;
-use crate::devices::Watched;
-use crate::fault::ScriptFault;
-use crate::meaning::Event;
-use crate::script::Limits;
-use crate::transcript::{Entry, Packet};
 use sms_field::Address;
-use std::alloc::AllocError;
+use sms_script::{
+    Entry, Event, Limits, Network, Packet, PlayFault, ScriptFault, Sink, Source, Watched, play,
+};
+use std::alloc::{AllocError, Global};
 use std::io::{ErrorKind, Read, Write};
+use std::process::Abort;
 use std::test::Fail;
 
 /// A network in which every event is noted, and nothing comes of it.
@@ -181,81 +179,128 @@ static PLAYED: [Playing; 7] = [
     },
 ];
 
-/// How playing what a reader gives ends, and what is written.
-fn played<R: Read + Drop>(alloc: Global, reader: R) -> (Result<(), PlayFault>, Vec<u8>, bool) {
+/// How a script was played: how that ended, what was written, and whether the device failed that
+/// the test watches.
+#[derive(Drop)]
+struct Outcome {
+    result: Result<(), PlayFault>,
+    written: Vec<u8>,
+    failed: bool,
+}
+
+/// What is wanted of an outcome.
+#[derive(Clone, Copy)]
+struct Wanted<'a> {
+    result: Result<(), PlayFault>,
+    written: &'a [u8],
+    failed: bool,
+}
+
+/// What came out is what is wanted, at the row of this number.
+fn is(rt: &impl Abort, row: usize, found: &Outcome, wanted: Wanted<'_>) {
+    let ended = found.result == wanted.result && found.failed == wanted.failed;
+    let good = ended && found.written.as_slice() == wanted.written;
+    assert!(rt; good, "row {row}");
+}
+
+/// Plays what a reader gives, and tells whether the reader failed.
+fn played<R: Read + Drop>(alloc: Global, reader: R) -> Outcome {
     let mut source = Watched::new(reader);
     let mut sink = Watched::new(Vec::new(alloc));
     let result = play::<Silent, Watched<R>, Watched<Vec<u8>>>(alloc, &mut source, &mut sink);
-    (result, sink.into_inner(), source.failed())
-}
-
-/// Whether playing the script of a row ends as wanted, and writes just what is wanted.
-fn is_as_wanted(alloc: Global, row: &Playing) -> bool {
-    let (result, written, failed) = played(alloc, row.script);
-    result == row.result && written.as_slice() == row.written.as_bytes() && !failed
+    Outcome {
+        result,
+        written: sink.into_inner(),
+        failed: source.failed(),
+    }
 }
 
 #[test]
-fn scripts_played(rt: HostRuntime) -> Result<(), Fail> {
+fn scripts_played(rt: HostRuntime) {
     for (number, row) in PLAYED.iter().enumerate() {
-        let is_good = is_as_wanted(rt.alloc(), row);
-        assert!(rt; is_good, "row {number}");
+        let wanted = Wanted {
+            result: row.result,
+            written: row.written.as_bytes(),
+            failed: false,
+        };
+        is(&rt, number, &played(rt.alloc(), row.script), wanted);
     }
-    Ok(())
+}
+
+/// How playing what a reader gives ends.
+fn result_of<R: Read + Drop>(alloc: Global, reader: R) -> Result<(), PlayFault> {
+    played(alloc, reader).result
+}
+
+/// Playing has ended at this line for this reason.
+fn ends_at(rt: &impl Abort, found: Result<(), PlayFault>, line: u64, why: ScriptFault) {
+    assert_eq!(rt; found, Err(PlayFault::Script { line, why }), "{why}");
+}
+
+/// As many empty lines, and what follows them.
+fn empty_lines(alloc: Global, count: usize, ending: &[u8]) -> Result<Vec<u8>, AllocError> {
+    let mut lines = vec![in alloc; b'\n'; count]?;
+    lines.extend_from_slice(ending)?;
+    Ok(lines)
 }
 
 #[test]
 fn as_many_lines_as_may_be(rt: HostRuntime) -> Result<(), Fail> {
-    let alloc = rt.alloc();
-    let mut lines = vec![in alloc; b'\n'; 100_000]?;
-    assert_eq!(rt; played(alloc, lines.as_slice()).0, Ok(()));
-    lines.push(b'#')?;
-    let fault = PlayFault::Script {
-        line: 100_001,
-        why: ScriptFault::TooManyLines,
-    };
-    assert_eq!(rt; played(alloc, lines.as_slice()).0, Err(fault));
-    assert_eq!(rt; played(alloc, Endless { octet: b'\n' }).0, Err(fault));
-    let fault = PlayFault::Script {
-        line: 1,
-        why: ScriptFault::LineTooLong,
-    };
-    assert_eq!(rt; played(alloc, Endless { octet: b'a' }).0, Err(fault));
+    let lines = empty_lines(rt.alloc(), 100_000, b"")?;
+    assert_eq!(rt; result_of(rt.alloc(), lines.as_slice()), Ok(()));
     Ok(())
 }
 
 #[test]
-fn reads_that_fail(rt: HostRuntime) -> Result<(), Fail> {
-    for reads in 0..=WHOLE.len() {
-        let (result, written, failed) = played(
-            rt.alloc(),
-            Drips {
-                octets: WHOLE,
-                reads,
-            },
-        );
-        assert_eq!(rt; result, Err(PlayFault::Read), "{reads} reads");
-        assert!(rt; failed, "{reads} reads");
-        let told = if reads < WHOLE.len() - 6 {
-            ""
-        } else {
-            "1 noted\n"
-        };
-        assert_eq!(rt; str::from_utf8(&written), Ok(told), "{reads} reads");
-    }
-    let drips = Drips {
-        octets: WHOLE,
-        reads: WHOLE.len() + 1,
-    };
-    let (result, written, failed) = played(rt.alloc(), drips);
-    assert_eq!(rt; result, Ok(()));
-    assert!(rt; !failed);
-    assert_eq!(rt; str::from_utf8(&written), Ok(TRANSCRIPT));
+fn more_lines_than_may_be(rt: HostRuntime) -> Result<(), Fail> {
+    let lines = empty_lines(rt.alloc(), 100_000, b"#")?;
+    let found = result_of(rt.alloc(), lines.as_slice());
+    ends_at(&rt, found, 100_001, ScriptFault::TooManyLines);
     Ok(())
 }
 
-/// How playing the whole script ends where a sink has so much room, and what it took.
-fn narrowed(alloc: Global, room: usize) -> (Result<(), PlayFault>, Vec<u8>, bool) {
+#[test]
+fn lines_and_letters_without_end(rt: HostRuntime) {
+    let found = result_of(rt.alloc(), Endless { octet: b'\n' });
+    ends_at(&rt, found, 100_001, ScriptFault::TooManyLines);
+    let found = result_of(rt.alloc(), Endless { octet: b'a' });
+    ends_at(&rt, found, 1, ScriptFault::LineTooLong);
+}
+
+/// What is wanted where the whole script is read an octet at a time, and as many reads work.
+fn wanted_after(reads: usize) -> Wanted<'static> {
+    if reads > WHOLE.len() {
+        return Wanted {
+            result: Ok(()),
+            written: TRANSCRIPT.as_bytes(),
+            failed: false,
+        };
+    }
+    let told = if reads < WHOLE.len() - 6 {
+        ""
+    } else {
+        "1 noted\n"
+    };
+    Wanted {
+        result: Err(PlayFault::Read),
+        written: told.as_bytes(),
+        failed: true,
+    }
+}
+
+#[test]
+fn reads_that_fail(rt: HostRuntime) {
+    for reads in 0..=WHOLE.len() + 1 {
+        let drips = Drips {
+            octets: WHOLE,
+            reads,
+        };
+        is(&rt, reads, &played(rt.alloc(), drips), wanted_after(reads));
+    }
+}
+
+/// Plays the whole script into a sink with so much room, and tells whether the sink failed.
+fn narrowed(alloc: Global, room: usize) -> Outcome {
     let mut source = Watched::new(WHOLE);
     let mut sink = Watched::new(Narrow {
         taken: Vec::new(alloc),
@@ -263,42 +308,76 @@ fn narrowed(alloc: Global, room: usize) -> (Result<(), PlayFault>, Vec<u8>, bool
     });
     let result = play::<Silent, Watched<&[u8]>, Watched<Narrow>>(alloc, &mut source, &mut sink);
     let failed = sink.failed();
-    let Narrow { taken, room: _ } = sink.into_inner();
-    (result, taken, failed)
+    Outcome {
+        result,
+        written: sink.into_inner().taken,
+        failed,
+    }
+}
+
+/// What is wanted where a sink has room for as much of the transcript.
+fn wanted_of(room: usize) -> Wanted<'static> {
+    let whole = TRANSCRIPT.as_bytes();
+    if room >= whole.len() {
+        return Wanted {
+            result: Ok(()),
+            written: whole,
+            failed: false,
+        };
+    }
+    Wanted {
+        result: Err(PlayFault::Write),
+        written: &whole[..room],
+        failed: true,
+    }
 }
 
 #[test]
-fn writes_that_take_nothing(rt: HostRuntime) -> Result<(), Fail> {
-    let whole = TRANSCRIPT.as_bytes();
-    for room in 0..whole.len() {
-        let (result, taken, failed) = narrowed(rt.alloc(), room);
-        assert_eq!(rt; result, Err(PlayFault::Write), "room {room}");
-        assert!(rt; failed, "room {room}");
-        assert_eq!(rt; taken.as_slice(), &whole[..room], "room {room}");
+fn writes_that_take_nothing(rt: HostRuntime) {
+    for room in 0..=TRANSCRIPT.len() {
+        is(&rt, room, &narrowed(rt.alloc(), room), wanted_of(room));
     }
-    let (result, taken, failed) = narrowed(rt.alloc(), whole.len());
-    assert_eq!(rt; result, Ok(()));
-    assert!(rt; !failed);
-    assert_eq!(rt; taken.as_slice(), whole);
-    Ok(())
+}
+
+/// A fault, and its text.
+#[derive(Clone, Copy)]
+struct Worded {
+    fault: PlayFault,
+    words: &'static str,
+}
+
+static FAULTS: [Worded; 4] = [
+    Worded {
+        fault: PlayFault::Script {
+            line: 2,
+            why: ScriptFault::SettingAfterEvent,
+        },
+        words: "line 2: setting after event",
+    },
+    Worded {
+        fault: PlayFault::Read,
+        words: "read failed",
+    },
+    Worded {
+        fault: PlayFault::Write,
+        words: "write failed",
+    },
+    Worded {
+        fault: PlayFault::Memory,
+        words: "out of memory",
+    },
+];
+
+/// A text is what is wanted.
+fn is_text(rt: &impl Abort, found: &str, wanted: &str) {
+    assert_eq!(rt; found, wanted);
 }
 
 #[test]
 fn faults_in_words(rt: HostRuntime) -> Result<(), Fail> {
-    let alloc = rt.alloc();
-    let fault = PlayFault::Script {
-        line: 2,
-        why: ScriptFault::SettingAfterEvent,
-    };
-    assert_eq!(rt;
-        format!(in alloc; "{fault}")?.as_str(),
-        "line 2: setting after event"
-    );
-    let read = PlayFault::Read;
-    assert_eq!(rt; format!(in alloc; "{read}")?.as_str(), "read failed");
-    let write = PlayFault::Write;
-    assert_eq!(rt; format!(in alloc; "{write}")?.as_str(), "write failed");
-    let memory = PlayFault::Memory;
-    assert_eq!(rt; format!(in alloc; "{memory}")?.as_str(), "out of memory");
+    for row in FAULTS {
+        let words = row.fault.to_string(rt.alloc())?;
+        is_text(&rt, &words, row.words);
+    }
     Ok(())
 }

@@ -1,8 +1,8 @@
 //! Lines of the greatest length, and how they end.
 
-use super::*;
-use crate::devices::Watched;
+use sms_script::{LineEnd, LineFault, Watched, read_line};
 use std::alloc::{AllocError, Global};
+use std::process::Abort;
 use std::test::Fail;
 
 /// As many letters, what follows them, and what is read.
@@ -83,30 +83,37 @@ static READINGS: [Reading; 11] = [
     },
 ];
 
-/// What is read of letters and what follows them, and how long the line is.
-fn read(alloc: Global, row: Reading) -> Result<(Result<LineEnd, LineFault>, usize), AllocError> {
-    let mut octets = Vec::new(alloc);
-    for _ in 0..row.letters {
-        octets.push(b'a')?;
-    }
+/// The letters of a row, and what follows them.
+fn octets_of(alloc: Global, row: Reading) -> Result<Vec<u8>, AllocError> {
+    let mut octets = vec![in alloc; b'a'; row.letters]?;
     octets.extend_from_slice(row.ending)?;
-    let mut source = Watched::new(octets.as_slice());
+    Ok(octets)
+}
+
+/// How the first line of octets ends, and how long it is.
+fn read(alloc: Global, octets: &[u8]) -> (Result<LineEnd, LineFault>, usize) {
+    let mut source = Watched::new(octets);
     let mut line = Vec::new(alloc);
     let end = read_line(&mut source, &mut line);
-    Ok((end, line.len()))
+    (end, line.len())
+}
+
+/// What was read is what the row wants.
+fn is(rt: &impl Abort, row: Reading, found: (Result<LineEnd, LineFault>, usize)) {
+    assert_eq!(rt;
+        found,
+        (row.end, row.length),
+        "{} {:?}",
+        row.letters,
+        row.ending
+    );
 }
 
 #[test]
 fn lines_as_long_as_may_be(rt: HostRuntime) -> Result<(), Fail> {
     for row in READINGS {
-        let found = read(rt.alloc(), row)?;
-        assert_eq!(rt;
-            found,
-            (row.end, row.length),
-            "{} {:?}",
-            row.letters,
-            row.ending
-        );
+        let octets = octets_of(rt.alloc(), row)?;
+        is(&rt, row, read(rt.alloc(), &octets));
     }
     Ok(())
 }

@@ -1,0 +1,11 @@
+//! Worked rows of lines, scripts and transcripts, against the public calls of `sms_script`.
+#![tactic(auto)]
+
+#[cfg(test)]
+mod lines;
+#[cfg(test)]
+mod playing;
+#[cfg(test)]
+mod script;
+#[cfg(test)]
+mod transcript;
