@@ -2,7 +2,7 @@
 use Rattle.std.proofs.Common.{◌≡◌, ◌≢◌, ℕ, Bool, true, false, cond, ◌&&◌, ◌||◌, nat_lt, List, [], ◌∷◌, Option, Some, None, refl, sym, ap, ◌∙◌, subst, arith}
 use Rattle.std.specs.Prelude.{All, max}
 use Rattle.std.specs.List.{slice_get}
-use Rattle.std.specs.Map.{keys_of, lookup}
+use Rattle.std.specs.Map.{keys_of, values_of, lookup}
 use Rattle.std.specs.Ordering.{match_ordering, nat_cmp, ordering_then}
 use Rattle.std.specs.BTreeMap.{insert_entry}
 use Rattle.std.specs.declared.cmp.Ordering.{Ordering}
@@ -82,18 +82,18 @@ put_in (e ∷ es) ending key apart =
     (put_in es ending key (All-tail (λ x. x ≢ ending) e.0 (keys_of es) apart))
 
 pub holds_also : (old : HeldValue) (key : HeldKey) (ending : Ending) (es new_es : List (Ending × HeldKey)) (last mid new : List (HeldKey × ℕ)) (greatest : ℕ) (found : Option ℕ)
-    → ◌≡◌ {A = HeldValue} (record { endings = keys_of es; last = last }) old → All (λ e. e ≢ ending) old.endings
+    → ◌≡◌ {A = HeldValue} (record { endings = keys_of es; keys = values_of es; last = last }) old → All (λ e. e ≢ ending) old.endings
     → new_es ≡ insert_entry ending_cmp es ending key
     → mid ≡ last → found ≡ lookup (key_eq key) last → greatest ≡ greatest_of ending.end found
     → ((q : HeldKey) → lookup (key_eq q) new ≡ cond (key_eq key q) (Some greatest) (lookup (key_eq q) mid))
-    → HoldsAlso old key ending (record { endings = keys_of new_es; last = new })
+    → HoldsAlso old key ending (record { endings = keys_of new_es; keys = values_of new_es; last = new })
 holds_also old key ending es new_es last mid new greatest found is_old apart put same found_is greatest_is update =
     let apart_here : All (λ e. e ≢ ending) (keys_of es) = subst (λ (v : HeldValue). All (λ e. e ≢ ending) v.endings) (sym is_old) apart in
     let put_here : IsPutIn ending (keys_of es) (keys_of new_es) = subst (λ (x : List (Ending × HeldKey)). IsPutIn ending (keys_of es) (keys_of x)) (sym put) (put_in es ending key apart_here) in
     let updated : (q : HeldKey) → lookup (key_eq q) new ≡ cond (key_eq key q) (Some (greatest_of ending.end (lookup (key_eq key) last))) (lookup (key_eq q) last) =
     λ q. update q ∙ (ap (λ (x : List (HeldKey × ℕ)). cond (key_eq key q) (Some greatest) (lookup (key_eq q) x)) same
     ∙ ap (λ (n : ℕ). cond (key_eq key q) (Some n) (lookup (key_eq q) last)) (greatest_is ∙ ap (greatest_of ending.end) found_is)) in
-    subst (λ (v : HeldValue). HoldsAlso v key ending (record { endings = keys_of new_es; last = new })) is_old (record {
+    subst (λ (v : HeldValue). HoldsAlso v key ending (record { endings = keys_of new_es; keys = values_of new_es; last = new })) is_old (record {
       endings = put_here;
       kept = kept_with last new key ending.end updated;
     })

@@ -20,6 +20,3 @@ pub use outcome::{Dropped, Outcome, Step};
 pub use phone::Phone;
 pub use receiver::{Entry, Receiver};
 pub use sender::{Sender, Status};
-
-#[cfg(test)]
-mod tests;

@@ -459,6 +459,3 @@ impl Sender {
         Ok(Step { outcome, packets })
     }
 }
-
-#[cfg(test)]
-mod tests;

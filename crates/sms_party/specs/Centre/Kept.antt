@@ -1,5 +1,5 @@
 -- What the code checks a submission against.
-use Rattle.std.specs.Prelude.{◌≡◌, ℕ, ◌<◌, ◌≤◌, max, Bool, false, ◌&&◌, ◌||◌, nat_lt, length, zero, suc, List, [], ◌∷◌, ◌++◌, All, Option, Some, None}
+use Rattle.std.specs.Prelude.{◌≡◌, ℕ, ◌<◌, ◌≤◌, max, Bool, false, ◌&&◌, ◌||◌, nat_lt, length, zero, suc, List, [], ◌∷◌, ◌++◌, All, Option, Some, None, IfSome}
 use Rattle.std.specs.Map.{lookup}
 use Rattle.sms_tpdu.specs.Submit.{Submission}
 use Rattle.sms_party.specs.Centre.Checks.{Books}
@@ -36,10 +36,18 @@ pub record HoldsAlso (old : HeldValue) (key : HeldKey) (ending : Ending) (new : 
 abbrev pub KeepsAfter : ℕ → HeldValue → HeldValue → Type 0
 KeepsAfter now old new = (key : HeldKey) (at : ℕ) → now ≤ at → is_kept new.last key at ≡ is_kept old.last key at
 
+-- A key is left only where another message with it ends after the moment.
+abbrev pub IsLeftLater : ℕ → HeldKey → HeldValue → Type 0
+IsLeftLater now key v = IfSome (lookup (key_eq key) v.last) (λ end. now < end)
+
+-- the first of the keys is forgotten, but for a message that ends later
+abbrev pub ForgetsKey : ℕ → HeldValue → HeldValue → Type 0
+ForgetsKey now old new = (key : HeldKey) × (old.keys ≡ key ∷ new.keys) × IsLeftLater now key new
+
 -- The earliest of the endings is forgotten, if it has come.
 abbrev pub ForgetsFirst : ℕ → HeldValue → Option Ending → HeldValue → Type 0
 ForgetsFirst now old None new = All (λ e. now < e.end) old.endings × (new ≡ old)
-ForgetsFirst now old (Some ending) new = (ending.end ≤ now) × (old.endings ≡ ending ∷ new.endings) × KeepsAfter now old new
+ForgetsFirst now old (Some ending) new = (ending.end ≤ now) × (old.endings ≡ ending ∷ new.endings) × KeepsAfter now old new × ForgetsKey now old new
 
 -- At a later moment those are left that end after it.
 pub record IsHeldLater (now : ℕ) (old new : HeldValue) : Type 0 where

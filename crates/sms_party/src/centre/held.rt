@@ -1,7 +1,8 @@
 //! The messages that the centre holds.
 
 ghost use Rattle.std.specs.Prelude.{◌≡◌, ◌≢◌, [], length, All, OnOk, OnErr};
-ghost use Rattle.sms_party.specs.Centre.Kept.{is_kept, HoldsAlso, KeepsAfter, ForgetsFirst};
+ghost use Rattle.sms_party.specs.Centre.Kept.{is_kept, HoldsAlso, KeepsAfter};
+ghost use Rattle.sms_party.specs.Centre.Kept.{IsLeftLater, ForgetsFirst};
 
 use indexmap::IndexMap;
 use std::alloc::{AllocError, Global};
@@ -41,12 +42,16 @@ pub(crate) struct HeldMessages {
 
 impl Model for HeldMessages {
     ghost use Rattle.indexmap.specs.IndexMap.{IsUnique};
-    ghost use Rattle.std.specs.Map.{keys_of};
+    ghost use Rattle.std.specs.Map.{keys_of, values_of};
     ghost use Rattle.sms_party.specs.Centre.Value.{HeldValue, key_eq};
 
     ghost Value = { HeldValue };
 
-    ghost view = { λ h. record { endings = keys_of h.endings.entries; last = h.last.entries } };
+    ghost view = { λ h. record {
+      endings = keys_of h.endings.entries;
+      keys = values_of h.endings.entries;
+      last = h.last.entries;
+    } };
 
     ghost invariant = { λ h. IsUnique key_eq h.last };
 }
@@ -54,7 +59,7 @@ impl Model for HeldMessages {
 impl HeldMessages {
     /// None.
     pub(crate) fn new(alloc: Global) -> HeldMessages
-        ensures { result ≡ record { endings = []; last = [] } }
+        ensures { result ≡ record { endings = []; keys = []; last = [] } }
     {
         HeldMessages {
             endings: BTreeMap::new(alloc),
@@ -95,7 +100,9 @@ impl HeldMessages {
     /// Forgets a key, if the last message with it has ended.
     fn forget_key(&mut self, key: HeldKey, now: u64)
         ensures endings { self.new.endings ≡ self.old.endings }
+        ensures keys { self.new.keys ≡ self.old.keys }
         ensures kept { KeepsAfter now self.old self.new }
+        ensures gone { IsLeftLater now key self.new }
     {
         if !self.is_held(key, now) {
             self.last.swap_remove(&key);
@@ -118,6 +125,3 @@ impl HeldMessages {
         Ok(())
     }
 }
-
-#[cfg(test)]
-mod tests;

@@ -40,7 +40,7 @@ impl Holdings {
     pub(crate) fn new(alloc: Global, phones: &[Address]) -> Result<Holdings, AllocError>
         requires { IsTrue (are_distinct phones.now) }
         ensures { IfOk result (λ h. h ≡
-            record { held = record { endings = []; last = [] }; lines = map new_line phones.now }) }
+            record { held = record { endings = []; keys = []; last = [] }; lines = map new_line phones.now }) }
     {
         Ok(Holdings {
             held: HeldMessages::new(alloc),

@@ -1,5 +1,5 @@
 use Rattle.std.proofs.Common.{List, ◌∷◌, ap, ◌∙◌, sym, arith}
-use Rattle.std.specs.Map.{keys_of}
+use Rattle.std.specs.Map.{keys_of, values_of}
 use Rattle.sms_party.specs.Centre.Value.{HeldValue}
 use Rattle.sms_party.specs.Centre.Kept.{is_kept}
 use Rattle.sms_party.specs.declared.centre.held.Ending.{Ending}
@@ -15,4 +15,10 @@ returns c =
       sym (ap (λ (v : HeldValue). v.endings) c.self.view_is)
           ∙ (ap (λ (l : List (Ending × HeldKey)). keys_of l) removal ∙ ap (λ (l : List Ending). c.in_ok-ending.ending ∷ l) (sym c.forget_key.ensures.endings)),
       λ key at le. c.forget_key.ensures.kept key at le ∙ ap (λ (v : HeldValue). is_kept v.last key at) c.self.view_is,
+      (
+        c.in_ok-ending.key,
+        sym (ap (λ (v : HeldValue). v.keys) c.self.view_is)
+            ∙ (ap (λ (l : List (Ending × HeldKey)). values_of l) removal ∙ ap (λ (l : List HeldKey). c.in_ok-ending.key ∷ l) (sym c.forget_key.ensures.keys)),
+        c.forget_key.ensures.gone,
+      ),
     )

@@ -4,13 +4,16 @@ ghost use Rattle.std.specs.Prelude.{◌≡◌, ◌<◌, ◌≤◌, [], ◌∷◌
 ghost use Rattle.sms_field.specs.declared.symbols.Symbols.TheVariants as symbols;
 ghost use Rattle.sms_party.specs.Centre.Value.{phones_of};
 
-use crate::centre::Centre;
-use crate::outcome::{Dropped, Outcome, Step};
-use crate::tests::centre_rows::{
+mod rows;
+
+use crate::answer::{is_answer, none_differs};
+use crate::centre::rows::{
     BETWEEN, Call, DELIVERED, DUPLICATES, ENDED, FULL, GONE, REFUSALS, Row, STAMPS, TURNS, TWO_ENDS,
 };
 use sms_field::{Address, Digits, Symbols};
+use sms_party::{Centre, Dropped, Outcome, Step};
 use std::alloc::{AllocError, Global};
+use std::process::Abort;
 use std::test::Fail;
 
 /// The address +100 and this digit.
@@ -19,7 +22,7 @@ fn phone(alloc: Global, last: u8) -> Result<Address, AllocError>
     ensures { let number = symbols.Digits (1 ∷ 0 ∷ 0 ∷ last ∷ []) in
         IfOk result (λ a. a ≡ record { kind = 1; plan = 1; symbols = number }) }
 {
-    let digits = vec![in alloc; 1, 0, 0, last]?;
+    let digits = [1, 0, 0, last].to_vec(alloc)?;
     Ok(Address {
         type_of_number: 1,
         plan: 1,
@@ -45,36 +48,39 @@ fn new_fixture(alloc: Global, held: usize) -> Result<Fixture, Fail>
     Ok(Fixture { centre })
 }
 
-/// A call of a row.
-fn called(alloc: Global, fixture: &mut Fixture, row: &Row) -> Result<Step, Dropped> {
-    match row.call {
-        Call::Receive { phone, octets } if phone < 3 && row.now < 3_155_760_000 => {
-            fixture.centre.receive(row.now, phone, octets)
-        }
-        Call::Push { phone } if phone < 3 => fixture.centre.push(row.now, phone),
-        _ => {
-            fixture.centre.advance(row.now);
-            Ok(Step {
-                outcome: Outcome::Ticked,
-                packets: Vec::new(alloc),
-            })
-        }
+/// A phone sends octets. Each row is of one of the three phones, and before the end of 2099.
+fn received(fixture: &mut Fixture, now: u64, phone: usize, octets: &[u8]) -> Result<Step, Dropped> {
+    if phone < 3 && now < 3_155_760_000 {
+        fixture.centre.receive(now, phone, octets)
+    } else {
+        Err(Dropped::Busy)
     }
 }
 
-/// Whether an answer is that of the row.
-fn is_of(told: &Result<Step, Dropped>, row: &Row) -> bool {
-    match told {
-        Ok(step) => {
-            row.answer == Ok(step.outcome)
-                && step.packets.len() == row.packets.len()
-                && step
-                    .packets
-                    .iter()
-                    .zip(row.packets)
-                    .all(|(packet, wanted)| packet.as_slice() == *wanted)
-        }
-        Err(why) => row.answer == Err(*why) && row.packets.is_empty(),
+/// A message is pushed to a phone, which is one of the three.
+fn pushed(fixture: &mut Fixture, now: u64, phone: usize) -> Result<Step, Dropped> {
+    if phone < 3 {
+        fixture.centre.push(now, phone)
+    } else {
+        Err(Dropped::Busy)
+    }
+}
+
+/// The clock moves on.
+fn advanced(alloc: Global, fixture: &mut Fixture, now: u64) -> Step {
+    fixture.centre.advance(now);
+    Step {
+        outcome: Outcome::Ticked,
+        packets: Vec::new(alloc),
+    }
+}
+
+/// A call of a row.
+fn called(alloc: Global, fixture: &mut Fixture, row: &Row) -> Result<Step, Dropped> {
+    match row.call {
+        Call::Receive { phone, octets } => received(fixture, row.now, phone, octets),
+        Call::Push { phone } => pushed(fixture, row.now, phone),
+        Call::Advance => Ok(advanced(alloc, fixture, row.now)),
     }
 }
 
@@ -89,44 +95,49 @@ fn differs(alloc: Global, held: usize, rows: &[Row]) -> Result<Option<&'static s
         if let Err(Dropped::Memory) = told {
             told = called(alloc, &mut fixture, row);
         }
-        if !is_of(&told, row) {
+        if !is_answer(&told, row.answer, row.packets) {
             return Ok(Some(row.name));
         }
     }
     Ok(None)
 }
 
+/// The rows are answered as they say.
+fn plays(rt: &impl Abort, alloc: Global, held: usize, rows: &[Row]) -> Result<(), Fail>
+    requires some { 0 < held }
+    requires most { held ≤ 1000 }
+{
+    let other = differs(alloc, held, rows)?;
+    none_differs(rt, other);
+    Ok(())
+}
+
 #[test]
 fn refuses_what_cannot_be_held(rt: HostRuntime) -> Result<(), Fail> {
-    assert_eq!(rt; differs(rt.alloc(), 1000, REFUSALS.as_slice())?, None);
-    assert_eq!(rt; differs(rt.alloc(), 1, FULL.as_slice())?, None);
-    Ok(())
+    plays(&rt, rt.alloc(), 1000, REFUSALS.as_slice())?;
+    plays(&rt, rt.alloc(), 1, FULL.as_slice())
 }
 
 #[test]
 fn gives_a_stamp_to_each_message(rt: HostRuntime) -> Result<(), Fail> {
-    assert_eq!(rt; differs(rt.alloc(), 1000, STAMPS.as_slice())?, None);
-    Ok(())
+    plays(&rt, rt.alloc(), 1000, STAMPS.as_slice())
 }
 
 #[test]
 fn knows_duplicates(rt: HostRuntime) -> Result<(), Fail> {
-    assert_eq!(rt; differs(rt.alloc(), 1000, DUPLICATES.as_slice())?, None);
-    assert_eq!(rt; differs(rt.alloc(), 1000, TWO_ENDS.as_slice())?, None);
-    Ok(())
+    plays(&rt, rt.alloc(), 1000, DUPLICATES.as_slice())?;
+    plays(&rt, rt.alloc(), 1000, TWO_ENDS.as_slice())
 }
 
 #[test]
 fn pushes_in_turn(rt: HostRuntime) -> Result<(), Fail> {
-    assert_eq!(rt; differs(rt.alloc(), 1000, DELIVERED.as_slice())?, None);
-    assert_eq!(rt; differs(rt.alloc(), 1000, TURNS.as_slice())?, None);
-    assert_eq!(rt; differs(rt.alloc(), 1000, ENDED.as_slice())?, None);
-    Ok(())
+    plays(&rt, rt.alloc(), 1000, DELIVERED.as_slice())?;
+    plays(&rt, rt.alloc(), 1000, TURNS.as_slice())?;
+    plays(&rt, rt.alloc(), 1000, ENDED.as_slice())
 }
 
 #[test]
 fn takes_out_what_was_pushed(rt: HostRuntime) -> Result<(), Fail> {
-    assert_eq!(rt; differs(rt.alloc(), 1000, BETWEEN.as_slice())?, None);
-    assert_eq!(rt; differs(rt.alloc(), 1000, GONE.as_slice())?, None);
-    Ok(())
+    plays(&rt, rt.alloc(), 1000, BETWEEN.as_slice())?;
+    plays(&rt, rt.alloc(), 1000, GONE.as_slice())
 }

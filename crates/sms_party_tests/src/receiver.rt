@@ -1,0 +1,91 @@
+//! Packets that come to a phone. Where memory runs out, the same packet comes again.
+
+ghost use Rattle.std.specs.Prelude.{◌<◌};
+
+mod rows;
+
+use crate::answer::{is_answer, none_differs};
+use crate::receiver::rows::{AGES, FULL, FULL_STORE, REFUSALS, Row, TEXTS, WIDTHS};
+use sms_party::{Dropped, Entry, Receiver};
+use std::alloc::Global;
+use std::process::Abort;
+use std::test::Fail;
+
+/// How much a phone holds.
+struct Limits {
+    open_max: usize,
+    remembered: usize,
+    store: usize,
+    ghost some_sets: { 0 < open_max },
+    ghost some_keys: { 0 < remembered },
+}
+
+/// Whether a store has these texts.
+fn has_texts(store: &[Entry], texts: &[&str]) -> bool {
+    for (entry, text) in store.iter().zip(texts) {
+        if entry.text.as_str() != *text {
+            return false;
+        }
+    }
+    store.len() == texts.len()
+}
+
+/// Plays the rows on a new phone, which ages before each of them, and says which one is answered
+/// otherwise, if any is.
+fn differs(alloc: Global, limits: &Limits, rows: &[Row]) -> Result<Option<&'static str>, Fail> {
+    let mut phone = Receiver::new(alloc, limits.open_max, limits.remembered, limits.store)?;
+    for row in rows {
+        phone.age(row.now);
+        let mut told = phone.receive(row.now, row.octets);
+        if let Err(Dropped::Memory) = told {
+            told = phone.receive(row.now, row.octets);
+        }
+        if !is_answer(&told, row.answer, row.packets) || !has_texts(phone.store(), row.store) {
+            return Ok(Some(row.name));
+        }
+    }
+    Ok(None)
+}
+
+/// The rows are answered as they say.
+fn plays(rt: &impl Abort, alloc: Global, limits: &Limits, rows: &[Row]) -> Result<(), Fail> {
+    let other = differs(alloc, limits, rows)?;
+    none_differs(rt, other);
+    Ok(())
+}
+
+/// Room for as many as there may be.
+const MANY: Limits = Limits {
+    open_max: 16,
+    remembered: 32,
+    store: 500,
+};
+
+/// Room for one of each.
+const ONE: Limits = Limits {
+    open_max: 1,
+    remembered: 1,
+    store: 1,
+};
+
+#[test]
+fn refuses_what_is_no_text(rt: HostRuntime) -> Result<(), Fail> {
+    plays(&rt, rt.alloc(), &MANY, REFUSALS.as_slice())
+}
+
+#[test]
+fn stores_texts(rt: HostRuntime) -> Result<(), Fail> {
+    plays(&rt, rt.alloc(), &MANY, TEXTS.as_slice())?;
+    plays(&rt, rt.alloc(), &MANY, WIDTHS.as_slice())
+}
+
+#[test]
+fn refuses_what_has_no_room(rt: HostRuntime) -> Result<(), Fail> {
+    plays(&rt, rt.alloc(), &ONE, FULL.as_slice())?;
+    plays(&rt, rt.alloc(), &ONE, FULL_STORE.as_slice())
+}
+
+#[test]
+fn drops_old_sets(rt: HostRuntime) -> Result<(), Fail> {
+    plays(&rt, rt.alloc(), &ONE, AGES.as_slice())
+}
