@@ -24,6 +24,3 @@ pub use sms_script::{
     DeviceFailed, Event, Limits, Octets, PlayFault, ScriptFault, Sink, Source, Text, Watched,
 };
 pub use world::World;
-
-#[cfg(test)]
-mod tests;

@@ -100,6 +100,3 @@ pub fn status_text(status: Status) -> &'static str
         Status::Failed => "failed",
     }
 }
-
-#[cfg(test)]
-mod tests;

@@ -1,0 +1,13 @@
+//! Worlds of two phones, against the public calls of `sms_world`.
+#![tactic(auto)]
+
+#[cfg(test)]
+mod faults;
+#[cfg(test)]
+mod growths;
+#[cfg(test)]
+mod segments;
+#[cfg(test)]
+mod two;
+#[cfg(test)]
+mod way;

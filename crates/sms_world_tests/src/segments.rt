@@ -1,0 +1,187 @@
+//! Texts of three segments that come in any order, to a phone that has room or has none.
+
+ghost use Rattle.sms_script.specs.declared.meaning.statement.Limit.TheVariants as limits;
+ghost use Rattle.sms_script.specs.Script.Limits.{IsIn};
+
+use crate::two::{Two, at_last, coming, is_stored, new_two, two_with_room, typing};
+use sms_party::Outcome;
+use sms_world::{Entry, Event};
+use std::alloc::{AllocError, Global};
+use std::process::Abort;
+use std::test::Fail;
+
+/// Whether a store has these two texts, in this order.
+fn are_stored(store: &[Entry], first: &str, second: &str) -> bool {
+    match store {
+        [one, other] => one.text.as_str() == first && other.text.as_str() == second,
+        _ => false,
+    }
+}
+
+/// A text of three segments is typed, accepted and pushed.
+fn pushing(alloc: Global, text: &str) -> Result<[Event; 10], AllocError> {
+    let typed = typing(alloc, text)?;
+    Ok([
+        typed,
+        Event::Carry(1),
+        Event::Carry(3),
+        Event::Carry(5),
+        Event::Carry(7),
+        Event::Carry(9),
+        Event::Carry(11),
+        Event::Push(1),
+        Event::Push(1),
+        Event::Push(1),
+    ])
+}
+
+/// These events happen.
+fn happen(two: &mut Two, events: &[Event]) {
+    for event in events {
+        let _ = at_last(two, event);
+    }
+}
+
+/// Lets a text of three segments be accepted and pushed: its segments are packets 13 to 15.
+fn pushed_text(alloc: Global, mut two: Two, text: &str) -> Result<Two, Fail> {
+    let events = pushing(alloc, text)?;
+    happen(&mut two, &events);
+    Ok(two)
+}
+
+/// Carries each of these packets twice, and says which one is no repeat the second time, if any is
+/// not.
+fn not_repeated(two: &mut Two, order: [u64; 3]) -> Option<u64> {
+    for number in order {
+        let _ = at_last(two, &Event::Carry(number));
+        let again = at_last(two, &Event::Carry(number));
+        if again != Ok(Outcome::Repeat) {
+            return Some(number);
+        }
+    }
+    None
+}
+
+/// Each packet is a repeat the second time, and the text is stored once.
+fn is_stored_once(rt: &impl Abort, two: &mut Two, text: &str, order: [u64; 3]) {
+    assert_eq!(rt; not_repeated(two, order), None, "{order:?}");
+    assert!(rt; is_stored(two.world.store(1), text), "{order:?}");
+}
+
+/// Segments come in this order, each twice.
+fn come(rt: &impl Abort, alloc: Global, text: &str, order: [u64; 3]) -> Result<(), Fail> {
+    let mut two = pushed_text(alloc, new_two(alloc)?, text)?;
+    is_stored_once(rt, &mut two, text, order);
+    Ok(())
+}
+
+/// The orders in which three segments can come.
+const ORDERS: [[u64; 3]; 6] = [
+    [13, 14, 15],
+    [13, 15, 14],
+    [14, 13, 15],
+    [14, 15, 13],
+    [15, 13, 14],
+    [15, 14, 13],
+];
+
+#[test]
+fn segments_come_in_any_order_and_twice(rt: HostRuntime) -> Result<(), Fail> {
+    let text = "a".repeat(rt.alloc(), 307)?;
+    for order in ORDERS {
+        come(&rt, rt.alloc(), text.as_str(), order)?;
+    }
+    Ok(())
+}
+
+/// The delivery of `one` to the second phone.
+fn delivery_of_one(alloc: Global) -> Result<Event, AllocError> {
+    coming(
+        alloc,
+        1,
+        b"\x09\x01\x1A\x01\x00\x03\x91\x01\x00\x00\x12\x04\x04\x91\x01\x10\x00\x00\x00\x10\x10\x00\x00\x00\x00\x03\x6F\x77\x19",
+    )
+}
+
+/// Such a world, where the second phone has stored `one` before the segments come.
+fn pushed_after_one(alloc: Global, store: u64, text: &str) -> Result<Two, Fail>
+    requires { IsIn limits.Store store }
+{
+    let two = two_with_room(alloc, store)?;
+    let mut two = pushed_text(alloc, two, text)?;
+    let _ = at_last(&mut two, &delivery_of_one(alloc)?);
+    Ok(two)
+}
+
+/// Carries a packet twice, and says whether both times have this answer.
+fn is_twice(two: &mut Two, number: u64, wanted: Outcome) -> bool {
+    let first = at_last(two, &Event::Carry(number));
+    let second = at_last(two, &Event::Carry(number));
+    first == Ok(wanted) && second == Ok(wanted)
+}
+
+/// Carries a packet twice: the first time with this answer, then as a repeat.
+fn is_taken(two: &mut Two, number: u64, wanted: Outcome) -> bool {
+    let first = at_last(two, &Event::Carry(number));
+    let second = at_last(two, &Event::Carry(number));
+    first == Ok(wanted) && second == Ok(Outcome::Repeat)
+}
+
+/// Pushes all three segments once more.
+fn push_again(two: &mut Two) {
+    for _ in 0..3u8 {
+        let _ = at_last(two, &Event::Push(1));
+    }
+}
+
+/// Whether a store that is full refuses the last segment of a text, also at a later push, and
+/// nothing changes: the later packets are those of before, 17 further on.
+fn is_refused_when_full(two: &mut Two, [first, second, last]: [u64; 3]) -> bool {
+    let refused = Outcome::Refused {
+        cause: 22,
+        failure: Some(0xD3),
+    };
+    let kept = is_taken(two, first, Outcome::Kept) && is_taken(two, second, Outcome::Kept);
+    let full = is_twice(two, last, refused);
+    push_again(two);
+    let again = is_twice(two, last.saturating_add(17), refused)
+        && is_twice(two, first.saturating_add(17), Outcome::Repeat);
+    kept && full && again && is_stored(two.world.store(1), "one")
+}
+
+/// Whether a phone that has room takes the last segment of a text at a later push.
+fn is_taken_with_room(two: &mut Two, text: &str, [first, second, last]: [u64; 3]) -> bool {
+    let kept = is_taken(two, first, Outcome::Kept) && is_taken(two, second, Outcome::Kept);
+    push_again(two);
+    let taken = is_taken(two, last.saturating_add(13), Outcome::Finished);
+    kept && taken && are_stored(two.world.store(1), "one", text)
+}
+
+/// A phone refuses the last segment of a text in this order, or takes it.
+fn is_so(rt: &impl Abort, order: [u64; 3], room: &str, so: bool) {
+    assert!(rt; so, "{order:?}, {room}");
+}
+
+/// A phone without room refuses the last segment.
+fn refuses(rt: &impl Abort, alloc: Global, text: &str, order: [u64; 3]) -> Result<(), Fail> {
+    let mut two = pushed_after_one(alloc, 1, text)?;
+    is_so(rt, order, "no room", is_refused_when_full(&mut two, order));
+    Ok(())
+}
+
+/// A phone with room takes the last segment.
+fn takes(rt: &impl Abort, alloc: Global, text: &str, order: [u64; 3]) -> Result<(), Fail> {
+    let mut two = pushed_after_one(alloc, 2, text)?;
+    is_so(rt, order, "room", is_taken_with_room(&mut two, text, order));
+    Ok(())
+}
+
+#[test]
+fn a_last_segment_wants_room(rt: HostRuntime) -> Result<(), Fail> {
+    let text = "a".repeat(rt.alloc(), 307)?;
+    for order in ORDERS {
+        refuses(&rt, rt.alloc(), text.as_str(), order)?;
+        takes(&rt, rt.alloc(), text.as_str(), order)?;
+    }
+    Ok(())
+}

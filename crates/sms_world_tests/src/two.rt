@@ -1,0 +1,107 @@
+//! A world of two phones, and what happens in it.
+
+ghost use Rattle.std.specs.Prelude.{◌≡◌, ◌<◌, [], ◌∷◌, length, IfOk};
+ghost use Rattle.sms_field.specs.declared.symbols.Symbols.TheVariants as symbols;
+ghost use Rattle.sms_script.specs.declared.meaning.statement.Limit.TheVariants as limits;
+ghost use Rattle.sms_script.specs.Script.Limits.{IsIn};
+
+use sms_field::{Address, Digits, Symbols};
+use sms_party::{Dropped, Outcome};
+use sms_script::Limit;
+use sms_world::{Entry, Event, Limits, Octets, Text, World, WorldFault};
+use std::alloc::{AllocError, Global};
+use std::process::Abort;
+use std::test::Fail;
+
+/// The address +100 and this digit.
+pub fn address(alloc: Global, last: u8) -> Result<Address, AllocError>
+    requires { last < 10 }
+    ensures { let number = symbols.Digits (1 ∷ 0 ∷ 0 ∷ last ∷ []) in
+        IfOk result (λ a. a ≡ record { kind = 1; plan = 1; symbols = number }) }
+{
+    let digits = [1, 0, 0, last].to_vec(alloc)?;
+    Ok(Address {
+        type_of_number: 1,
+        plan: 1,
+        symbols: Symbols::Digits(Digits::new(digits)),
+    })
+}
+
+/// A world of two phones.
+#[derive(Drop)]
+pub struct Two {
+    pub world: World,
+    ghost two: { length world.parties.phones ≡ 2 },
+}
+
+/// A world with the phones +1001 and +1002, each of which has room for that many texts.
+#[tactic(auto, unfolding(sms_field::specs::SameAddress::same_address))]
+pub fn two_with_room(alloc: Global, store: u64) -> Result<Two, Fail>
+    requires { IsIn limits.Store store }
+{
+    let mut limits = Limits::new();
+    limits.set(Limit::Store, store);
+    let phones = [address(alloc, 1)?, address(alloc, 2)?];
+    let world = World::new(alloc, limits, &phones)?;
+    Ok(Two { world })
+}
+
+/// A world with the phones +1001 and +1002.
+pub fn new_two(alloc: Global) -> Result<Two, Fail> {
+    two_with_room(alloc, 500)
+}
+
+/// Someone types a text at the first phone, to the second one.
+pub fn typing(alloc: Global, text: &str) -> Result<Event, AllocError> {
+    Ok(Event::Compose {
+        phone: 0,
+        target: address(alloc, 2)?,
+        text: Text::copy(alloc, text)?,
+    })
+}
+
+/// Octets come to a phone that nobody put out.
+pub fn coming(alloc: Global, phone: usize, octets: &[u8]) -> Result<Event, AllocError> {
+    Ok(Event::Inject {
+        up: false,
+        phone,
+        octets: Octets::new(octets.to_vec(alloc)?),
+    })
+}
+
+/// Whether a store has this text alone.
+pub fn is_stored(store: &[Entry], text: &str) -> bool {
+    match store {
+        [entry] => entry.text.as_str() == text,
+        _ => false,
+    }
+}
+
+/// An event, and once more where it wants memory: then nothing has come of it before.
+pub fn at_last(two: &mut Two, event: &Event) -> Result<Outcome, WorldFault> {
+    let before = two.world.packet_count();
+    let first = two.world.step(event);
+    if first == Err(WorldFault::Party(Dropped::Memory)) && two.world.packet_count() == before {
+        two.world.step(event)
+    } else {
+        first
+    }
+}
+
+/// An event is answered so.
+pub fn answers(rt: &impl Abort, two: &mut Two, event: &Event, wanted: Result<Outcome, WorldFault>) {
+    let answer = at_last(two, event);
+    assert!(rt; answer == wanted, "{event:?}");
+}
+
+/// Events are answered so, one after another.
+pub fn all_answer(rt: &impl Abort, two: &mut Two, events: &[Event], wanted: &[Outcome]) {
+    for (event, outcome) in events.iter().zip(wanted) {
+        answers(rt, two, event, Ok(*outcome));
+    }
+}
+
+/// The second phone has stored this text alone.
+pub fn has_stored(rt: &impl Abort, two: &Two, text: &str) {
+    assert!(rt; is_stored(two.world.store(1), text), "{text}");
+}

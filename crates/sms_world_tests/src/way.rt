@@ -1,0 +1,159 @@
+//! A text of one segment on its way.
+
+ghost use Rattle.std.specs.Prelude.{◌≡◌, length};
+
+use crate::two::{Two, address, all_answer, has_stored, new_two, typing};
+use sms_party::{Outcome, Status};
+use sms_world::{Event, Limits, World, WorldFault, run};
+use std::alloc::{AllocError, Global};
+use std::process::Abort;
+use std::test::Fail;
+
+/// The events by which a text of one segment goes its way.
+fn whole_way(alloc: Global) -> Result<[Event; 6], AllocError> {
+    let typed = typing(alloc, "hi")?;
+    Ok([
+        typed,
+        Event::Carry(1),
+        Event::Push(1),
+        Event::Carry(4),
+        Event::Carry(6),
+        Event::Carry(3),
+    ])
+}
+
+/// What these events answer.
+const ANSWERS: [Outcome; 6] = [
+    Outcome::Typed { text: 1 },
+    Outcome::Held,
+    Outcome::Pushed,
+    Outcome::Finished,
+    Outcome::Delivered,
+    Outcome::Accepted { text: 1 },
+];
+
+/// A packet of that way.
+#[derive(Clone, Copy)]
+struct Sent {
+    number: u64,
+    octets: &'static [u8],
+}
+
+static SENT: [Sent; 8] = [
+    Sent {
+        number: 1,
+        octets: b"\x09\x01\x13\x00\x00\x00\x03\x91\x01\x00\x0B\x01\x00\x04\x91\x01\x20\x00\x00\x02\xE8\x34",
+    },
+    Sent {
+        number: 2,
+        octets: b"\x89\x04",
+    },
+    Sent {
+        number: 3,
+        octets: b"\x89\x01\x0D\x03\x00\x41\x09\x01\x00\x00\x10\x10\x00\x00\x00\x00",
+    },
+    Sent {
+        number: 4,
+        octets: b"\x09\x01\x19\x01\x00\x03\x91\x01\x00\x00\x11\x04\x04\x91\x01\x10\x00\x00\x00\x10\x10\x00\x00\x00\x00\x02\xE8\x34",
+    },
+    Sent {
+        number: 5,
+        octets: b"\x89\x04",
+    },
+    Sent {
+        number: 6,
+        octets: b"\x89\x01\x06\x02\x00\x41\x02\x00\x00",
+    },
+    Sent {
+        number: 7,
+        octets: b"\x09\x04",
+    },
+    Sent {
+        number: 8,
+        octets: b"\x09\x04",
+    },
+];
+
+/// These packets were put out.
+fn were_put_out(rt: &impl Abort, world: &World, packets: &[Sent]) {
+    for sent in packets {
+        assert!(rt;
+            world.packet(sent.number) == Some(sent.octets),
+            "packet {}",
+            sent.number
+        );
+    }
+}
+
+/// No packets have these numbers.
+fn were_not_put_out(rt: &impl Abort, world: &World, numbers: &[u64]) {
+    for number in numbers {
+        assert!(rt; world.packet(*number).is_none(), "packet {number}");
+    }
+}
+
+/// These are the answers.
+fn are_answers(rt: &impl Abort, answers: &[Result<Outcome, WorldFault>], wanted: &[Outcome]) {
+    assert_eq!(rt; answers.len(), wanted.len());
+    for (answer, outcome) in answers.iter().zip(wanted) {
+        assert!(rt; *answer == Ok(*outcome), "{answer:?} for {outcome:?}");
+    }
+}
+
+/// The first phone has typed a text that was accepted, and has stored none.
+fn first_phone_stands(rt: &impl Abort, two: &Two) {
+    assert_eq!(rt; two.world.status(0, 1), Some(Status::Accepted));
+    assert_eq!(rt; two.world.store(0).len(), 0);
+}
+
+/// A world after a run, and what each event has answered.
+#[derive(Drop)]
+struct Ran {
+    two: Two,
+    answers: Vec<Result<Outcome, WorldFault>>,
+}
+
+/// A run of these events.
+#[tactic(auto, unfolding(sms_field::specs::SameAddress::same_address))]
+fn run_of(alloc: Global, events: &[Event]) -> Result<Ran, Fail> {
+    let phones = [address(alloc, 1)?, address(alloc, 2)?];
+    let (world, answers) = run(alloc, Limits::new(), &phones, events)?;
+    Ok(Ran {
+        two: Two { world },
+        answers,
+    })
+}
+
+/// A run of the whole way.
+fn ran_whole_way(alloc: Global) -> Result<Ran, Fail> {
+    let events = whole_way(alloc)?;
+    run_of(alloc, &events)
+}
+
+/// What stands after the whole way.
+fn way_was_gone(rt: &impl Abort, ran: &Ran) {
+    are_answers(rt, &ran.answers, &ANSWERS);
+    were_put_out(rt, &ran.two.world, &SENT);
+    were_not_put_out(rt, &ran.two.world, &[0, 9]);
+    first_phone_stands(rt, &ran.two);
+    has_stored(rt, &ran.two, "hi");
+}
+
+#[test]
+fn a_text_goes_its_way(rt: HostRuntime) -> Result<(), Fail> {
+    let ran = ran_whole_way(rt.alloc())?;
+    way_was_gone(&rt, &ran);
+    Ok(())
+}
+
+/// One growth is refused, whichever it is (docs/CONTRIBUTING.md says how): an event that wants
+/// memory has changed nothing, and the same event is then answered as where none was refused.
+#[test]
+fn happens_after_a_refused_growth(rt: HostRuntime) -> Result<(), Fail> {
+    let mut two = new_two(rt.alloc())?;
+    let events = whole_way(rt.alloc())?;
+    all_answer(&rt, &mut two, &events, &ANSWERS);
+    were_put_out(&rt, &two.world, &SENT);
+    has_stored(&rt, &two, "hi");
+    Ok(())
+}
