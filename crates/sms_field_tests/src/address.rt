@@ -2,7 +2,7 @@
 
 mod rows;
 
-use crate::found::{are, holds, holds_of, is, is_text};
+use crate::found::is;
 use rows::{BAD, FOUND, Found, NAMED, Named, REFUSED, SPELLED, Spelled, WRITTEN};
 use sms_field::{Address, AddressFault, FieldFault, Refusal, Symbols, TextFault};
 use std::alloc::Global;
@@ -64,7 +64,7 @@ fn addresses_read(rt: HostRuntime) {
 fn addresses_refused(rt: HostRuntime) {
     for row in REFUSED {
         let refused = is_no_address(rt.alloc(), row.octets, row.place, row.why);
-        holds(&rt, row.octets, refused);
+        is(&rt, row.octets, refused, true);
     }
 }
 
@@ -78,7 +78,7 @@ fn writes(
 ) -> Result<(), Fail> {
     let mut out = Vec::new(alloc);
     address.write_to(&mut out)?;
-    are(rt, octets, &out, want);
+    is(rt, octets, out.as_slice(), want);
     Ok(())
 }
 
@@ -104,7 +104,7 @@ fn has_octets(
     row: &Spelled,
 ) -> Result<(), Fail> {
     let written = address.write(alloc)?;
-    are(rt, row.text.as_bytes(), &written, row.octets);
+    is(rt, row.text, written.as_slice(), row.octets);
     Ok(())
 }
 
@@ -117,7 +117,7 @@ fn has_text(
     text: &str,
 ) -> Result<(), Fail> {
     let again = address.to_text(alloc)?;
-    is_text(rt, octets, &again, text);
+    is(rt, octets, again.as_str(), text);
     Ok(())
 }
 
@@ -148,14 +148,14 @@ fn addresses_from_texts(rt: HostRuntime) -> Result<(), Fail> {
 fn texts_without_addresses(rt: HostRuntime) {
     for row in BAD {
         let refused = is_refused(rt.alloc(), row.text, row.fault);
-        holds_of(&rt, row.text, refused);
+        is(&rt, row.text, refused, true);
     }
 }
 
 /// The copy of an address is the address.
 fn is_copied(rt: &impl Abort, alloc: Global, text: &str, address: &Address) -> Result<(), Fail> {
     let copy = address.copy(alloc)?;
-    holds_of(rt, text, copy == *address);
+    is(rt, text, copy == *address, true);
     Ok(())
 }
 

@@ -2,7 +2,7 @@
 
 mod rows;
 
-use crate::found::{are, holds, holds_of, is, is_text};
+use crate::found::is;
 use rows::{BAD, REFUSED, SPELLED, Spelled};
 use sms_field::{AddressFault, FieldFault, Refusal, RpAddress, TextFault};
 use std::alloc::Global;
@@ -17,7 +17,7 @@ fn has_octets(
     row: &Spelled,
 ) -> Result<(), Fail> {
     let written = address.write(alloc)?;
-    are(rt, row.text.as_bytes(), &written, row.octets);
+    is(rt, row.text, written.as_slice(), row.octets);
     Ok(())
 }
 
@@ -30,7 +30,7 @@ fn has_text(
     text: &str,
 ) -> Result<(), Fail> {
     let again = address.to_text(alloc)?;
-    is_text(rt, octets, &again, text);
+    is(rt, octets, again.as_str(), text);
     Ok(())
 }
 
@@ -46,7 +46,7 @@ fn are_one(found: Option<&RpAddress>, address: &RpAddress) -> bool {
 fn is_read(rt: &impl Abort, alloc: Global, address: &RpAddress, row: &Spelled) -> Result<(), Fail> {
     let (read, used) = RpAddress::read(alloc, row.octets)?;
     is(rt, row.octets, used, row.octets.len());
-    holds_of(rt, row.text, are_one(read.as_ref(), address));
+    is(rt, row.text, are_one(read.as_ref(), address), true);
     Ok(())
 }
 
@@ -78,7 +78,7 @@ fn relay_addresses_from_texts(rt: HostRuntime) -> Result<(), Fail> {
 fn texts_without_relay_addresses(rt: HostRuntime) {
     for row in BAD {
         let refused = is_refused(rt.alloc(), row.text, row.fault);
-        holds_of(&rt, row.text, refused);
+        is(&rt, row.text, refused, true);
     }
 }
 
@@ -94,7 +94,7 @@ fn is_no_address(alloc: Global, octets: &[u8], place: usize, why: FieldFault) ->
 fn relay_addresses_refused(rt: HostRuntime) {
     for row in REFUSED {
         let refused = is_no_address(rt.alloc(), row.octets, row.place, row.why);
-        holds(&rt, row.octets, refused);
+        is(&rt, row.octets, refused, true);
     }
 }
 

@@ -2,7 +2,7 @@
 
 ghost use Rattle.sms_text.specs.Bits.{AreSeptets};
 
-use crate::found::{are, is_below, septets_of};
+use crate::found::{is, is_below, septets_of};
 use sms_text::{gsm_of, text_of_gsm};
 use std::alloc::Global;
 use std::process::Abort;
@@ -63,36 +63,26 @@ const EXTENDED: [Extended; 10] = [
     },
 ];
 
-/// The text of a row of septets is the one that is wanted.
-fn is_text(rt: &impl Abort, septets: &[u8], found: &str, wanted: &str) {
-    assert_eq!(rt; found, wanted, "{septets:?}");
-}
-
-/// No septets are found.
-fn is_none(rt: &impl Abort, row: &str, found: Option<&Vec<u8>>) {
-    assert!(rt; found.is_none(), "{row}");
-}
-
 /// The septets stand for the text.
 fn reads(rt: &impl Abort, alloc: Global, septets: &[u8], text: &str) -> Result<(), Fail>
     requires { AreSeptets septets.now }
 {
     let read = text_of_gsm(alloc, septets)?;
-    is_text(rt, septets, &read, text);
+    is(rt, septets, read.as_str(), text);
     Ok(())
 }
 
 /// The text has these septets.
 fn writes(rt: &impl Abort, alloc: Global, text: &str, septets: &[u8]) -> Result<(), Fail> {
     let written = septets_of(alloc, text)?;
-    are(rt, text, &written, septets);
+    is(rt, text, written.as_slice(), septets);
     Ok(())
 }
 
 /// The text has no septets.
 fn refuses(rt: &impl Abort, alloc: Global, row: &str, text: &str) -> Result<(), Fail> {
     let written = gsm_of(alloc, text)?;
-    is_none(rt, row, written.as_ref());
+    is(rt, row, written.is_none(), true);
     Ok(())
 }
 

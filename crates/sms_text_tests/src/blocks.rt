@@ -3,7 +3,7 @@
 ghost use Rattle.std.specs.Prelude.{◌<◌, ◌≤◌, ◌+◌, ◌*◌, length, IfOk};
 ghost use Rattle.sms_text.specs.Bits.{AreSeptets};
 
-use crate::found::septets_of;
+use crate::found::{is, septets_of};
 use sms_text::{pack, unpack};
 use std::alloc::Global;
 use std::process::Abort;
@@ -42,22 +42,6 @@ fn unpacked_bit_by_bit(octets: &[u8], fill: usize, count: usize) -> [u8; 40]
     septets
 }
 
-/// What is made bit by bit is what is made of blocks.
-fn are_alike(
-    rt: &impl Abort,
-    fill: u8,
-    count: usize,
-    what: &str,
-    bits: Option<&[u8]>,
-    blocks: &[u8],
-) {
-    assert_eq!(rt;
-        bits,
-        Some(blocks),
-        "{count} septets after {fill} bits are {what}"
-    );
-}
-
 /// So many septets at most.
 fn are_few(rt: &impl Abort, septets: &[u8])
     ensures { length septets.now ≤ 40 }
@@ -82,7 +66,12 @@ fn pack_alike(rt: &impl Abort, alloc: Global, fill: u8, septets: &[u8]) -> Resul
     let octets = pack(alloc, septets, fill)?;
     let bits = packed_bit_by_bit(septets, fill as usize);
     let bits = bits.get(..octets.len());
-    are_alike(rt, fill, septets.len(), "packed", bits, &octets);
+    is(
+        rt,
+        ("packed", fill, septets.len()),
+        bits,
+        Some(octets.as_slice()),
+    );
     Ok(())
 }
 
@@ -103,7 +92,12 @@ fn unpack_alike(rt: &impl Abort, alloc: Global, fill: u8, count: usize) -> Resul
 {
     let septets = unpacked(alloc, fill, count)?;
     let bits = unpacked_bit_by_bit(NOISE.as_bytes(), fill as usize, count);
-    are_alike(rt, fill, count, "unpacked", bits.get(..count), &septets);
+    is(
+        rt,
+        ("unpacked", fill, count),
+        bits.get(..count),
+        Some(septets.as_slice()),
+    );
     Ok(())
 }
 

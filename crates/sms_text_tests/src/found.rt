@@ -5,12 +5,18 @@ ghost use Rattle.sms_text.specs.Bits.{AreSeptets};
 
 use sms_text::gsm_of;
 use std::alloc::Global;
+use std::fmt::Debug;
 use std::process::Abort;
 use std::test::Fail;
 
-/// The octets of a row are those that are wanted.
-pub fn are(rt: &impl Abort, row: &str, found: &[u8], wanted: &[u8]) {
-    assert_eq!(rt; found, wanted, "{row}");
+/// What is found of a row is what is wanted.
+pub fn is<R: Debug + Copy, T: PartialEq + Debug + Copy>(
+    rt: &impl Abort,
+    row: R,
+    found: T,
+    wanted: T,
+) {
+    assert_eq!(rt; found, wanted, "{row:?}");
 }
 
 /// A number of a row is below a bound.

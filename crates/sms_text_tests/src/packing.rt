@@ -5,8 +5,11 @@ mod rows;
 ghost use Rattle.std.specs.Prelude.{◌<◌};
 ghost use Rattle.sms_text.specs.Bits.{AreSeptets};
 
-use crate::found::{are, is_below, septets_of};
-use rows::{PACKED, Packed};
+use crate::found::{is, is_below, septets_of};
+use rows::{
+    PACKED, PACKED_AFTER_1, PACKED_AFTER_2, PACKED_AFTER_3, PACKED_AFTER_4, PACKED_AFTER_5,
+    PACKED_AFTER_6, Packed,
+};
 use sms_text::{pack, pack_into, unpack};
 use std::alloc::Global;
 use std::process::Abort;
@@ -20,17 +23,12 @@ fn fill_of(rt: &impl Abort, row: &Packed) -> u8
     row.fill
 }
 
-/// What is found of a row is what is wanted.
-fn is(rt: &impl Abort, row: &Packed, found: Option<&[u8]>, wanted: Option<&[u8]>) {
-    assert_eq!(rt; found, wanted, "{} {}", row.fill, row.text);
-}
-
 /// The septets are packed so.
 fn packs(rt: &impl Abort, alloc: Global, row: &Packed, septets: &[u8]) -> Result<(), Fail>
     requires { AreSeptets septets.now }
 {
     let packed = pack(alloc, septets, fill_of(rt, row))?;
-    is(rt, row, Some(&packed), Some(row.plain));
+    is(rt, (row.fill, row.text), packed.as_slice(), row.plain);
     Ok(())
 }
 
@@ -40,7 +38,12 @@ fn packs_behind(rt: &impl Abort, alloc: Global, row: &Packed, septets: &[u8]) ->
 {
     let mut longer = Vec::from_slice(alloc, row.plain)?;
     pack_into(&mut longer, septets, fill_of(rt, row))?;
-    is(rt, row, longer.get(row.plain.len()..), Some(row.plain));
+    is(
+        rt,
+        (row.fill, row.text),
+        longer.get(row.plain.len()..),
+        Some(row.plain),
+    );
     Ok(())
 }
 
@@ -54,7 +57,7 @@ fn unpacks(
     wanted: Option<&[u8]>,
 ) -> Result<(), Fail> {
     let again = unpack(alloc, octets, fill_of(rt, row), count)?;
-    is(rt, row, again.as_deref(), wanted);
+    is(rt, (row.fill, row.text), again.as_deref(), wanted);
     Ok(())
 }
 
@@ -75,18 +78,34 @@ fn is_packed(rt: &impl Abort, alloc: Global, row: &Packed) -> Result<(), Fail> {
     come_back(rt, alloc, row, &septets)
 }
 
-#[test]
-fn packing(rt: HostRuntime) -> Result<(), Fail> {
-    for row in PACKED.as_slice() {
-        is_packed(&rt, rt.alloc(), row)?;
+/// The texts of the rows are packed so, and come back.
+fn are_packed(rt: &impl Abort, alloc: Global, rows: &[Packed]) -> Result<(), Fail> {
+    for row in rows {
+        is_packed(rt, alloc, row)?;
     }
     Ok(())
+}
+
+#[test]
+fn packing(rt: HostRuntime) -> Result<(), Fail> {
+    are_packed(&rt, rt.alloc(), PACKED.as_slice())?;
+    are_packed(&rt, rt.alloc(), PACKED_AFTER_1.as_slice())?;
+    are_packed(&rt, rt.alloc(), PACKED_AFTER_2.as_slice())?;
+    are_packed(&rt, rt.alloc(), PACKED_AFTER_3.as_slice())?;
+    are_packed(&rt, rt.alloc(), PACKED_AFTER_4.as_slice())?;
+    are_packed(&rt, rt.alloc(), PACKED_AFTER_5.as_slice())?;
+    are_packed(&rt, rt.alloc(), PACKED_AFTER_6.as_slice())
 }
 
 #[test]
 fn packs_hello(rt: HostRuntime) -> Result<(), Fail> {
     let hello = septets_of(rt.alloc(), "hello")?;
     let packed = pack(rt.alloc(), &hello, 0)?;
-    are(&rt, "hello", &packed, &[0xE8, 0x32, 0x9B, 0xFD, 0x06]);
+    is(
+        &rt,
+        "hello",
+        packed.as_slice(),
+        &[0xE8, 0x32, 0x9B, 0xFD, 0x06],
+    );
     Ok(())
 }

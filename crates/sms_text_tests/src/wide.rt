@@ -1,6 +1,6 @@
 //! Texts in units of 16 bits, and their octets.
 
-use crate::found::are;
+use crate::found::is;
 use sms_text::{octets_of_units, text_of_ucs2, ucs2_of, units_of_octets};
 use std::alloc::Global;
 use std::process::Abort;
@@ -50,32 +50,17 @@ const ODD: [Odd; 2] = [
     },
 ];
 
-/// The units of a row are those that are wanted.
-fn are_units(rt: &impl Abort, row: &str, found: &[u16], wanted: &[u16]) {
-    assert_eq!(rt; found, wanted, "{row}");
-}
-
-/// The units of a row of octets are those that are wanted.
-fn are_read(rt: &impl Abort, octets: &[u8], found: &[u16], wanted: &[u16]) {
-    assert_eq!(rt; found, wanted, "{octets:?}");
-}
-
-/// The text of a row of units is the one that is wanted.
-fn is_text(rt: &impl Abort, units: &[u16], found: &str, wanted: &str) {
-    assert_eq!(rt; found, wanted, "{units:?}");
-}
-
 /// The text has these units.
 fn writes(rt: &impl Abort, alloc: Global, text: &str, units: &[u16]) -> Result<(), Fail> {
     let written = ucs2_of(alloc, text)?;
-    are_units(rt, text, &written, units);
+    is(rt, text, written.as_slice(), units);
     Ok(())
 }
 
 /// The units stand for the text.
 fn reads(rt: &impl Abort, alloc: Global, units: &[u16], text: &str) -> Result<(), Fail> {
     let read = text_of_ucs2(alloc, units)?;
-    is_text(rt, units, &read, text);
+    is(rt, units, read.as_str(), text);
     Ok(())
 }
 
@@ -88,14 +73,14 @@ fn puts(
     octets: &[u8],
 ) -> Result<(), Fail> {
     let put = octets_of_units(alloc, units)?;
-    are(rt, text, &put, octets);
+    is(rt, text, put.as_slice(), octets);
     Ok(())
 }
 
 /// The octets spell these units.
 fn takes(rt: &impl Abort, alloc: Global, octets: &[u8], units: &[u16]) -> Result<(), Fail> {
     let taken = units_of_octets(alloc, octets)?;
-    are_read(rt, octets, &taken, units);
+    is(rt, octets, taken.as_slice(), units);
     Ok(())
 }
 
