@@ -1,6 +1,6 @@
 //! Events that come to nothing, and what is told of them.
 
-use crate::two::{Two, address, answers, coming, new_two, typing};
+use crate::two::{Two, address, answers, at_last, coming, new_two, typing};
 use sms_party::{Dropped, Outcome};
 use sms_script::Network;
 use sms_world::{Event, Octets, Text, World, WorldFault};
@@ -17,59 +17,50 @@ fn two_octets(alloc: Global, up: bool, phone: usize) -> Result<Event, AllocError
     })
 }
 
-/// Events for the third phone.
-fn for_the_third(alloc: Global) -> Result<[Event; 5], AllocError> {
-    let typed = Event::Compose {
+/// The third phone types a text.
+fn third_types(alloc: Global) -> Result<Event, AllocError> {
+    Ok(Event::Compose {
         phone: 2,
         target: address(alloc, 1)?,
         text: Text::copy(alloc, "hi")?,
-    };
-    Ok([
-        typed,
-        two_octets(alloc, true, 2)?,
-        two_octets(alloc, false, 2)?,
-        Event::Timeout(2),
-        Event::Push(2),
-    ])
+    })
 }
 
-/// Each of these events is for no phone.
-fn are_for_no_phone(rt: &impl Abort, two: &mut Two, events: &[Event]) {
-    for event in events {
-        answers(rt, two, event, Err(WorldFault::NoSuchPhone));
-    }
+/// An event is for no phone.
+fn is_for_no_phone(rt: &impl Abort, two: &mut Two, event: &Event) {
+    answers(rt, two, event, Err(WorldFault::NoSuchPhone));
+}
+
+/// Nothing is typed at the third phone, and nothing comes from it or to it.
+fn third_is_not_there(rt: &impl Abort, alloc: Global, two: &mut Two) -> Result<(), Fail> {
+    is_for_no_phone(rt, two, &third_types(alloc)?);
+    is_for_no_phone(rt, two, &two_octets(alloc, true, 2)?);
+    is_for_no_phone(rt, two, &two_octets(alloc, false, 2)?);
+    is_for_no_phone(rt, two, &Event::Timeout(2));
+    is_for_no_phone(rt, two, &Event::Push(2));
+    Ok(())
+}
+
+/// The clock stops a second before the end of 2099.
+fn clock_ends(rt: &impl Abort, two: &mut Two) {
+    let (late, last) = (Event::Tick(3_155_760_000), Event::Tick(3_155_759_999));
+    answers(rt, two, &late, Err(WorldFault::ClockEnd));
+    answers(rt, two, &last, Ok(Outcome::Ticked));
 }
 
 /// Nothing was put out.
-fn nothing_was_put_out(rt: &impl Abort, world: &World) {
-    assert_eq!(rt; world.packet_count(), 0);
+fn nothing_was_put_out(rt: &impl Abort, two: &mut Two) {
+    answers(rt, two, &Event::Carry(1), Err(WorldFault::NoSuchPacket));
+    assert_eq!(rt; two.world.packet_count(), 0);
 }
 
 /// An event for the third of two phones changes nothing; the world goes on.
 #[test]
 fn there_is_no_third_phone(rt: HostRuntime) -> Result<(), Fail> {
     let mut two = new_two(rt.alloc())?;
-    let events = for_the_third(rt.alloc())?;
-    are_for_no_phone(&rt, &mut two, &events);
-    answers(
-        &rt,
-        &mut two,
-        &Event::Carry(1),
-        Err(WorldFault::NoSuchPacket),
-    );
-    answers(
-        &rt,
-        &mut two,
-        &Event::Tick(3_155_760_000),
-        Err(WorldFault::ClockEnd),
-    );
-    answers(
-        &rt,
-        &mut two,
-        &Event::Tick(3_155_759_999),
-        Ok(Outcome::Ticked),
-    );
-    nothing_was_put_out(&rt, &two.world);
+    third_is_not_there(&rt, rt.alloc(), &mut two)?;
+    clock_ends(&rt, &mut two);
+    nothing_was_put_out(&rt, &mut two);
     Ok(())
 }
 
@@ -211,17 +202,16 @@ fn a_fault_says_what_the_transcript_tells(rt: HostRuntime) -> Result<(), Fail> {
 }
 
 /// The first phone types as many texts as may wait.
-fn types_a_thousand(world: &mut World, event: &Event) -> Result<(), Fail> {
+fn types_a_thousand(two: &mut Two, event: &Event) {
     for _ in 0..1000u16 {
-        let _ = world.step(event)?;
+        let _ = at_last(two, event);
     }
-    Ok(())
 }
 
 #[test]
 fn the_transcript_tells_that_texts_wait(rt: HostRuntime) -> Result<(), Fail> {
     let mut two = new_two(rt.alloc())?;
     let event = typing(rt.alloc(), "")?;
-    types_a_thousand(&mut two.world, &event)?;
+    types_a_thousand(&mut two, &event);
     tells(&rt, rt.alloc(), &mut two.world, &event, "drop busy")
 }

@@ -18,34 +18,25 @@ fn are_stored(store: &[Entry], first: &str, second: &str) -> bool {
     }
 }
 
-/// A text of three segments is typed, accepted and pushed.
-fn pushing(alloc: Global, text: &str) -> Result<[Event; 10], AllocError> {
-    let typed = typing(alloc, text)?;
-    Ok([
-        typed,
-        Event::Carry(1),
-        Event::Carry(3),
-        Event::Carry(5),
-        Event::Carry(7),
-        Event::Carry(9),
-        Event::Carry(11),
-        Event::Push(1),
-        Event::Push(1),
-        Event::Push(1),
-    ])
+/// Carries these packets.
+fn carry(two: &mut Two, numbers: &[u64]) {
+    for number in numbers {
+        let _ = at_last(two, &Event::Carry(*number));
+    }
 }
 
-/// These events happen.
-fn happen(two: &mut Two, events: &[Event]) {
-    for event in events {
-        let _ = at_last(two, event);
+/// Pushes three segments.
+fn push_three(two: &mut Two) {
+    for _ in 0..3u8 {
+        let _ = at_last(two, &Event::Push(1));
     }
 }
 
 /// Lets a text of three segments be accepted and pushed: its segments are packets 13 to 15.
 fn pushed_text(alloc: Global, mut two: Two, text: &str) -> Result<Two, Fail> {
-    let events = pushing(alloc, text)?;
-    happen(&mut two, &events);
+    let _ = at_last(&mut two, &typing(alloc, text)?);
+    carry(&mut two, &[1, 3, 5, 7, 9, 11]);
+    push_three(&mut two);
     Ok(two)
 }
 
@@ -127,13 +118,6 @@ fn is_taken(two: &mut Two, number: u64, wanted: Outcome) -> bool {
     first == Ok(wanted) && second == Ok(Outcome::Repeat)
 }
 
-/// Pushes all three segments once more.
-fn push_again(two: &mut Two) {
-    for _ in 0..3u8 {
-        let _ = at_last(two, &Event::Push(1));
-    }
-}
-
 /// Whether a store that is full refuses the last segment of a text, also at a later push, and
 /// nothing changes: the later packets are those of before, 17 further on.
 fn is_refused_when_full(two: &mut Two, [first, second, last]: [u64; 3]) -> bool {
@@ -143,7 +127,7 @@ fn is_refused_when_full(two: &mut Two, [first, second, last]: [u64; 3]) -> bool 
     };
     let kept = is_taken(two, first, Outcome::Kept) && is_taken(two, second, Outcome::Kept);
     let full = is_twice(two, last, refused);
-    push_again(two);
+    push_three(two);
     let again = is_twice(two, last.saturating_add(17), refused)
         && is_twice(two, first.saturating_add(17), Outcome::Repeat);
     kept && full && again && is_stored(two.world.store(1), "one")
@@ -152,7 +136,7 @@ fn is_refused_when_full(two: &mut Two, [first, second, last]: [u64; 3]) -> bool 
 /// Whether a phone that has room takes the last segment of a text at a later push.
 fn is_taken_with_room(two: &mut Two, text: &str, [first, second, last]: [u64; 3]) -> bool {
     let kept = is_taken(two, first, Outcome::Kept) && is_taken(two, second, Outcome::Kept);
-    push_again(two);
+    push_three(two);
     let taken = is_taken(two, last.saturating_add(13), Outcome::Finished);
     kept && taken && are_stored(two.world.store(1), "one", text)
 }
