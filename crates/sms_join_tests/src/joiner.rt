@@ -189,10 +189,18 @@ fn answered(
     Ok(Some(is_wanted(&answer, row.want)))
 }
 
+/// The address that a row comes from.
+fn origin_of(alloc: Global, row: &Row) -> Result<Address, AllocError> {
+    match Address::from_text(alloc, row.from) {
+        Ok(origin) => Ok(origin),
+        Err(_) => Err(AllocError),
+    }
+}
+
 /// Whether an offer is answered as wanted, and where it wants memory, one more. The joiner says of the piece before and
 /// between what it said.
 fn is_answered(alloc: Global, joiner: &mut Joiner, row: &Row) -> Result<bool, AllocError> {
-    let origin = Address::from_text(alloc, row.from).map_err(|_| AllocError)?;
+    let origin = origin_of(alloc, row)?;
     let (stamp, place) = (Stamp::new([0; 7]), checked(row.place));
     let finishes = joiner.would_finish(&origin, stamp, place);
     if let Some(wanted) = answered(alloc, joiner, &origin, row)? {
@@ -203,16 +211,24 @@ fn is_answered(alloc: Global, joiner: &mut Joiner, row: &Row) -> Result<bool, Al
     Ok(same && again == Some(true))
 }
 
-/// Offers the rows to a new joiner, with two open sets at most, and says which one is answered otherwise than wanted, if
-/// any is.
-fn differs(alloc: Global, rows: &[Row]) -> Result<Option<&'static str>, AllocError> {
-    let mut joiner = Joiner::new(alloc, 2, 2)?;
+/// Offers the rows, and says which one is answered otherwise than wanted, if any is.
+fn differs_from(
+    alloc: Global,
+    joiner: &mut Joiner,
+    rows: &[Row],
+) -> Result<Option<&'static str>, AllocError> {
     for row in rows {
-        if !is_answered(alloc, &mut joiner, row)? {
+        if !is_answered(alloc, joiner, row)? {
             return Ok(Some(row.shows));
         }
     }
     Ok(None)
+}
+
+/// The same of a new joiner, with two open sets at most.
+fn differs(alloc: Global, rows: &[Row]) -> Result<Option<&'static str>, AllocError> {
+    let mut joiner = Joiner::new(alloc, 2, 2)?;
+    differs_from(alloc, &mut joiner, rows)
 }
 
 /// One set may be open, and one key is remembered.
@@ -367,20 +383,31 @@ fn finishes(
     }
 }
 
+/// Whether the set finishes as the text, where the segment of an index is offered; none where it does not finish.
+fn finishes_at(
+    alloc: Global,
+    joiner: &mut Joiner,
+    segments: &Segments,
+    text: &str,
+    index: usize,
+) -> Result<Option<bool>, Fail> {
+    let origin = Address::from_text(alloc, "+1001")?;
+    let segment = segment_at(alloc, segments, index)?;
+    finishes(joiner, &origin, segment, text)
+}
+
 /// How often the set finishes, and how often as the text, where the segments are offered in this order.
 fn times_finished(
     alloc: Global,
+    joiner: &mut Joiner,
     segments: &Segments,
     text: &str,
     order: &[usize],
 ) -> Result<(usize, usize), Fail> {
-    let origin = Address::from_text(alloc, "+1001")?;
-    let mut joiner = Joiner::new(alloc, 1, 1)?;
     let mut times = 0_usize;
     let mut right = 0_usize;
     for index in order {
-        let segment = segment_at(alloc, segments, *index)?;
-        if let Some(same) = finishes(&mut joiner, &origin, segment, text)? {
+        if let Some(same) = finishes_at(alloc, joiner, segments, text, *index)? {
             times = times.saturating_add(1);
             right = right.saturating_add(usize::from(same));
         }
@@ -397,7 +424,8 @@ fn finishes_once(
     text: &str,
     order: &[usize],
 ) -> Result<(), Fail> {
-    let times = times_finished(alloc, segments, text, order)?;
+    let mut joiner = Joiner::new(alloc, 1, 1)?;
+    let times = times_finished(alloc, &mut joiner, segments, text, order)?;
     same(rt, row, &times, &(1, 1));
     Ok(())
 }
