@@ -2,6 +2,7 @@
 
 mod sent;
 
+use crate::found::is;
 use crate::written::is_written;
 use sent::{ANSWERS, DELIVERIES, SUBMISSIONS, Sent, UNITS};
 use sms_field::{
@@ -264,21 +265,21 @@ fn agree_at(alloc: Global, octets: &[u8], place: usize) -> Result<bool, Fail> {
     Ok(true)
 }
 
-/// All agree about octets that are cut after a place.
-fn is_cut(rt: &impl Abort, says: &str, place: usize, agreed: bool) {
-    assert!(rt; agreed, "{says}, cut after {place} octets");
-}
-
-/// All agree about octets with another octet at a place.
-fn is_changed(rt: &impl Abort, says: &str, place: usize, agreed: bool) {
-    assert!(rt; agreed, "{says}, with another octet after {place} octets");
-}
-
 /// Tries each length, and each octet at each place.
 fn try_each_place(rt: &impl Abort, alloc: Global, octets: &[u8], says: &str) -> Result<(), Fail> {
     for place in 0..octets.len() {
-        is_cut(rt, says, place, all_agree(alloc, &octets[..place])?);
-        is_changed(rt, says, place, agree_at(alloc, octets, place)?);
+        is(
+            rt,
+            (says, "cut", place),
+            all_agree(alloc, &octets[..place])?,
+            true,
+        );
+        is(
+            rt,
+            (says, "changed", place),
+            agree_at(alloc, octets, place)?,
+            true,
+        );
     }
     Ok(())
 }

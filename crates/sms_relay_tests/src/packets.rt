@@ -5,10 +5,11 @@ mod rows;
 ghost use Rattle.std.specs.Prelude.{◌<◌};
 ghost use Rattle.std.specs.Option.{ForSome};
 
+use crate::found::is;
 use crate::written::is_written;
 use rows::{
     AGAIN, Again, DELIVER, DELIVER_ACK, DELIVER_ERROR, HEADER, NO_PACKETS, NO_RELAYS, PACKETS,
-    Packet, Refused, SUBMIT, SUBMIT_ACK, SUBMIT_ERROR,
+    Packet, SUBMIT, SUBMIT_ACK, SUBMIT_ERROR,
 };
 use sms_field::{Refusal, RpAddress};
 use sms_relay::{
@@ -164,20 +165,10 @@ fn is_read(alloc: Global, row: &Packet) -> Result<bool, Fail> {
     is_told(alloc, row, &message, &inner)
 }
 
-/// What is told of octets holds.
-fn holds_of(rt: &impl Abort, octets: &[u8], told: bool) {
-    assert!(rt; told, "{octets:?}");
-}
-
-/// The octets are those that are wanted.
-fn are(rt: &impl Abort, found: &[u8], wanted: &[u8]) {
-    assert_eq!(rt; found, wanted);
-}
-
 #[test]
 fn reads_and_writes_packets(rt: HostRuntime) -> Result<(), Fail> {
     for row in PACKETS.as_slice() {
-        holds_of(&rt, row.octets, is_read(rt.alloc(), row)?);
+        is(&rt, row.octets, is_read(rt.alloc(), row)?, true);
     }
     Ok(())
 }
@@ -193,7 +184,7 @@ fn acknowledges(
     requires { value < 7 }
 {
     let packet = wrap_acknowledgement(alloc, flag, value)?;
-    are(rt, &packet, wanted);
+    is(rt, (flag, value), packet.as_slice(), wanted);
     Ok(())
 }
 
@@ -203,57 +194,57 @@ fn writes_acknowledgements(rt: HostRuntime) -> Result<(), Fail> {
     acknowledges(&rt, rt.alloc(), true, 6, &[0xE9, 0x04])
 }
 
-/// The refusal of octets as a packet.
-fn refusal_of_packet(alloc: Global, octets: &[u8]) -> Option<Refusal<RelayFault>> {
+/// The place and the reason of a refusal.
+fn fault_of(refusal: Refusal<RelayFault>) -> Option<(usize, RelayFault)> {
+    match refusal {
+        Refusal::At { place, why } => Some((place, why)),
+        Refusal::Memory => None,
+    }
+}
+
+/// Where and why octets are refused as a packet.
+fn fault_of_packet(alloc: Global, octets: &[u8]) -> Option<(usize, RelayFault)> {
     match unwrap(alloc, octets) {
         Ok(_) => None,
-        Err(refusal) => Some(refusal),
+        Err(refusal) => fault_of(refusal),
     }
 }
 
-/// The refusal of octets as an RP message.
-fn refusal_of_relay(alloc: Global, octets: &[u8]) -> Option<Refusal<RelayFault>> {
+/// Where and why octets are refused as an RP message.
+fn fault_of_relay(alloc: Global, octets: &[u8]) -> Option<(usize, RelayFault)> {
     match RpMessage::read(alloc, octets) {
         Ok(_) => None,
-        Err(refusal) => Some(refusal),
+        Err(refusal) => fault_of(refusal),
     }
-}
-
-/// A refusal is the one of its row.
-fn is_refused(rt: &impl Abort, row: &Refused, refusal: Option<Refusal<RelayFault>>) {
-    let (place, why) = (row.place, row.why);
-    assert_eq!(rt;
-        refusal,
-        Some(Refusal::At { place, why }),
-        "{:?}",
-        row.octets
-    );
 }
 
 #[test]
 fn refuses_what_is_no_packet(rt: HostRuntime) {
     for row in NO_PACKETS.as_slice() {
-        is_refused(&rt, row, refusal_of_packet(rt.alloc(), row.octets));
+        let fault = fault_of_packet(rt.alloc(), row.octets);
+        is(&rt, row.octets, fault, Some((row.place, row.why)));
     }
 }
 
 #[test]
 fn refuses_what_is_no_relay(rt: HostRuntime) {
     for row in NO_RELAYS.as_slice() {
-        is_refused(&rt, row, refusal_of_relay(rt.alloc(), row.octets));
+        let fault = fault_of_relay(rt.alloc(), row.octets);
+        is(&rt, row.octets, fault, Some((row.place, row.why)));
     }
 }
 
-/// As many octets of a row are used.
-fn uses(rt: &impl Abort, row: &Again, used: usize) {
-    assert_eq!(rt; used, row.written.len(), "{:?}", row.octets);
+/// How many octets of a row are used, and whether its message is written as it tells.
+fn used_and_written(alloc: Global, row: &Again) -> Result<(usize, bool), Fail> {
+    let (message, used) = RpMessage::read(alloc, row.octets)?;
+    let written = is_written(alloc, &message, row.written)?;
+    Ok((used, written))
 }
 
 /// The message of a row is written as it tells.
 fn is_again(rt: &impl Abort, alloc: Global, row: &Again) -> Result<(), Fail> {
-    let (message, used) = RpMessage::read(alloc, row.octets)?;
-    uses(rt, row, used);
-    holds_of(rt, row.octets, is_written(alloc, &message, row.written)?);
+    let found = used_and_written(alloc, row)?;
+    is(rt, row.octets, found, (row.written.len(), true));
     Ok(())
 }
 
@@ -426,51 +417,38 @@ fn comes_back<U: Unit>(alloc: Global, octets: &[u8]) -> Result<bool, Fail> {
     is_carried(alloc, &unit, octets)
 }
 
-/// What is told of a unit holds.
-fn is_back(rt: &impl Abort, unit: &str, told: bool) {
-    assert!(rt; told, "{unit}");
+/// The unit that is read from octets comes back.
+fn is_back<U: Unit>(rt: &impl Abort, alloc: Global, name: &str, octets: &[u8]) -> Result<(), Fail> {
+    let told = comes_back::<U>(alloc, octets)?;
+    is(rt, name, told, true);
+    Ok(())
 }
 
 #[test]
 fn units_come_back(rt: HostRuntime) -> Result<(), Fail> {
     let alloc = rt.alloc();
-    is_back(&rt, "header", comes_back::<Header>(alloc, HEADER)?);
-    is_back(&rt, "submit", comes_back::<Submit>(alloc, SUBMIT)?);
-    is_back(&rt, "deliver", comes_back::<Deliver>(alloc, DELIVER)?);
-    is_back(
-        &rt,
-        "submit-ack",
-        comes_back::<SubmitAck>(alloc, SUBMIT_ACK)?,
-    );
-    is_back(
-        &rt,
-        "submit-error",
-        comes_back::<SubmitError>(alloc, SUBMIT_ERROR)?,
-    );
-    is_back(
-        &rt,
-        "deliver-ack",
-        comes_back::<DeliverAck>(alloc, DELIVER_ACK)?,
-    );
-    is_back(
-        &rt,
-        "deliver-error",
-        comes_back::<DeliverError>(alloc, DELIVER_ERROR)?,
-    );
-    Ok(())
+    is_back::<Header>(&rt, alloc, "header", HEADER)?;
+    is_back::<Submit>(&rt, alloc, "submit", SUBMIT)?;
+    is_back::<Deliver>(&rt, alloc, "deliver", DELIVER)?;
+    is_back::<SubmitAck>(&rt, alloc, "submit-ack", SUBMIT_ACK)?;
+    is_back::<SubmitError>(&rt, alloc, "submit-error", SUBMIT_ERROR)?;
+    is_back::<DeliverAck>(&rt, alloc, "deliver-ack", DELIVER_ACK)?;
+    is_back::<DeliverError>(&rt, alloc, "deliver-error", DELIVER_ERROR)
 }
 
 #[test]
 fn wraps_an_error_without_a_unit(rt: HostRuntime) -> Result<(), Fail> {
     let refused = wrap_answer::<Header>(rt.alloc(), true, 0, Side::ToPhone, 5, Some(96), None)?;
-    are(&rt, &refused, b"\x89\x01\x04\x05\x05\x01\x60");
+    let wanted: &[u8] = b"\x89\x01\x04\x05\x05\x01\x60";
+    is(&rt, "error", refused.as_slice(), wanted);
     Ok(())
 }
 
 #[test]
 fn wraps_an_acknowledgement_without_a_unit(rt: HostRuntime) -> Result<(), Fail> {
     let taken = wrap_answer::<Header>(rt.alloc(), false, 6, Side::FromPhone, 255, None, None)?;
-    are(&rt, &taken, b"\x69\x01\x02\x02\xFF");
+    let wanted: &[u8] = b"\x69\x01\x02\x02\xFF";
+    is(&rt, "ack", taken.as_slice(), wanted);
     Ok(())
 }
 
@@ -496,15 +474,10 @@ fn wrapped_long(alloc: Global, count: u8) -> Result<Option<WrapFault>, Fail> {
     Ok(refusal_of(alloc, &unit))
 }
 
-/// Wrapping a CP message that has user data of a number of octets answers this.
-fn wraps(rt: &impl Abort, count: u8, found: Option<WrapFault>, wanted: Option<WrapFault>) {
-    assert_eq!(rt; found, wanted, "{count}");
-}
-
 #[test]
 fn wraps_233_octets(rt: HostRuntime) -> Result<(), Fail> {
-    wraps(&rt, 230, wrapped_long(rt.alloc(), 230)?, None);
+    is(&rt, 230, wrapped_long(rt.alloc(), 230)?, None);
     let refused = wrapped_long(rt.alloc(), 231)?;
-    wraps(&rt, 231, refused, Some(WrapFault::DataTooLong));
+    is(&rt, 231, refused, Some(WrapFault::DataTooLong));
     Ok(())
 }
