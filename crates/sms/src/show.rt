@@ -108,14 +108,22 @@ pub fn show_centre<'a, W: Write>(
     Ok(&octets[used..])
 }
 
-/// Writes the fields of an SMS-DELIVER.
-fn show_deliver<W: Write>(alloc: Global, octets: &[u8], lines: &mut Lines<W>) -> Result<(), Fault> {
-    let (deliver, used) = DeliverView::read(octets)?;
+/// The lines of what an SMS-DELIVER has before its address.
+fn put_deliver_front<W: Write>(
+    lines: &mut Lines<W>,
+    deliver: &DeliverView<'_>,
+) -> Result<(), Fault> {
     lines.put("type", "deliver")?;
     lines.put("more", Answer(deliver.more))?;
     lines.put("loop", Answer(deliver.looped))?;
     lines.put("report", Answer(deliver.report))?;
-    lines.put("reply", Answer(deliver.reply))?;
+    lines.put("reply", Answer(deliver.reply))
+}
+
+/// Writes the fields of an SMS-DELIVER.
+fn show_deliver<W: Write>(alloc: Global, octets: &[u8], lines: &mut Lines<W>) -> Result<(), Fault> {
+    let (deliver, used) = DeliverView::read(octets)?;
+    put_deliver_front(lines, &deliver)?;
     put_party(alloc, lines, "from", &deliver.origin)?;
     lines.put("pid", Hexadecimal(&[deliver.pid]))?;
     lines.put("dcs", Hexadecimal(&[deliver.dcs]))?;
@@ -124,14 +132,19 @@ fn show_deliver<W: Write>(alloc: Global, octets: &[u8], lines: &mut Lines<W>) ->
     lines.put_rest(&octets[used..])
 }
 
-/// Writes the fields of an SMS-SUBMIT.
-fn show_submit<W: Write>(alloc: Global, octets: &[u8], lines: &mut Lines<W>) -> Result<(), Fault> {
-    let (submit, used) = SubmitView::read(octets)?;
+/// The lines of what an SMS-SUBMIT has before its address.
+fn put_submit_front<W: Write>(lines: &mut Lines<W>, submit: &SubmitView<'_>) -> Result<(), Fault> {
     lines.put("type", "submit")?;
     lines.put("reject", Answer(submit.reject))?;
     lines.put("report", Answer(submit.report))?;
     lines.put("reply", Answer(submit.reply))?;
-    lines.put("reference", Hexadecimal(&[submit.reference]))?;
+    lines.put("reference", Hexadecimal(&[submit.reference]))
+}
+
+/// Writes the fields of an SMS-SUBMIT.
+fn show_submit<W: Write>(alloc: Global, octets: &[u8], lines: &mut Lines<W>) -> Result<(), Fault> {
+    let (submit, used) = SubmitView::read(octets)?;
+    put_submit_front(lines, &submit)?;
     put_party(alloc, lines, "to", &submit.target)?;
     lines.put("pid", Hexadecimal(&[submit.pid]))?;
     lines.put("dcs", Hexadecimal(&[submit.dcs]))?;

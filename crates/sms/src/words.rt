@@ -143,7 +143,8 @@ fn show_command<'a>(alloc: Global) -> Result<Command<'a>, AllocError> {
         .arg(flag(alloc, "sca", "The address of a service centre comes first"))
 }
 
-fn encode_command<'a>(alloc: Global) -> Result<Command<'a>, AllocError> {
+/// `encode` without its options.
+fn encode_words<'a>(alloc: Global) -> Result<Command<'a>, AllocError> {
     Command::new(alloc, "encode")
         .about("Prints the octets of a unit with a text in one piece")
         .arg(kind_word(alloc, DRAFT_KINDS.as_slice(), "Which unit"))?
@@ -152,7 +153,11 @@ fn encode_command<'a>(alloc: Global) -> Result<Command<'a>, AllocError> {
             "ADDRESS",
             "The other party: digits, + and digits, or a name",
         ))?
-        .arg(word(alloc, "TEXT", "The text"))?
+        .arg(word(alloc, "TEXT", "The text"))
+}
+
+fn encode_command<'a>(alloc: Global) -> Result<Command<'a>, AllocError> {
+    encode_words(alloc)?
         .arg(octet_option(alloc, "mr", "submit: TP-MR, 0 unless given"))?
         .arg(flag(
             alloc,
@@ -194,13 +199,18 @@ fn play_command<'a>(alloc: Global) -> Command<'a> {
         .after_help(SCRIPT_HELP)
 }
 
-fn whole_command<'a>(alloc: Global) -> Result<Command<'a>, AllocError> {
+/// The command that shows and encodes units.
+fn unit_command<'a>(alloc: Global) -> Result<Command<'a>, AllocError> {
     Command::new(alloc, "sms")
         .about("Reads and writes short messages")
         .version(VERSION)
         .subcommand_required(true)
         .subcommand(show_command(alloc)?)?
-        .subcommand(encode_command(alloc)?)?
+        .subcommand(encode_command(alloc)?)
+}
+
+fn whole_command<'a>(alloc: Global) -> Result<Command<'a>, AllocError> {
+    unit_command(alloc)?
         .subcommand(split_command(alloc)?)?
         .subcommand(play_command(alloc))
 }
@@ -271,14 +281,17 @@ fn request_of<'a>(name: &str, found: &ArgMatches<'a>) -> Option<Request<'a>> {
     }
 }
 
+/// What the subcommand that was found asks for.
+fn found_request<'a>(matches: &ArgMatches<'a>) -> Option<Request<'a>> {
+    let (name, found) = matches.subcommand()?;
+    request_of(name, found)
+}
+
 /// What the words ask for, the program's name first.
 pub fn parse_words<'a, S: AsStr>(alloc: Global, words: &'a [S]) -> Result<Request<'a>, Error> {
     let mut command = whole_command(alloc)?;
     let matches = command.try_get_matches_from_mut(words)?;
-    let Some((name, found)) = matches.subcommand() else {
-        return Err(command.error(ErrorKind::MissingSubcommand, "a subcommand is required")?);
-    };
-    match request_of(name, found) {
+    match found_request(&matches) {
         Some(request) => Ok(request),
         None => Err(command.error(ErrorKind::InvalidSubcommand, "unknown subcommand or kind")?),
     }
