@@ -6,19 +6,22 @@ mod splits;
 mod widths;
 
 use super::*;
-use crate::printed::Escaped;
 use rows::{
-    AFTER_CENTRES, AfterCentre, DELIVERIES, EXPLAINED, Encoded, Filled, HEADERS, HELLO,
-    HELLO_SHOWN, LONG_TEXTS, LongText, MORE_DELIVERIES, NO_DELIVERIES, NO_SUBMISSIONS, NO_UNITS,
-    NotEncoded, SUBMISSIONS, TOO_FULL, TWO_PIECES, UNITS,
+    AFTER_CENTRES, AfterCentre, BREAKING, CODINGS, DELIVERY_FLAGS, ELEMENTS, ENCODE_WORDS,
+    ENCODED_OPTIONS, ENCODED_TEXTS, Encoded, Explained, Filled, HEADERS, HELLO, HELLO_SHOWN,
+    LONG_TEXTS, LongText, NAMES, NO_ADDRESSES, NO_DELIVERIES, NO_OPTIONS, NO_SUBMISSIONS,
+    NotEncoded, ORIGINS, PLACES, SHOW_WORDS, SPLIT_WORDS, STAMPS, SUBMISSIONS, Shown, TELEPHONES,
+    TELEPHONES_OF_EACH_LENGTH, TEXTS, TOO_FULL, TWO_PIECES, TooFull, TwoPieces, VALIDITIES,
+    WHOLE_WORDS, WIDE_TEXTS,
 };
+use std::process::Abort;
 use std::test::Fail;
 
 /// The status and the whole output.
-fn answer_to(rt: &HostRuntime, words: &[&str]) -> Result<(u8, String), Fail> {
+fn answer_to(alloc: Global, words: &[&str]) -> Result<(u8, String), Fail> {
     let mut input = b"".as_slice();
-    let mut output = Vec::new(rt.alloc());
-    let status = command(rt.alloc(), words, &mut input, &mut output);
+    let mut output = Vec::new(alloc);
+    let status = command(alloc, words, &mut input, &mut output);
     Ok((status, String::from_utf8(output)?))
 }
 
@@ -28,96 +31,147 @@ fn says(answer: &str, part: &str) -> bool {
 }
 
 /// Whether octets are shown as a unit with these lines.
-fn is_shown(rt: &HostRuntime, kind: &str, octets: &str, lines: &str) -> Result<bool, Fail> {
-    let (status, text) = answer_to(rt, &["sms", "show", kind, octets])?;
+fn is_shown(alloc: Global, kind: &str, octets: &str, lines: &str) -> Result<bool, Fail> {
+    let (status, text) = answer_to(alloc, &["sms", "show", kind, octets])?;
     Ok(status == 0 && says(&text, lines))
+}
+
+/// The octets of each row are shown as a unit with its lines, and perhaps others.
+fn are_shown(rt: &impl Abort, alloc: Global, kind: &str, rows: &[Shown]) -> Result<(), Fail> {
+    for row in rows {
+        let shown = is_shown(alloc, kind, row.octets, row.lines)?;
+        assert!(rt; shown, "{kind} {}", row.octets);
+    }
+    Ok(())
+}
+
+/// Whether octets as a kind have a status and an answer.
+fn is_answered(
+    alloc: Global,
+    kind: &str,
+    octets: &str,
+    lines: &str,
+    wanted: u8,
+) -> Result<bool, Fail> {
+    let (status, answer) = answer_to(alloc, &["sms", "show", kind, octets])?;
+    Ok(status == wanted && answer.as_str() == lines)
+}
+
+/// The octets of each row as a kind have a status, and its lines as their answer.
+fn are_answered(
+    rt: &impl Abort,
+    alloc: Global,
+    kind: &str,
+    rows: &[Shown],
+    status: u8,
+) -> Result<(), Fail> {
+    for row in rows {
+        let answered = is_answered(alloc, kind, row.octets, row.lines, status)?;
+        assert!(rt; answered, "{kind} {}", row.octets);
+    }
+    Ok(())
 }
 
 #[test]
 fn shows_deliveries(rt: HostRuntime) -> Result<(), Fail> {
-    for row in DELIVERIES.as_slice() {
-        let shown = is_shown(&rt, "deliver", row.octets, row.lines)?;
-        assert!(rt; shown, "{}", row.octets);
-    }
-    Ok(())
+    are_shown(&rt, rt.alloc(), "deliver", DELIVERY_FLAGS.as_slice())?;
+    are_shown(&rt, rt.alloc(), "deliver", ORIGINS.as_slice())?;
+    are_shown(&rt, rt.alloc(), "deliver", CODINGS.as_slice())?;
+    are_shown(&rt, rt.alloc(), "deliver", STAMPS.as_slice())
 }
 
 #[test]
-fn shows_more_deliveries(rt: HostRuntime) -> Result<(), Fail> {
-    for row in MORE_DELIVERIES.as_slice() {
-        let shown = is_shown(&rt, "deliver", row.octets, row.lines)?;
-        assert!(rt; shown, "{}", row.octets);
-    }
-    Ok(())
+fn shows_data_of_deliveries(rt: HostRuntime) -> Result<(), Fail> {
+    are_shown(&rt, rt.alloc(), "deliver", TEXTS.as_slice())?;
+    are_shown(&rt, rt.alloc(), "deliver", WIDE_TEXTS.as_slice())?;
+    are_shown(&rt, rt.alloc(), "deliver", PLACES.as_slice())?;
+    are_shown(&rt, rt.alloc(), "deliver", ELEMENTS.as_slice())
 }
 
 #[test]
 fn shows_submissions(rt: HostRuntime) -> Result<(), Fail> {
-    for row in SUBMISSIONS.as_slice() {
-        let shown = is_shown(&rt, "submit", row.octets, row.lines)?;
-        assert!(rt; shown, "{}", row.octets);
-    }
-    Ok(())
+    are_shown(&rt, rt.alloc(), "submit", SUBMISSIONS.as_slice())?;
+    are_shown(&rt, rt.alloc(), "submit", VALIDITIES.as_slice())
 }
 
 #[test]
 fn shows_a_whole_delivery(rt: HostRuntime) -> Result<(), Fail> {
-    let (status, text) = answer_to(&rt, &["sms", "show", "deliver", HELLO])?;
-    assert_eq!(rt; status, 0);
-    assert_eq!(rt; text.as_str(), HELLO_SHOWN);
+    let shown = is_answered(rt.alloc(), "deliver", HELLO, HELLO_SHOWN, 0)?;
+    assert!(rt; shown);
     Ok(())
 }
 
 /// Whether octets that begin with a centre have the status and the answer of a row.
-fn is_answered_after_a_centre(rt: &HostRuntime, row: &AfterCentre) -> Result<bool, Fail> {
-    let (status, answer) = answer_to(rt, &["sms", "show", "--sca", row.kind, row.octets])?;
+fn is_answered_after_a_centre(alloc: Global, row: &AfterCentre) -> Result<bool, Fail> {
+    let (status, answer) = answer_to(alloc, &["sms", "show", "--sca", row.kind, row.octets])?;
     Ok(status == row.status && answer.as_str() == row.answer)
+}
+
+/// The octets of each row, which begin with a centre, have its status and its answer.
+fn are_answered_after_a_centre(
+    rt: &impl Abort,
+    alloc: Global,
+    rows: &[AfterCentre],
+) -> Result<(), Fail> {
+    for row in rows {
+        let answered = is_answered_after_a_centre(alloc, row)?;
+        assert!(rt; answered, "{} {}", row.kind, row.octets);
+    }
+    Ok(())
 }
 
 #[test]
 fn shows_what_stands_after_a_centre(rt: HostRuntime) -> Result<(), Fail> {
-    for row in AFTER_CENTRES.as_slice() {
-        let shown = is_answered_after_a_centre(&rt, row)?;
-        assert!(rt; shown, "{} {}", row.kind, row.octets);
-    }
-    Ok(())
+    are_answered_after_a_centre(&rt, rt.alloc(), AFTER_CENTRES.as_slice())
 }
 
 #[test]
-fn refuses_what_is_no_unit(rt: HostRuntime) -> Result<(), Fail> {
-    for row in NO_DELIVERIES.as_slice() {
-        let (status, answer) = answer_to(&rt, &["sms", "show", "deliver", row.octets])?;
-        assert_eq!(rt; status, 1, "{}", row.octets);
-        assert_eq!(rt; answer.as_str(), row.line, "{}", row.octets);
-    }
-    for row in NO_SUBMISSIONS.as_slice() {
-        let (status, answer) = answer_to(&rt, &["sms", "show", "submit", row.octets])?;
-        assert_eq!(rt; status, 1, "{}", row.octets);
-        assert_eq!(rt; answer.as_str(), row.line, "{}", row.octets);
-    }
-    Ok(())
+fn refuses_what_is_no_delivery(rt: HostRuntime) -> Result<(), Fail> {
+    are_answered(&rt, rt.alloc(), "deliver", NO_DELIVERIES.as_slice(), 1)
+}
+
+#[test]
+fn refuses_what_is_no_submission(rt: HostRuntime) -> Result<(), Fail> {
+    are_answered(&rt, rt.alloc(), "submit", NO_SUBMISSIONS.as_slice(), 1)
+}
+
+/// Whether a front of the octets of a unit is refused as short at its end.
+fn is_missed(alloc: Global, kind: &str, front: &str) -> Result<bool, Fail> {
+    let line = format!(in alloc; "at {}: short\n", front.len() / 2)?;
+    is_answered(alloc, kind, front, &line, 1)
 }
 
 #[test]
 fn misses_each_octet_of_a_delivery(rt: HostRuntime) -> Result<(), Fail> {
     for place in 0..28 {
-        let octets = HELLO.get(..2 * place).ok_or("no front")?;
-        let line = format!(in rt.alloc(); "at {place}: short\n")?;
-        let answer = answer_to(&rt, &["sms", "show", "deliver", octets])?;
-        assert_eq!(rt; answer.0, 1, "{octets}");
-        assert_eq!(rt; answer.1, line, "{octets}");
+        let front = HELLO.get(..2 * place).ok_or("no front")?;
+        let missed = is_missed(rt.alloc(), "deliver", front)?;
+        assert!(rt; missed, "{front}");
+    }
+    Ok(())
+}
+
+/// Whether words have the status of a row, and its part in their answer.
+fn is_explained(alloc: Global, row: &Explained) -> Result<bool, Fail> {
+    let (status, text) = answer_to(alloc, row.words)?;
+    Ok(status == row.status && says(&text, row.part))
+}
+
+/// The words of each row have its status, and its part in their answer.
+fn are_explained(rt: &impl Abort, alloc: Global, rows: &[Explained]) -> Result<(), Fail> {
+    for row in rows {
+        let explained = is_explained(alloc, row)?;
+        assert!(rt; explained, "{:?}", row.words);
     }
     Ok(())
 }
 
 #[test]
 fn explains_the_words(rt: HostRuntime) -> Result<(), Fail> {
-    for row in EXPLAINED.as_slice() {
-        let (status, text) = answer_to(&rt, row.words)?;
-        assert_eq!(rt; status, row.status, "{:?}", row.words);
-        assert!(rt; says(&text, row.part), "{:?}: {text}", row.words);
-    }
-    Ok(())
+    are_explained(&rt, rt.alloc(), WHOLE_WORDS.as_slice())?;
+    are_explained(&rt, rt.alloc(), SHOW_WORDS.as_slice())?;
+    are_explained(&rt, rt.alloc(), ENCODE_WORDS.as_slice())?;
+    are_explained(&rt, rt.alloc(), SPLIT_WORDS.as_slice())
 }
 
 #[test]
@@ -133,78 +187,94 @@ fn fails_where_the_output_is_full(rt: HostRuntime) -> Result<(), Fail> {
     Ok(())
 }
 
-#[test]
-fn escapes_what_would_break_a_line(rt: HostRuntime) -> Result<(), Fail> {
-    let text = Escaped("\u{0}\t\u{b}\u{1b}\u{1f} \u{7f}\\x41é€ж😀").to_string(rt.alloc())?;
-    assert_eq!(rt; text.as_str(), "\\x00\\x09\\x0b\\x1b\\x1f \\x7f\\\\x41é€ж😀");
-    Ok(())
-}
-
 /// The status and the answer to `encode`, without its line feed.
 fn encoding_of(
-    rt: &HostRuntime,
+    alloc: Global,
     kind: &str,
     options: &[&str],
     address: &str,
     text: &str,
 ) -> Result<(u8, String), Fail> {
-    let mut words = Vec::from_slice(rt.alloc(), &["sms", "encode", kind])?;
+    let mut words = Vec::from_slice(alloc, &["sms", "encode", kind])?;
     words.extend_from_slice(options)?;
     words.extend_from_slice(&["--", address, text])?;
-    let (status, answer) = answer_to(rt, words.as_slice())?;
+    let (status, answer) = answer_to(alloc, words.as_slice())?;
     let line = answer.strip_suffix('\n').ok_or("no line")?;
-    Ok((status, String::from_str(rt.alloc(), line)?))
+    Ok((status, String::from_str(alloc, line)?))
 }
 
-/// Whether octets are shown as a unit with an address and a text.
-fn comes_back(
-    rt: &HostRuntime,
-    kind: &str,
-    octets: &str,
-    address: &str,
-    text: &str,
-) -> Result<bool, Fail> {
-    let party = if kind == "submit" { "to" } else { "from" };
-    let party = format!(in rt.alloc(); "\n{party}: {}\n", Escaped(address))?;
-    let last = format!(in rt.alloc(); "\ntext: {}\n", Escaped(text))?;
-    let (status, lines) = answer_to(rt, &["sms", "show", kind, octets])?;
+/// Whether words are encoded as the octets of a row.
+fn is_encoded(alloc: Global, row: &Encoded) -> Result<bool, Fail> {
+    let (status, answer) = encoding_of(alloc, row.kind, row.options, row.address, row.text)?;
+    Ok(status == 0 && answer.as_str() == row.octets)
+}
+
+/// Whether the octets of a row are shown with this address and this text.
+fn comes_back(alloc: Global, row: &Encoded, address: &str, text: &str) -> Result<bool, Fail> {
+    let party = if row.kind == "submit" { "to" } else { "from" };
+    let party = format!(in alloc; "\n{party}: {address}\n")?;
+    let last = format!(in alloc; "\ntext: {text}\n")?;
+    let (status, lines) = answer_to(alloc, &["sms", "show", row.kind, row.octets])?;
     Ok(status == 0 && says(&lines, &party) && says(&lines, &last))
 }
 
-/// Whether a row of what can be encoded gives its octets, and these are shown as what went in.
-fn is_encoded(rt: &HostRuntime, row: &Encoded) -> Result<bool, Fail> {
-    let (status, answer) = encoding_of(rt, row.kind, row.options, row.address, row.text)?;
-    let again = comes_back(rt, row.kind, row.octets, row.address, row.text)?;
-    Ok(status == 0 && answer.as_str() == row.octets && again)
+/// Whether a row of what cannot be encoded gives its status and its line.
+fn is_refused(alloc: Global, row: &NotEncoded) -> Result<bool, Fail> {
+    let (status, answer) = encoding_of(alloc, row.kind, row.options, row.address, row.text)?;
+    Ok(status == row.status && answer.as_str() == row.line)
 }
 
-/// Whether a row of what cannot be encoded gives its status and its line.
-fn is_refused(rt: &HostRuntime, row: &NotEncoded) -> Result<bool, Fail> {
-    let (status, answer) = encoding_of(rt, row.kind, row.options, row.address, row.text)?;
-    Ok(status == row.status && answer.as_str() == row.line)
+/// The words of each row are encoded as its octets, and these are shown as what went in.
+fn are_encoded(rt: &impl Abort, alloc: Global, rows: &[Encoded]) -> Result<(), Fail> {
+    for row in rows {
+        let encoded = is_encoded(alloc, row)?;
+        let shown = comes_back(alloc, row, row.address, row.text)?;
+        assert!(rt; encoded && shown, "{} {}", row.address, row.text);
+    }
+    Ok(())
+}
+
+#[test]
+fn encodes_addresses(rt: HostRuntime) -> Result<(), Fail> {
+    are_encoded(&rt, rt.alloc(), TELEPHONES.as_slice())?;
+    are_encoded(&rt, rt.alloc(), TELEPHONES_OF_EACH_LENGTH.as_slice())?;
+    are_encoded(&rt, rt.alloc(), NAMES.as_slice())
 }
 
 #[test]
 fn encodes_units(rt: HostRuntime) -> Result<(), Fail> {
-    for row in UNITS.as_slice() {
-        let encoded = is_encoded(&rt, row)?;
-        assert!(rt; encoded, "{} {}", row.address, row.text);
+    are_encoded(&rt, rt.alloc(), ENCODED_OPTIONS.as_slice())?;
+    are_encoded(&rt, rt.alloc(), ENCODED_TEXTS.as_slice())
+}
+
+#[test]
+fn escapes_what_would_break_a_line(rt: HostRuntime) -> Result<(), Fail> {
+    for row in BREAKING.as_slice() {
+        let encoded = is_encoded(rt.alloc(), &row.unit)?;
+        let shown = comes_back(rt.alloc(), &row.unit, row.address, row.text)?;
+        assert!(rt; encoded && shown, "{} {}", row.address, row.text);
+    }
+    Ok(())
+}
+
+/// The words of each row have its status and its line.
+fn are_refused(rt: &impl Abort, alloc: Global, rows: &[NotEncoded]) -> Result<(), Fail> {
+    for row in rows {
+        let refused = is_refused(alloc, row)?;
+        assert!(rt; refused, "{} {}", row.address, row.text);
     }
     Ok(())
 }
 
 #[test]
 fn refuses_what_is_not_encoded(rt: HostRuntime) -> Result<(), Fail> {
-    for row in NO_UNITS.as_slice() {
-        let refused = is_refused(&rt, row)?;
-        assert!(rt; refused, "{} {}", row.address, row.text);
-    }
-    Ok(())
+    are_refused(&rt, rt.alloc(), NO_ADDRESSES.as_slice())?;
+    are_refused(&rt, rt.alloc(), NO_OPTIONS.as_slice())
 }
 
 /// A text, as many times as are asked for.
-fn repeated(rt: &HostRuntime, part: &str, times: usize) -> Result<String, Fail> {
-    let mut text = String::new(rt.alloc());
+fn repeated(alloc: Global, part: &str, times: usize) -> Result<String, Fail> {
+    let mut text = String::new(alloc);
     for _ in 0..times {
         text.push_str(part)?;
     }
@@ -212,25 +282,20 @@ fn repeated(rt: &HostRuntime, part: &str, times: usize) -> Result<String, Fail> 
 }
 
 /// The status and the answer to a delivery with a header, by its coding scheme, length and data.
-fn shown_data(
-    rt: &HostRuntime,
-    scheme: &str,
-    length: &str,
-    data: &str,
-) -> Result<(u8, String), Fail> {
-    let octets = format!(in rt.alloc(); "440491101000{scheme}00101000000000{length}{data}")?;
-    answer_to(rt, &["sms", "show", "deliver", &octets])
+fn shown_data(alloc: Global, scheme: &str, length: &str, data: &str) -> Result<(u8, String), Fail> {
+    let octets = format!(in alloc; "440491101000{scheme}00101000000000{length}{data}")?;
+    answer_to(alloc, &["sms", "show", "deliver", &octets])
 }
 
 /// Whether data that are full are shown after their header under each alphabet.
-fn is_full(rt: &HostRuntime, row: &Filled, data: &str) -> Result<bool, Fail> {
-    let ones = repeated(rt, "FF", row.ones)?;
-    let text = repeated(rt, "à", row.septets)?;
-    let text_line = format!(in rt.alloc(); "\ntext: {text}\n")?;
-    let data_line = format!(in rt.alloc(); "\ndata: {}{ones}\n", row.first)?;
-    let septets = shown_data(rt, "00", "A0", data)?;
-    let octets = shown_data(rt, "04", "8C", data)?;
-    let units = shown_data(rt, "08", "8C", data)?;
+fn is_full(alloc: Global, row: &Filled, data: &str) -> Result<bool, Fail> {
+    let ones = repeated(alloc, "FF", row.ones)?;
+    let text = repeated(alloc, "à", row.septets)?;
+    let text_line = format!(in alloc; "\ntext: {text}\n")?;
+    let data_line = format!(in alloc; "\ndata: {}{ones}\n", row.first)?;
+    let septets = shown_data(alloc, "00", "A0", data)?;
+    let octets = shown_data(alloc, "04", "8C", data)?;
+    let units = shown_data(alloc, "08", "8C", data)?;
     Ok(
         (septets.0, octets.0, units.0) == (0, 0, 0)
             && says(&septets.1, &text_line)
@@ -239,57 +304,80 @@ fn is_full(rt: &HostRuntime, row: &Filled, data: &str) -> Result<bool, Fail> {
 }
 
 /// Whether data are refused after their header under a coding scheme, at a length above the greatest.
-fn is_too_full(rt: &HostRuntime, scheme: &str, length: &str, data: &str) -> Result<bool, Fail> {
-    let (status, answer) = shown_data(rt, scheme, length, data)?;
+fn is_too_full(alloc: Global, scheme: &str, length: &str, data: &str) -> Result<bool, Fail> {
+    let (status, answer) = shown_data(alloc, scheme, length, data)?;
     Ok(status == 1 && answer.as_str() == "at 14: data too long\n")
+}
+
+/// The header of a row, and the data that fill what it leaves.
+fn filled(alloc: Global, row: &Filled) -> Result<String, Fail> {
+    let ones = repeated(alloc, "FF", row.ones)?;
+    Ok(format!(in alloc; "{}{}{ones}", row.header, row.first)?)
 }
 
 #[test]
 fn shows_what_fits_after_a_header(rt: HostRuntime) -> Result<(), Fail> {
     for row in HEADERS.as_slice() {
-        let ones = repeated(&rt, "FF", row.ones)?;
-        let data = format!(in rt.alloc(); "{}{}{ones}", row.header, row.first)?;
-        let shown = is_full(&rt, row, &data)?;
+        let data = filled(rt.alloc(), row)?;
+        let shown = is_full(rt.alloc(), row, &data)?;
         assert!(rt; shown, "{}", row.header);
-        for full in TOO_FULL.as_slice() {
-            let refused = is_too_full(&rt, full.scheme, full.length, &data)?;
-            assert!(rt; refused, "{} {}", row.header, full.scheme);
-        }
+    }
+    Ok(())
+}
+
+/// Data that fill what a header leaves are refused at each length above the greatest.
+fn are_too_full(
+    rt: &impl Abort,
+    alloc: Global,
+    data: &str,
+    lengths: &[TooFull],
+) -> Result<(), Fail> {
+    for full in lengths {
+        let refused = is_too_full(alloc, full.scheme, full.length, data)?;
+        assert!(rt; refused, "{} {data}", full.scheme);
+    }
+    Ok(())
+}
+
+#[test]
+fn refuses_what_does_not_fit_after_a_header(rt: HostRuntime) -> Result<(), Fail> {
+    for row in HEADERS.as_slice() {
+        let data = filled(rt.alloc(), row)?;
+        are_too_full(&rt, rt.alloc(), &data, TOO_FULL.as_slice())?;
     }
     Ok(())
 }
 
 /// Whether a text of one character is encoded as the octets of a row.
-fn is_long(rt: &HostRuntime, row: &LongText) -> Result<bool, Fail> {
-    let text = repeated(rt, row.character, row.count)?;
-    let middle = repeated(rt, row.part, row.times)?;
-    let (status, answer) = encoding_of(rt, "submit", &[], "", &text)?;
-    let octets = format!(in rt.alloc(); "{}{middle}{}", row.first, row.last)?;
+fn is_long(alloc: Global, row: &LongText) -> Result<bool, Fail> {
+    let text = repeated(alloc, row.character, row.count)?;
+    let middle = repeated(alloc, row.part, row.times)?;
+    let (status, answer) = encoding_of(alloc, "submit", &[], "", &text)?;
+    let octets = format!(in alloc; "{}{middle}{}", row.first, row.last)?;
     Ok(status == 0 && answer == octets)
 }
 
 #[test]
 fn encodes_what_fits_one_piece(rt: HostRuntime) -> Result<(), Fail> {
     for row in LONG_TEXTS.as_slice() {
-        let encoded = is_long(&rt, row)?;
+        let encoded = is_long(rt.alloc(), row)?;
         assert!(rt; encoded, "{} {}", row.character, row.count);
     }
     Ok(())
 }
 
+/// Whether a text of one character is refused as one of two pieces.
+fn is_too_long(alloc: Global, row: &TwoPieces) -> Result<bool, Fail> {
+    let text = repeated(alloc, row.character, row.count)?;
+    let (status, answer) = encoding_of(alloc, row.kind, &[], "+1002", &text)?;
+    Ok(status == 1 && answer.as_str() == "text too long")
+}
+
 #[test]
 fn refuses_a_text_of_two_pieces(rt: HostRuntime) -> Result<(), Fail> {
     for row in TWO_PIECES.as_slice() {
-        let text = repeated(&rt, row.character, row.count)?;
-        let (status, answer) = encoding_of(&rt, row.kind, &[], "+1002", &text)?;
-        assert_eq!(rt; status, 1, "{} {} {}", row.kind, row.character, row.count);
-        assert_eq!(rt;
-            answer.as_str(),
-            "text too long",
-            "{} {}",
-            row.character,
-            row.count
-        );
+        let refused = is_too_long(rt.alloc(), row)?;
+        assert!(rt; refused, "{} {} {}", row.kind, row.character, row.count);
     }
     Ok(())
 }

@@ -4,80 +4,100 @@ mod rows;
 
 use super::splits::expanded;
 use super::*;
-use rows::{PHONES, PLAYED, Played, WAY, WAY_TOLD, WHOLES};
+use rows::{PHONES, PLAYED, Played, WAY, WAY_TOLD, WHOLES, Whole};
 use std::io::ErrorKind;
 use std::test::Fail;
 
-/// The status and the whole output where the input is a script.
-fn playing_of(rt: &HostRuntime, script: &str) -> Result<(u8, String), Fail> {
-    let mut input = script.as_bytes();
-    let mut output = Vec::new(rt.alloc());
-    let status = command(
-        rt.alloc(),
-        ["sms", "play"].as_slice(),
-        &mut input,
-        &mut output,
-    );
+/// The status and the whole output where a reader gives the script.
+fn playing_from<R: Read>(alloc: Global, input: &mut R) -> Result<(u8, String), Fail> {
+    let mut output = Vec::new(alloc);
+    let words = ["sms", "play"].as_slice();
+    let status = command(alloc, words, input, &mut output);
     Ok((status, String::from_utf8(output)?))
+}
+
+/// The status and the whole output where the input is a script.
+fn playing_of(alloc: Global, script: &str) -> Result<(u8, String), Fail> {
+    let mut input = script.as_bytes();
+    playing_from(alloc, &mut input)
+}
+
+/// The number with which the line of a packet begins.
+fn number_in(line: &str) -> Option<&str> {
+    let (number, _) = line.split_once(' ')?;
+    if number.starts_with('#') {
+        Some(number)
+    } else {
+        None
+    }
 }
 
 /// The lines of a transcript with the numbers of packets at the end of their event's line, each
 /// between line feeds.
-fn events_in(rt: &HostRuntime, transcript: &str) -> Result<String, Fail> {
-    let mut events = String::new(rt.alloc());
+fn events_in(alloc: Global, transcript: &str) -> Result<String, Fail> {
+    let mut events = String::new(alloc);
     for line in transcript.lines() {
-        match line.split_once(' ') {
-            Some((number, _)) if number.starts_with('#') => events.push(' ')?,
-            _ => events.push('\n')?,
-        }
-        let part = match line.split_once(' ') {
-            Some((number, _)) if number.starts_with('#') => number,
-            _ => line,
-        };
-        events.push_str(part)?;
+        let number = number_in(line);
+        events.push(if number.is_some() { ' ' } else { '\n' })?;
+        events.push_str(number.unwrap_or(line))?;
     }
     events.push('\n')?;
     Ok(events)
 }
 
 /// Whether lines stand there, from the beginning of one line to the end of another.
-fn has_lines(rt: &HostRuntime, lines: &str, wanted: &str) -> Result<bool, Fail> {
-    let wanted = expanded(rt, wanted)?;
-    let between = format!(in rt.alloc(); "\n{wanted}\n")?;
+fn has_lines(alloc: Global, lines: &str, wanted: &str) -> Result<bool, Fail> {
+    let wanted = expanded(alloc, wanted)?;
+    let between = format!(in alloc; "\n{wanted}\n")?;
     Ok(lines.contains(between.as_str()))
 }
 
+/// Whether all these lines stand there.
+fn have_lines(alloc: Global, lines: &str, wanted: &[&str]) -> Result<bool, Fail> {
+    for part in wanted {
+        if !has_lines(alloc, lines, part)? {
+            return Ok(false);
+        }
+    }
+    Ok(true)
+}
+
+/// The script of a row, after its phones.
+fn script_of(alloc: Global, row: &Played) -> Result<String, Fail> {
+    let script = expanded(alloc, row.script)?;
+    Ok(format!(in alloc; "{PHONES}{script}")?)
+}
+
 /// Whether the transcript of a row's script says all that the row wants.
-fn is_played(rt: &HostRuntime, row: &Played) -> Result<bool, Fail> {
-    let script = expanded(rt, row.script)?;
-    let script = format!(in rt.alloc(); "{PHONES}{script}")?;
-    let (status, transcript) = playing_of(rt, &script)?;
-    let events = events_in(rt, &transcript)?;
-    let mut good = status == 0;
-    for part in row.says {
-        good = has_lines(rt, &events, part)? && good;
-    }
-    for packet in row.packets {
-        good = has_lines(rt, &transcript, packet)? && good;
-    }
-    Ok(good)
+fn is_played(alloc: Global, row: &Played) -> Result<bool, Fail> {
+    let script = script_of(alloc, row)?;
+    let (status, transcript) = playing_of(alloc, &script)?;
+    let events = events_in(alloc, &transcript)?;
+    let told = have_lines(alloc, &events, row.says)?;
+    let sent = have_lines(alloc, &transcript, row.packets)?;
+    Ok(status == 0 && told && sent)
 }
 
 #[test]
 fn plays_scripts(rt: HostRuntime) -> Result<(), Fail> {
     for row in PLAYED.as_slice() {
-        let played = is_played(&rt, row)?;
+        let played = is_played(rt.alloc(), row)?;
         assert!(rt; played, "{}", row.script);
     }
     Ok(())
 }
 
+/// Whether a whole script has the status and the output of a row.
+fn is_whole(alloc: Global, row: &Whole) -> Result<bool, Fail> {
+    let (status, output) = playing_of(alloc, row.script)?;
+    Ok(status == row.status && output.as_str() == row.output)
+}
+
 #[test]
 fn plays_whole_scripts(rt: HostRuntime) -> Result<(), Fail> {
     for row in WHOLES.as_slice() {
-        let (status, output) = playing_of(&rt, row.script)?;
-        assert_eq!(rt; status, row.status, "{}", row.script);
-        assert_eq!(rt; output.as_str(), row.output, "{}", row.script);
+        let played = is_whole(rt.alloc(), row)?;
+        assert!(rt; played, "{}", row.script);
     }
     Ok(())
 }
@@ -105,38 +125,41 @@ impl Read for Breaks<'_> {
 }
 
 /// How much of a transcript stands before the line that begins so.
-fn front_before<'a>(rt: &HostRuntime, transcript: &'a str, line: &str) -> Result<&'a str, Fail> {
-    let begin = format!(in rt.alloc(); "\n{line}")?;
+fn front_before<'a>(alloc: Global, transcript: &'a str, line: &str) -> Result<&'a str, Fail> {
+    let begin = format!(in alloc; "\n{line}")?;
     match transcript.find(begin.as_str()) {
         Some(place) => Ok(transcript.get(..place + 1).ok_or("no front")?),
         None => Ok(""),
     }
 }
 
+/// What is told where a read fails after as many lines.
+fn told_before(alloc: Global, lines: usize) -> Result<String, Fail> {
+    let next = if lines == 8 {
+        "sent".to_string(alloc)?
+    } else {
+        format!(in alloc; "{} ", lines.saturating_sub(1))?
+    };
+    let told = front_before(alloc, WAY_TOLD, &next)?;
+    Ok(format!(in alloc; "{told}read failed\n")?)
+}
+
+/// Whether the lines of a front are told where no more is read.
+fn is_told(alloc: Global, front: &str) -> Result<bool, Fail> {
+    let mut input = Breaks {
+        octets: front.as_bytes(),
+    };
+    let (status, output) = playing_from(alloc, &mut input)?;
+    let wanted = told_before(alloc, front.matches('\n').count())?;
+    Ok(status == 3 && output == wanted)
+}
+
 #[test]
 fn tells_the_lines_before_a_read_that_fails(rt: HostRuntime) -> Result<(), Fail> {
     for count in 0..=WAY.len() {
         let front = WAY.get(..count).ok_or("no front")?;
-        let mut input = Breaks {
-            octets: front.as_bytes(),
-        };
-        let mut output = Vec::new(rt.alloc());
-        let status = command(
-            rt.alloc(),
-            ["sms", "play"].as_slice(),
-            &mut input,
-            &mut output,
-        );
-        assert_eq!(rt; status, 3, "{count}");
-        let played = front.matches('\n').count();
-        let next = if played == 8 {
-            "sent".to_string(rt.alloc())?
-        } else {
-            format!(in rt.alloc(); "{} ", played.saturating_sub(1))?
-        };
-        let told = front_before(&rt, WAY_TOLD, &next)?;
-        let wanted = format!(in rt.alloc(); "{told}read failed\n")?;
-        assert_eq!(rt; str::from_utf8(&output), Ok(wanted.as_str()), "{count}");
+        let told = is_told(rt.alloc(), front)?;
+        assert!(rt; told, "{count}");
     }
     Ok(())
 }

@@ -2,76 +2,64 @@
 
 mod rows;
 
-use super::answer_to;
 use super::rows::AfterCentre;
+use super::{answer_to, are_answered, is_missed};
 use rows::{
-    AFTER_CENTRES, CP_MESSAGES, FAULTS_IN_CP, FAULTS_IN_RP, NO_CP_MESSAGES, NO_RP_MESSAGES,
-    RP_MESSAGES, WHOLE_MESSAGES,
+    ACKNOWLEDGEMENTS, CP_AFTER_CENTRES, CP_DATA_OF_ANSWERS, CP_DATA_OF_TRANSFERS, CP_WITHOUT_DATA,
+    DATA_FROM_PHONES, DATA_TO_PHONES, ERRORS, FAULTS_IN_ANSWERS, FAULTS_IN_TRANSFERS,
+    FAULTS_OF_RP_IN_CP, FAULTS_OF_UNITS_IN_CP, NO_CP_MESSAGES, NO_RP_ADDRESSES, NO_RP_CAUSES,
+    NO_RP_TYPES, NO_RP_USER_DATA, RP_AFTER_CENTRES, WHOLE_MESSAGES, WholeMessage,
 };
+use std::alloc::Global;
+use std::process::Abort;
 use std::test::Fail;
-
-/// Whether octets as a kind have a status and an answer.
-fn is_answered(
-    rt: &HostRuntime,
-    kind: &str,
-    octets: &str,
-    lines: &str,
-    wanted: u8,
-) -> Result<bool, Fail> {
-    let (status, answer) = answer_to(rt, &["sms", "show", kind, octets])?;
-    Ok(status == wanted && answer.as_str() == lines)
-}
 
 #[test]
 fn shows_rp_messages(rt: HostRuntime) -> Result<(), Fail> {
-    for row in RP_MESSAGES.as_slice() {
-        let shown = is_answered(&rt, "rp", row.octets, row.lines, 0)?;
-        assert!(rt; shown, "{}", row.octets);
-    }
-    Ok(())
+    are_answered(&rt, rt.alloc(), "rp", DATA_FROM_PHONES.as_slice(), 0)?;
+    are_answered(&rt, rt.alloc(), "rp", DATA_TO_PHONES.as_slice(), 0)?;
+    are_answered(&rt, rt.alloc(), "rp", ACKNOWLEDGEMENTS.as_slice(), 0)?;
+    are_answered(&rt, rt.alloc(), "rp", ERRORS.as_slice(), 0)
 }
 
 #[test]
 fn refuses_what_is_no_rp_message(rt: HostRuntime) -> Result<(), Fail> {
-    for row in NO_RP_MESSAGES.as_slice() {
-        let refused = is_answered(&rt, "rp", row.octets, row.lines, 1)?;
-        assert!(rt; refused, "{}", row.octets);
-    }
-    Ok(())
+    are_answered(&rt, rt.alloc(), "rp", NO_RP_TYPES.as_slice(), 1)?;
+    are_answered(&rt, rt.alloc(), "rp", NO_RP_ADDRESSES.as_slice(), 1)?;
+    are_answered(&rt, rt.alloc(), "rp", NO_RP_USER_DATA.as_slice(), 1)?;
+    are_answered(&rt, rt.alloc(), "rp", NO_RP_CAUSES.as_slice(), 1)
 }
 
 #[test]
 fn shows_faults_in_rp_messages(rt: HostRuntime) -> Result<(), Fail> {
-    for row in FAULTS_IN_RP.as_slice() {
-        let shown = is_answered(&rt, "rp", row.octets, row.lines, 1)?;
-        assert!(rt; shown, "{}", row.octets);
-    }
-    Ok(())
+    are_answered(&rt, rt.alloc(), "rp", FAULTS_IN_TRANSFERS.as_slice(), 1)?;
+    are_answered(&rt, rt.alloc(), "rp", FAULTS_IN_ANSWERS.as_slice(), 1)
 }
 
 #[test]
 fn shows_cp_messages(rt: HostRuntime) -> Result<(), Fail> {
-    for row in CP_MESSAGES.as_slice() {
-        let shown = is_answered(&rt, "cp", row.octets, row.lines, 0)?;
-        assert!(rt; shown, "{}", row.octets);
-    }
-    Ok(())
+    are_answered(&rt, rt.alloc(), "cp", CP_DATA_OF_TRANSFERS.as_slice(), 0)?;
+    are_answered(&rt, rt.alloc(), "cp", CP_DATA_OF_ANSWERS.as_slice(), 0)?;
+    are_answered(&rt, rt.alloc(), "cp", CP_WITHOUT_DATA.as_slice(), 0)
 }
 
 #[test]
 fn refuses_what_is_no_cp_message(rt: HostRuntime) -> Result<(), Fail> {
-    for row in NO_CP_MESSAGES.as_slice() {
-        let refused = is_answered(&rt, "cp", row.octets, row.lines, 1)?;
-        assert!(rt; refused, "{}", row.octets);
-    }
-    Ok(())
+    are_answered(&rt, rt.alloc(), "cp", NO_CP_MESSAGES.as_slice(), 1)
 }
 
 #[test]
 fn shows_faults_in_cp_messages(rt: HostRuntime) -> Result<(), Fail> {
-    for row in FAULTS_IN_CP.as_slice() {
-        let shown = is_answered(&rt, "cp", row.octets, row.lines, 1)?;
-        assert!(rt; shown, "{}", row.octets);
+    are_answered(&rt, rt.alloc(), "cp", FAULTS_OF_RP_IN_CP.as_slice(), 1)?;
+    are_answered(&rt, rt.alloc(), "cp", FAULTS_OF_UNITS_IN_CP.as_slice(), 1)
+}
+
+/// The octets of a message are missed at each place but where it may end.
+fn are_missed(rt: &impl Abort, alloc: Global, row: &WholeMessage) -> Result<(), Fail> {
+    for place in 0..row.octets.len() / 2 {
+        let front = row.octets.get(..2 * place).ok_or("no front")?;
+        let missed = is_missed(alloc, row.kind, front)?;
+        assert_eq!(rt; missed, place != row.end, "{} {front}", row.kind);
     }
     Ok(())
 }
@@ -79,27 +67,32 @@ fn shows_faults_in_cp_messages(rt: HostRuntime) -> Result<(), Fail> {
 #[test]
 fn misses_each_octet_of_a_message(rt: HostRuntime) -> Result<(), Fail> {
     for row in WHOLE_MESSAGES.as_slice() {
-        for place in 0..row.octets.len() / 2 {
-            let front = row.octets.get(..2 * place).ok_or("no front")?;
-            let line = format!(in rt.alloc(); "at {place}: short\n")?;
-            let refused = is_answered(&rt, row.kind, front, &line, 1)?;
-            assert_eq!(rt; refused, place != row.end, "{} {front}", row.kind);
-        }
+        are_missed(&rt, rt.alloc(), row)?;
     }
     Ok(())
 }
 
-/// Whether octets that begin with a centre have a status and an answer.
-fn is_answered_after_a_centre(rt: &HostRuntime, row: &AfterCentre) -> Result<bool, Fail> {
-    let (status, answer) = answer_to(rt, &["sms", "show", row.kind, row.octets, "--sca"])?;
+/// Whether octets that begin with a centre have the status and the answer of a row, the option last.
+fn is_answered_after_a_centre(alloc: Global, row: &AfterCentre) -> Result<bool, Fail> {
+    let (status, answer) = answer_to(alloc, &["sms", "show", row.kind, row.octets, "--sca"])?;
     Ok(status == row.status && answer.as_str() == row.answer)
+}
+
+/// The octets of each row, which begin with a centre, have its status and its answer.
+fn are_answered_after_a_centre(
+    rt: &impl Abort,
+    alloc: Global,
+    rows: &[AfterCentre],
+) -> Result<(), Fail> {
+    for row in rows {
+        let answered = is_answered_after_a_centre(alloc, row)?;
+        assert!(rt; answered, "{} {}", row.kind, row.octets);
+    }
+    Ok(())
 }
 
 #[test]
 fn shows_messages_after_a_centre(rt: HostRuntime) -> Result<(), Fail> {
-    for row in AFTER_CENTRES.as_slice() {
-        let shown = is_answered_after_a_centre(&rt, row)?;
-        assert!(rt; shown, "{}", row.octets);
-    }
-    Ok(())
+    are_answered_after_a_centre(&rt, rt.alloc(), RP_AFTER_CENTRES.as_slice())?;
+    are_answered_after_a_centre(&rt, rt.alloc(), CP_AFTER_CENTRES.as_slice())
 }

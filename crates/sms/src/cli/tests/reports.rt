@@ -2,74 +2,63 @@
 
 mod rows;
 
-use super::rows::AfterCentre;
-use super::{answer_to, repeated};
+use super::{are_answered_after_a_centre, is_answered, is_missed, repeated};
 use rows::{
-    AFTER_CENTRES, CAUSES, COMBINATIONS, Data, LENGTHS, MORE_NO_REPORTS, NO_REPORTS, REPORTS,
-    WHOLE_REPORTS,
+    CAUSES, DELIVER_ACK_LENGTHS, DELIVER_ACKS, DELIVER_COMBINATIONS, DELIVER_ERROR_LENGTHS,
+    DELIVER_ERRORS, DELIVER_REPORTS_AFTER_CENTRES, Data, NO_DELIVER_REPORTS, NO_SUBMIT_REPORTS,
+    Report, SUBMIT_ACK_LENGTHS, SUBMIT_ACKS, SUBMIT_COMBINATIONS, SUBMIT_ERROR_LENGTHS,
+    SUBMIT_ERRORS, SUBMIT_REPORTS_AFTER_CENTRES, TOO_LONG_DELIVER_ACKS, TOO_LONG_DELIVER_ERRORS,
+    TOO_LONG_SUBMIT_ACKS, TOO_LONG_SUBMIT_ERRORS, WHOLE_REPORTS, WholeReport,
 };
+use std::alloc::Global;
+use std::process::Abort;
 use std::test::Fail;
 
-/// Whether octets as a kind have a status and an answer.
-fn is_answered(
-    rt: &HostRuntime,
-    kind: &str,
-    octets: &str,
-    lines: &str,
-    wanted: u8,
-) -> Result<bool, Fail> {
-    let (status, answer) = answer_to(rt, &["sms", "show", kind, octets])?;
-    Ok(status == wanted && answer.as_str() == lines)
+/// The octets of each row as its kind have a status, and its answer.
+fn are_answered(rt: &impl Abort, alloc: Global, rows: &[Report], status: u8) -> Result<(), Fail> {
+    for row in rows {
+        let answered = is_answered(alloc, row.kind, row.octets, row.answer, status)?;
+        assert!(rt; answered, "{} {}", row.kind, row.octets);
+    }
+    Ok(())
 }
 
 #[test]
 fn shows_each_choice_of_parts(rt: HostRuntime) -> Result<(), Fail> {
-    for row in COMBINATIONS.as_slice() {
-        let shown = is_answered(&rt, row.kind, row.octets, row.answer, 0)?;
-        assert!(rt; shown, "{} {}", row.kind, row.octets);
-    }
-    Ok(())
+    are_answered(&rt, rt.alloc(), SUBMIT_COMBINATIONS.as_slice(), 0)?;
+    are_answered(&rt, rt.alloc(), DELIVER_COMBINATIONS.as_slice(), 0)
 }
 
 #[test]
 fn shows_reports(rt: HostRuntime) -> Result<(), Fail> {
-    for row in REPORTS.as_slice() {
-        let shown = is_answered(&rt, row.kind, row.octets, row.answer, 0)?;
-        assert!(rt; shown, "{} {}", row.kind, row.octets);
-    }
-    Ok(())
+    are_answered(&rt, rt.alloc(), SUBMIT_ACKS.as_slice(), 0)?;
+    are_answered(&rt, rt.alloc(), SUBMIT_ERRORS.as_slice(), 0)?;
+    are_answered(&rt, rt.alloc(), DELIVER_ACKS.as_slice(), 0)?;
+    are_answered(&rt, rt.alloc(), DELIVER_ERRORS.as_slice(), 0)
 }
 
 #[test]
 fn shows_causes_of_failure(rt: HostRuntime) -> Result<(), Fail> {
-    for row in CAUSES.as_slice() {
-        let shown = is_answered(&rt, row.kind, row.octets, row.answer, 0)?;
-        assert!(rt; shown, "{} {}", row.kind, row.octets);
-    }
-    Ok(())
+    are_answered(&rt, rt.alloc(), CAUSES.as_slice(), 0)
 }
 
 #[test]
 fn refuses_what_is_no_report(rt: HostRuntime) -> Result<(), Fail> {
-    for row in NO_REPORTS.as_slice() {
-        let refused = is_answered(&rt, row.kind, row.octets, row.answer, 1)?;
-        assert!(rt; refused, "{} {}", row.kind, row.octets);
-    }
-    Ok(())
+    are_answered(&rt, rt.alloc(), NO_SUBMIT_REPORTS.as_slice(), 1)?;
+    are_answered(&rt, rt.alloc(), NO_DELIVER_REPORTS.as_slice(), 1)
 }
 
 #[test]
-fn refuses_what_is_no_report_either(rt: HostRuntime) -> Result<(), Fail> {
-    for row in MORE_NO_REPORTS.as_slice() {
-        let refused = is_answered(&rt, row.kind, row.octets, row.answer, 1)?;
-        assert!(rt; refused, "{} {}", row.kind, row.octets);
-    }
-    Ok(())
+fn refuses_data_that_are_too_long(rt: HostRuntime) -> Result<(), Fail> {
+    are_answered(&rt, rt.alloc(), TOO_LONG_SUBMIT_ACKS.as_slice(), 1)?;
+    are_answered(&rt, rt.alloc(), TOO_LONG_SUBMIT_ERRORS.as_slice(), 1)?;
+    are_answered(&rt, rt.alloc(), TOO_LONG_DELIVER_ACKS.as_slice(), 1)?;
+    are_answered(&rt, rt.alloc(), TOO_LONG_DELIVER_ERRORS.as_slice(), 1)
 }
 
 /// The lines of a report, with that of its data, `-` where there are none.
-fn lines_with(rt: &HostRuntime, before: &str, data: &str) -> Result<String, Fail> {
-    let mut lines = String::new(rt.alloc());
+fn lines_with(alloc: Global, before: &str, data: &str) -> Result<String, Fail> {
+    let mut lines = String::new(alloc);
     lines.push_str(before)?;
     lines.push_str("user: ")?;
     if data.is_empty() {
@@ -81,8 +70,8 @@ fn lines_with(rt: &HostRuntime, before: &str, data: &str) -> Result<String, Fail
 }
 
 /// The octets of a report, with its length and its data.
-fn octets_with(rt: &HostRuntime, before: &str, length: &str, data: &str) -> Result<String, Fail> {
-    let mut octets = String::new(rt.alloc());
+fn octets_with(alloc: Global, before: &str, length: &str, data: &str) -> Result<String, Fail> {
+    let mut octets = String::new(alloc);
     octets.push_str(before)?;
     octets.push_str(length)?;
     octets.push_str(data)?;
@@ -90,18 +79,36 @@ fn octets_with(rt: &HostRuntime, before: &str, length: &str, data: &str) -> Resu
 }
 
 /// Whether a report with data of a number of octets is shown with them.
-fn has_data(rt: &HostRuntime, row: &Data) -> Result<bool, Fail> {
-    let data = repeated(rt, "A5", row.count)?;
-    let octets = octets_with(rt, row.front, row.length, &data)?;
-    let lines = lines_with(rt, row.lines, &data)?;
-    is_answered(rt, row.kind, &octets, &lines, 0)
+fn has_data(alloc: Global, row: &Data) -> Result<bool, Fail> {
+    let data = repeated(alloc, "A5", row.count)?;
+    let octets = octets_with(alloc, row.front, row.length, &data)?;
+    let lines = lines_with(alloc, row.lines, &data)?;
+    is_answered(alloc, row.kind, &octets, &lines, 0)
+}
+
+/// The reports of each row are shown with their data.
+fn have_data(rt: &impl Abort, alloc: Global, rows: &[Data]) -> Result<(), Fail> {
+    for row in rows {
+        let shown = has_data(alloc, row)?;
+        assert!(rt; shown, "{} {} {}", row.kind, row.front, row.length);
+    }
+    Ok(())
 }
 
 #[test]
 fn shows_data_of_each_length(rt: HostRuntime) -> Result<(), Fail> {
-    for row in LENGTHS.as_slice() {
-        let shown = has_data(&rt, row)?;
-        assert!(rt; shown, "{} {}", row.kind, row.length);
+    have_data(&rt, rt.alloc(), SUBMIT_ACK_LENGTHS.as_slice())?;
+    have_data(&rt, rt.alloc(), SUBMIT_ERROR_LENGTHS.as_slice())?;
+    have_data(&rt, rt.alloc(), DELIVER_ACK_LENGTHS.as_slice())?;
+    have_data(&rt, rt.alloc(), DELIVER_ERROR_LENGTHS.as_slice())
+}
+
+/// The octets of a report are missed at each place.
+fn are_missed(rt: &impl Abort, alloc: Global, row: &WholeReport) -> Result<(), Fail> {
+    for place in 0..row.octets.len() / 2 {
+        let front = row.octets.get(..2 * place).ok_or("no front")?;
+        let missed = is_missed(alloc, row.kind, front)?;
+        assert!(rt; missed, "{} {front}", row.kind);
     }
     Ok(())
 }
@@ -109,27 +116,13 @@ fn shows_data_of_each_length(rt: HostRuntime) -> Result<(), Fail> {
 #[test]
 fn misses_each_octet_of_a_report(rt: HostRuntime) -> Result<(), Fail> {
     for row in WHOLE_REPORTS.as_slice() {
-        for place in 0..row.octets.len() / 2 {
-            let front = row.octets.get(..2 * place).ok_or("no front")?;
-            let line = format!(in rt.alloc(); "at {place}: short\n")?;
-            let refused = is_answered(&rt, row.kind, front, &line, 1)?;
-            assert!(rt; refused, "{} {front}", row.kind);
-        }
+        are_missed(&rt, rt.alloc(), row)?;
     }
     Ok(())
-}
-
-/// Whether octets that begin with a centre have a status and an answer.
-fn is_answered_after_a_centre(rt: &HostRuntime, row: &AfterCentre) -> Result<bool, Fail> {
-    let (status, answer) = answer_to(rt, &["sms", "show", row.kind, row.octets, "--sca"])?;
-    Ok(status == row.status && answer.as_str() == row.answer)
 }
 
 #[test]
 fn shows_reports_after_a_centre(rt: HostRuntime) -> Result<(), Fail> {
-    for row in AFTER_CENTRES.as_slice() {
-        let shown = is_answered_after_a_centre(&rt, row)?;
-        assert!(rt; shown, "{} {}", row.kind, row.octets);
-    }
-    Ok(())
+    are_answered_after_a_centre(&rt, rt.alloc(), SUBMIT_REPORTS_AFTER_CENTRES.as_slice())?;
+    are_answered_after_a_centre(&rt, rt.alloc(), DELIVER_REPORTS_AFTER_CENTRES.as_slice())
 }

@@ -33,6 +33,13 @@ pub struct Encoded {
     pub octets: &'static str,
 }
 
+/// A unit with characters that would break a line, and how its address and its text are shown.
+pub struct Breaking {
+    pub unit: Encoded,
+    pub address: &'static str,
+    pub text: &'static str,
+}
+
 /// A unit in the words of a command, which is not encoded: the status and the line of the answer.
 pub struct NotEncoded {
     pub kind: &'static str,
@@ -40,12 +47,6 @@ pub struct NotEncoded {
     pub address: &'static str,
     pub text: &'static str,
     pub status: u8,
-    pub line: &'static str,
-}
-
-/// Octets that are no unit, and the line of the answer.
-pub struct NotShown {
-    pub octets: &'static str,
     pub line: &'static str,
 }
 
@@ -91,8 +92,112 @@ pub struct AfterCentre {
     pub answer: &'static str,
 }
 
-/// Deliveries, and lines of the answer.
-pub static DELIVERIES: [Shown; 56] = [
+/// Deliveries by their first octet, and lines of the answer.
+pub static DELIVERY_FLAGS: [Shown; 6] = [
+    Shown {
+        octets: "000491101000000010100000000000",
+        lines: "more: yes\nloop: no\nreport: no\nreply: no\n",
+    },
+    Shown {
+        octets: "040491101000000010100000000000",
+        lines: "type: deliver\nmore: no\nloop: no\nreport: no\nreply: no\nfrom: +0101\nnumber: 1 1\npid: 00\ndcs: 00\nstamp: 2000-01-01 00:00:00 +00:00\nlength: 0\ntext: \n",
+    },
+    Shown {
+        octets: "0C0491101000000010100000000000",
+        lines: "more: no\nloop: yes\nreport: no\nreply: no\n",
+    },
+    Shown {
+        octets: "240491101000000010100000000000",
+        lines: "more: no\nloop: no\nreport: yes\nreply: no\n",
+    },
+    Shown {
+        octets: "840491101000000010100000000000",
+        lines: "more: no\nloop: no\nreport: no\nreply: yes\n",
+    },
+    Shown {
+        octets: "BC0491101000000010100000000000",
+        lines: "more: no\nloop: yes\nreport: yes\nreply: yes\n",
+    },
+];
+
+/// Deliveries by their TP-OA, and lines of the answer.
+pub static ORIGINS: [Shown; 18] = [
+    Shown {
+        octets: "040481012000000010100000000000",
+        lines: "from: 1002\nnumber: 0 1\n",
+    },
+    Shown {
+        octets: "040491012000000010100000000000",
+        lines: "from: +1002\nnumber: 1 1\n",
+    },
+    Shown {
+        octets: "0405A82143F500000010100000000000",
+        lines: "from: 12345\nnumber: 2 8\n",
+    },
+    Shown {
+        octets: "0402B9BA00000010100000000000",
+        lines: "from: *#\nnumber: 3 9\n",
+    },
+    Shown {
+        octets: "040BC87238880900F100000010100000000000",
+        lines: "from: 27838890001\nnumber: 4 8\n",
+    },
+    Shown {
+        octets: "0403E0DCFE00000010100000000000",
+        lines: "from: abc\nnumber: 6 0\n",
+    },
+    Shown {
+        octets: "0400FF00000010100000000000",
+        lines: "from: \nnumber: 7 15\n",
+    },
+    Shown {
+        octets: "04009000000010100000000000",
+        lines: "from: +\nnumber: 1 0\n",
+    },
+    Shown {
+        octets: "0414911032547698103254769800000010100000000000",
+        lines: "from: +01234567890123456789\nnumber: 1 1\n",
+    },
+    Shown {
+        octets: "0400D000000010100000000000",
+        lines: "from: \nnumber: 5 0\n",
+    },
+    Shown {
+        octets: "0402D04100000010100000000000",
+        lines: "from: A\nnumber: 5 0\n",
+    },
+    Shown {
+        octets: "040DD0E8329BFD46970100000010100000000000",
+        lines: "from: hellohe\nnumber: 5 0\n",
+    },
+    Shown {
+        octets: "0409D0E1CD4BD10000000010100000000000",
+        lines: "from: a\\\\\\n\\r\nnumber: 5 0\n",
+    },
+    Shown {
+        octets: "040ED01BC5A6BCE16D7C00000010100000000000",
+        lines: "from: \\f€[]\nnumber: 5 0\n",
+    },
+    Shown {
+        octets: "0414D041E19058341E9149E51200000010100000000000",
+        lines: "from: ABCDEFGHIJK\nnumber: 5 0\n",
+    },
+    Shown {
+        octets: "040ED0E8329BFD46970100000010100000000000",
+        lines: "from: hellohe@\nnumber: 5 0\n",
+    },
+    Shown {
+        octets: "0401D1FF00000010100000000000",
+        lines: "from: \nnumber: 5 1\n",
+    },
+    Shown {
+        octets: "0414D0FFFFFFFFFFFFFFFFFFFF00000010100000000000",
+        lines: "from: ààààààààààà\nnumber: 5 0\n",
+    },
+];
+
+/// Deliveries by their TP-DCS, and lines of the answer.
+pub static CODINGS: [Shown; 19] = [
     Shown {
         octets: "040491101000000010100000000002E834",
         lines: "length: 2\ntext: hi\n",
@@ -169,6 +274,10 @@ pub static DELIVERIES: [Shown; 56] = [
         octets: "040491101000E000101000000000030041FF",
         lines: "length: 3\ntext: A\n",
     },
+];
+
+/// Deliveries by their TP-SCTS, and lines of the answer.
+pub static STAMPS: [Shown; 19] = [
     Shown {
         octets: "040491101000000010221000000000",
         lines: "stamp: 2000-01-22 01:00:00 +00:00\n",
@@ -245,66 +354,10 @@ pub static DELIVERIES: [Shown; 56] = [
         octets: "040491101000009930925161953200",
         lines: "stamp: 2099-03-29 15:16:59 +05:45\n",
     },
-    Shown {
-        octets: "040481012000000010100000000000",
-        lines: "from: 1002\nnumber: 0 1\n",
-    },
-    Shown {
-        octets: "040491012000000010100000000000",
-        lines: "from: +1002\nnumber: 1 1\n",
-    },
-    Shown {
-        octets: "0405A82143F500000010100000000000",
-        lines: "from: 12345\nnumber: 2 8\n",
-    },
-    Shown {
-        octets: "0402B9BA00000010100000000000",
-        lines: "from: *#\nnumber: 3 9\n",
-    },
-    Shown {
-        octets: "040BC87238880900F100000010100000000000",
-        lines: "from: 27838890001\nnumber: 4 8\n",
-    },
-    Shown {
-        octets: "0403E0DCFE00000010100000000000",
-        lines: "from: abc\nnumber: 6 0\n",
-    },
-    Shown {
-        octets: "0400FF00000010100000000000",
-        lines: "from: \nnumber: 7 15\n",
-    },
-    Shown {
-        octets: "04009000000010100000000000",
-        lines: "from: +\nnumber: 1 0\n",
-    },
-    Shown {
-        octets: "0414911032547698103254769800000010100000000000",
-        lines: "from: +01234567890123456789\nnumber: 1 1\n",
-    },
-    Shown {
-        octets: "000491101000000010100000000000",
-        lines: "more: yes\nloop: no\nreport: no\nreply: no\n",
-    },
-    Shown {
-        octets: "040491101000000010100000000000",
-        lines: "type: deliver\nmore: no\nloop: no\nreport: no\nreply: no\nfrom: +0101\nnumber: 1 1\npid: 00\ndcs: 00\nstamp: 2000-01-01 00:00:00 +00:00\nlength: 0\ntext: \n",
-    },
-    Shown {
-        octets: "0C0491101000000010100000000000",
-        lines: "more: no\nloop: yes\nreport: no\nreply: no\n",
-    },
-    Shown {
-        octets: "240491101000000010100000000000",
-        lines: "more: no\nloop: no\nreport: yes\nreply: no\n",
-    },
-    Shown {
-        octets: "840491101000000010100000000000",
-        lines: "more: no\nloop: no\nreport: no\nreply: yes\n",
-    },
-    Shown {
-        octets: "BC0491101000000010100000000000",
-        lines: "more: no\nloop: yes\nreport: yes\nreply: yes\n",
-    },
+];
+
+/// Deliveries by their septets, and what stands after them, and lines of the answer.
+pub static TEXTS: [Shown; 12] = [
     Shown {
         octets: "0404911010000000101000000000029B17",
         lines: "length: 2\ntext: \\\\\n",
@@ -317,10 +370,6 @@ pub static DELIVERIES: [Shown; 56] = [
         octets: "0404911010000000101000000000010D",
         lines: "length: 1\ntext: \\r\n",
     },
-];
-
-/// More deliveries, and lines of the answer.
-pub static MORE_DELIVERIES: [Shown; 56] = [
     Shown {
         octets: "0404911010000000101000000000021B05",
         lines: "length: 2\ntext: \\f\n",
@@ -356,6 +405,14 @@ pub static MORE_DELIVERIES: [Shown; 56] = [
     Shown {
         octets: "040491101000000010100000000002e834",
         lines: "length: 2\ntext: hi\n",
+    },
+];
+
+/// Deliveries by their octets and their units of 16 bits, and lines of the answer.
+pub static WIDE_TEXTS: [Shown; 12] = [
+    Shown {
+        octets: "04049110100008001010000000002000000009000B001B001F0020007F005C00780034003100E920AC0436D83DDE00",
+        lines: "\ntext: \\x00\\x09\\x0b\\x1b\\x1f \\x7f\\\\x41é€ж😀\n",
     },
     Shown {
         octets: "040491101000040010100000000000",
@@ -401,6 +458,10 @@ pub static MORE_DELIVERIES: [Shown; 56] = [
         octets: "040491101000080010100000000004FFFEFFFF",
         lines: "length: 4\ntext: \u{fffe}\u{ffff}\n",
     },
+];
+
+/// Deliveries by the concatenation in their header, and lines of the answer.
+pub static PLACES: [Shown; 13] = [
     Shown {
         octets: "44049110100000001010000000000A06080401020201E834",
         lines: "length: 10\nheader: 080401020201\nconcat: 16 258 2 1\ntext: hi\n",
@@ -453,6 +514,10 @@ pub static MORE_DELIVERIES: [Shown; 56] = [
         octets: "44049110100000001010000000000A0608040000FFFFE834",
         lines: "length: 10\nheader: 08040000FFFF\nconcat: 16 0 255 255\ntext: hi\n",
     },
+];
+
+/// Deliveries by the information elements in their header, and lines of the answer.
+pub static ELEMENTS: [Shown; 14] = [
     Shown {
         octets: "4404911010000000101000000000100B0003010201080401020202A0D3",
         lines: "length: 16\nheader: 0003010201080401020202\nconcat: 16 258 2 2\ntext: hi\n",
@@ -509,46 +574,10 @@ pub static MORE_DELIVERIES: [Shown; 56] = [
         octets: "4404911010000800101000000000090500030A020104360077",
         lines: "length: 9\nheader: 00030A0201\nconcat: 8 10 2 1\ntext: ж\nrest: 1\n",
     },
-    Shown {
-        octets: "0400D000000010100000000000",
-        lines: "from: \nnumber: 5 0\n",
-    },
-    Shown {
-        octets: "0402D04100000010100000000000",
-        lines: "from: A\nnumber: 5 0\n",
-    },
-    Shown {
-        octets: "040DD0E8329BFD46970100000010100000000000",
-        lines: "from: hellohe\nnumber: 5 0\n",
-    },
-    Shown {
-        octets: "0409D0E1CD4BD10000000010100000000000",
-        lines: "from: a\\\\\\n\\r\nnumber: 5 0\n",
-    },
-    Shown {
-        octets: "040ED01BC5A6BCE16D7C00000010100000000000",
-        lines: "from: \\f€[]\nnumber: 5 0\n",
-    },
-    Shown {
-        octets: "0414D041E19058341E9149E51200000010100000000000",
-        lines: "from: ABCDEFGHIJK\nnumber: 5 0\n",
-    },
-    Shown {
-        octets: "040ED0E8329BFD46970100000010100000000000",
-        lines: "from: hellohe@\nnumber: 5 0\n",
-    },
-    Shown {
-        octets: "0401D1FF00000010100000000000",
-        lines: "from: \nnumber: 5 1\n",
-    },
-    Shown {
-        octets: "0414D0FFFFFFFFFFFFFFFFFFFF00000010100000000000",
-        lines: "from: ààààààààààà\nnumber: 5 0\n",
-    },
 ];
 
 /// Submissions, and lines of the answer.
-pub static SUBMISSIONS: [Shown; 27] = [
+pub static SUBMISSIONS: [Shown; 14] = [
     Shown {
         octets: "11000B916407281553F80000AA0AE8329BFD4697D9EC37",
         lines: "type: submit\nreject: no\nreport: no\nreply: no\nreference: 00\nto: +46708251358\nnumber: 1 1\npid: 00\ndcs: 00\nvalidity: relative 170 345600\nlength: 10\ntext: hellohello\n",
@@ -577,6 +606,38 @@ pub static SUBMISSIONS: [Shown; 27] = [
         octets: "01FF04910120000000",
         lines: "type: submit\nreject: no\nreport: no\nreply: no\nreference: FF\n",
     },
+    Shown {
+        octets: "010004810120000000",
+        lines: "to: 1002\nnumber: 0 1\n",
+    },
+    Shown {
+        octets: "01000091000000",
+        lines: "to: +\nnumber: 1 1\n",
+    },
+    Shown {
+        octets: "010005A8BADCFE000000",
+        lines: "to: *#abc\nnumber: 2 8\n",
+    },
+    Shown {
+        octets: "010014FF10325476981032547698000000",
+        lines: "to: 01234567890123456789\nnumber: 7 15\n",
+    },
+    Shown {
+        octets: "01000491012000040200FF",
+        lines: "length: 2\ndata: 00FF\n",
+    },
+    Shown {
+        octets: "010004910120000002E8340102",
+        lines: "length: 2\ntext: hi\nrest: 2\n",
+    },
+    Shown {
+        octets: "0100049101200000038ACD0B",
+        lines: "length: 3\ntext: \\n\\\\\n",
+    },
+];
+
+/// Submissions by their TP-VPF and TP-VP, and lines of the answer.
+pub static VALIDITIES: [Shown; 13] = [
     Shown {
         octets: "010004910120000000",
         lines: "dcs: 00\nvalidity: none\n",
@@ -629,270 +690,242 @@ pub static SUBMISSIONS: [Shown; 27] = [
         octets: "19000491012000000000000000000000",
         lines: "dcs: 00\nvalidity: absolute raw 00000000000000\n",
     },
-    Shown {
-        octets: "010004810120000000",
-        lines: "to: 1002\nnumber: 0 1\n",
-    },
-    Shown {
-        octets: "01000091000000",
-        lines: "to: +\nnumber: 1 1\n",
-    },
-    Shown {
-        octets: "010005A8BADCFE000000",
-        lines: "to: *#abc\nnumber: 2 8\n",
-    },
-    Shown {
-        octets: "010014FF10325476981032547698000000",
-        lines: "to: 01234567890123456789\nnumber: 7 15\n",
-    },
-    Shown {
-        octets: "01000491012000040200FF",
-        lines: "length: 2\ndata: 00FF\n",
-    },
-    Shown {
-        octets: "010004910120000002E8340102",
-        lines: "length: 2\ntext: hi\nrest: 2\n",
-    },
-    Shown {
-        octets: "0100049101200000038ACD0B",
-        lines: "length: 3\ntext: \\n\\\\\n",
-    },
 ];
 
 /// Octets that are no delivery, and the answer.
-pub static NO_DELIVERIES: [NotShown; 35] = [
-    NotShown {
+pub static NO_DELIVERIES: [Shown; 35] = [
+    Shown {
         octets: "040BC87238880900F1000099309251619580A1",
-        line: "at 18: data too long\n",
+        lines: "at 18: data too long\n",
     },
-    NotShown {
+    Shown {
         octets: "",
-        line: "at 0: short\n",
+        lines: "at 0: short\n",
     },
-    NotShown {
+    Shown {
         octets: "-",
-        line: "at 0: short\n",
+        lines: "at 0: short\n",
     },
-    NotShown {
+    Shown {
         octets: "0",
-        line: "bad hex\n",
+        lines: "bad hex\n",
     },
-    NotShown {
+    Shown {
         octets: "040",
-        line: "bad hex\n",
+        lines: "bad hex\n",
     },
-    NotShown {
+    Shown {
         octets: "0x04",
-        line: "bad hex\n",
+        lines: "bad hex\n",
     },
-    NotShown {
+    Shown {
         octets: "04 04",
-        line: "bad hex\n",
+        lines: "bad hex\n",
     },
-    NotShown {
+    Shown {
         octets: "0G",
-        line: "bad hex\n",
+        lines: "bad hex\n",
     },
-    NotShown {
+    Shown {
         octets: "04--",
-        line: "bad hex\n",
+        lines: "bad hex\n",
     },
-    NotShown {
+    Shown {
         octets: "01",
-        line: "at 0: wrong type\n",
+        lines: "at 0: wrong type\n",
     },
-    NotShown {
+    Shown {
         octets: "02",
-        line: "at 0: wrong type\n",
+        lines: "at 0: wrong type\n",
     },
-    NotShown {
+    Shown {
         octets: "03",
-        line: "at 0: wrong type\n",
+        lines: "at 0: wrong type\n",
     },
-    NotShown {
+    Shown {
         octets: "05",
-        line: "at 0: wrong type\n",
+        lines: "at 0: wrong type\n",
     },
-    NotShown {
+    Shown {
         octets: "44",
-        line: "at 1: short\n",
+        lines: "at 1: short\n",
     },
-    NotShown {
+    Shown {
         octets: "4404911010000000101000000000",
-        line: "at 14: short\n",
+        lines: "at 14: short\n",
     },
-    NotShown {
+    Shown {
         octets: "0415",
-        line: "at 1: address too long\n",
+        lines: "at 1: address too long\n",
     },
-    NotShown {
+    Shown {
         octets: "041591",
-        line: "at 1: address too long\n",
+        lines: "at 1: address too long\n",
     },
-    NotShown {
+    Shown {
         octets: "0404911F",
-        line: "at 3: bad digit\n",
+        lines: "at 3: bad digit\n",
     },
-    NotShown {
+    Shown {
         octets: "040491F1",
-        line: "at 3: bad digit\n",
+        lines: "at 3: bad digit\n",
     },
-    NotShown {
+    Shown {
         octets: "040391210F",
-        line: "at 4: bad digit\n",
+        lines: "at 4: bad digit\n",
     },
-    NotShown {
+    Shown {
         octets: "0404911010000000101000000000A1",
-        line: "at 14: data too long\n",
+        lines: "at 14: data too long\n",
     },
-    NotShown {
+    Shown {
         octets: "04049110100004001010000000008D",
-        line: "at 14: data too long\n",
+        lines: "at 14: data too long\n",
     },
-    NotShown {
+    Shown {
         octets: "04049110100008001010000000008D",
-        line: "at 14: data too long\n",
+        lines: "at 14: data too long\n",
     },
-    NotShown {
+    Shown {
         octets: "040491101000000010100000000001",
-        line: "at 15: short\n",
+        lines: "at 15: short\n",
     },
-    NotShown {
+    Shown {
         octets: "04049110100004001010000000000241",
-        line: "at 16: short\n",
+        lines: "at 16: short\n",
     },
-    NotShown {
+    Shown {
         octets: "440491101000000010100000000001",
-        line: "at 14: header too long\n",
+        lines: "at 14: header too long\n",
     },
-    NotShown {
+    Shown {
         octets: "440491101000000010100000000000",
-        line: "at 14: header too long\n",
+        lines: "at 14: header too long\n",
     },
-    NotShown {
+    Shown {
         octets: "44049110100000001010000000000202",
-        line: "at 15: header too long\n",
+        lines: "at 15: header too long\n",
     },
-    NotShown {
+    Shown {
         octets: "44049110100004001010000000000000",
-        line: "at 14: header too long\n",
+        lines: "at 14: header too long\n",
     },
-    NotShown {
+    Shown {
         octets: "44049110100004001010000000000101",
-        line: "at 15: header too long\n",
+        lines: "at 15: header too long\n",
     },
-    NotShown {
+    Shown {
         octets: "440491101000040010100000000002",
-        line: "at 15: short\n",
+        lines: "at 15: short\n",
     },
-    NotShown {
+    Shown {
         octets: "44049110100000001010000000001005",
-        line: "at 16: short\n",
+        lines: "at 16: short\n",
     },
-    NotShown {
+    Shown {
         octets: "4404911010000000101000000000A1",
-        line: "at 14: data too long\n",
+        lines: "at 14: data too long\n",
     },
-    NotShown {
+    Shown {
         octets: "44049110100008001010000000008D",
-        line: "at 14: data too long\n",
+        lines: "at 14: data too long\n",
     },
-    NotShown {
+    Shown {
         octets: "0401D1",
-        line: "at 3: short\n",
+        lines: "at 3: short\n",
     },
 ];
 
 /// Octets that are no submission, and the answer.
-pub static NO_SUBMISSIONS: [NotShown; 21] = [
-    NotShown {
+pub static NO_SUBMISSIONS: [Shown; 21] = [
+    Shown {
         octets: "",
-        line: "at 0: short\n",
+        lines: "at 0: short\n",
     },
-    NotShown {
+    Shown {
         octets: "00",
-        line: "at 0: wrong type\n",
+        lines: "at 0: wrong type\n",
     },
-    NotShown {
+    Shown {
         octets: "02",
-        line: "at 0: wrong type\n",
+        lines: "at 0: wrong type\n",
     },
-    NotShown {
+    Shown {
         octets: "03",
-        line: "at 0: wrong type\n",
+        lines: "at 0: wrong type\n",
     },
-    NotShown {
+    Shown {
         octets: "41",
-        line: "at 1: short\n",
+        lines: "at 1: short\n",
     },
-    NotShown {
+    Shown {
         octets: "01",
-        line: "at 1: short\n",
+        lines: "at 1: short\n",
     },
-    NotShown {
+    Shown {
         octets: "0100",
-        line: "at 2: short\n",
+        lines: "at 2: short\n",
     },
-    NotShown {
+    Shown {
         octets: "010015",
-        line: "at 2: address too long\n",
+        lines: "at 2: address too long\n",
     },
-    NotShown {
+    Shown {
         octets: "01000191",
-        line: "at 4: short\n",
+        lines: "at 4: short\n",
     },
-    NotShown {
+    Shown {
         octets: "0100019100",
-        line: "at 5: short\n",
+        lines: "at 5: short\n",
     },
-    NotShown {
+    Shown {
         octets: "010001911F",
-        line: "at 4: bad digit\n",
+        lines: "at 4: bad digit\n",
     },
-    NotShown {
+    Shown {
         octets: "0100049101F0",
-        line: "at 5: bad digit\n",
+        lines: "at 5: bad digit\n",
     },
-    NotShown {
+    Shown {
         octets: "0100049101200000",
-        line: "at 8: short\n",
+        lines: "at 8: short\n",
     },
-    NotShown {
+    Shown {
         octets: "01000491012000001",
-        line: "bad hex\n",
+        lines: "bad hex\n",
     },
-    NotShown {
+    Shown {
         octets: "01000491012000A1",
-        line: "at 8: short\n",
+        lines: "at 8: short\n",
     },
-    NotShown {
+    Shown {
         octets: "0100049101200000A1",
-        line: "at 8: data too long\n",
+        lines: "at 8: data too long\n",
     },
-    NotShown {
+    Shown {
         octets: "01000491012000048D",
-        line: "at 8: data too long\n",
+        lines: "at 8: data too long\n",
     },
-    NotShown {
+    Shown {
         octets: "11000491012000",
-        line: "at 7: short\n",
+        lines: "at 7: short\n",
     },
-    NotShown {
+    Shown {
         octets: "1100049101200000",
-        line: "at 8: short\n",
+        lines: "at 8: short\n",
     },
-    NotShown {
+    Shown {
         octets: "19000491012000009930925161",
-        line: "at 13: short\n",
+        lines: "at 13: short\n",
     },
-    NotShown {
+    Shown {
         octets: "0100049101200000029B",
-        line: "at 10: short\n",
+        lines: "at 10: short\n",
     },
 ];
 
-/// Words that `clap` answers, the status, and what its text has.
-pub static EXPLAINED: [Explained; 35] = [
+/// Words that ask for help, the version, or no subcommand: the status, and a part of what `clap` says.
+pub static WHOLE_WORDS: [Explained; 9] = [
     Explained {
         words: &["sms"],
         status: 2,
@@ -934,50 +967,14 @@ pub static EXPLAINED: [Explained; 35] = [
         part: "--ref <N>",
     },
     Explained {
-        words: &["sms", "split"],
-        status: 2,
-        part: "<TEXT>",
-    },
-    Explained {
-        words: &["sms", "split", "a", "b"],
-        status: 2,
-        part: "'b'",
-    },
-    Explained {
-        words: &["sms", "split", "-5"],
-        status: 2,
-        part: "'-5'",
-    },
-    Explained {
-        words: &["sms", "split", "a", "--ref", "65536"],
-        status: 2,
-        part: "65536 is not in 0..=65535",
-    },
-    Explained {
-        words: &["sms", "split", "a", "--ref", "x"],
-        status: 2,
-        part: "'x'",
-    },
-    Explained {
-        words: &["sms", "split", "a", "--ref", "1", "--ref", "1"],
-        status: 2,
-        part: "cannot be used multiple times",
-    },
-    Explained {
-        words: &["sms", "split", "a", "--mr", "1"],
-        status: 2,
-        part: "'--mr'",
-    },
-    Explained {
-        words: &["sms", "play", "x"],
-        status: 2,
-        part: "'x'",
-    },
-    Explained {
         words: &["sms", "play", "--help"],
         status: 0,
         part: "  carry 6\n  carry 3\n",
     },
+];
+
+/// Words of `show`.
+pub static SHOW_WORDS: [Explained; 7] = [
     Explained {
         words: &["sms", "show"],
         status: 2,
@@ -1013,6 +1010,10 @@ pub static EXPLAINED: [Explained; 35] = [
         status: 2,
         part: "cannot be used multiple times",
     },
+];
+
+/// Words of `encode`.
+pub static ENCODE_WORDS: [Explained; 11] = [
     Explained {
         words: &["sms", "encode", "submit-ack", "1", "a"],
         status: 2,
@@ -1072,8 +1073,52 @@ pub static EXPLAINED: [Explained; 35] = [
     },
 ];
 
-/// Kinds of unit, options, addresses and texts, and the octets.
-pub static UNITS: [Encoded; 71] = [
+/// Words of `split` and `play`.
+pub static SPLIT_WORDS: [Explained; 8] = [
+    Explained {
+        words: &["sms", "split"],
+        status: 2,
+        part: "<TEXT>",
+    },
+    Explained {
+        words: &["sms", "split", "a", "b"],
+        status: 2,
+        part: "'b'",
+    },
+    Explained {
+        words: &["sms", "split", "-5"],
+        status: 2,
+        part: "'-5'",
+    },
+    Explained {
+        words: &["sms", "split", "a", "--ref", "65536"],
+        status: 2,
+        part: "65536 is not in 0..=65535",
+    },
+    Explained {
+        words: &["sms", "split", "a", "--ref", "x"],
+        status: 2,
+        part: "'x'",
+    },
+    Explained {
+        words: &["sms", "split", "a", "--ref", "1", "--ref", "1"],
+        status: 2,
+        part: "cannot be used multiple times",
+    },
+    Explained {
+        words: &["sms", "split", "a", "--mr", "1"],
+        status: 2,
+        part: "'--mr'",
+    },
+    Explained {
+        words: &["sms", "play", "x"],
+        status: 2,
+        part: "'x'",
+    },
+];
+
+/// Units by their options.
+pub static ENCODED_OPTIONS: [Encoded; 8] = [
     Encoded {
         kind: "submit",
         options: &["--validity", "170"],
@@ -1083,6 +1128,59 @@ pub static UNITS: [Encoded; 71] = [
     },
     Encoded {
         kind: "submit",
+        options: &["--mr", "255", "--rd"],
+        address: "1002",
+        text: "a",
+        octets: "05FF0481012000000161",
+    },
+    Encoded {
+        kind: "submit",
+        options: &["--mr", "0"],
+        address: "1",
+        text: "a",
+        octets: "01000181F100000161",
+    },
+    Encoded {
+        kind: "submit",
+        options: &["--validity", "0"],
+        address: "1",
+        text: "a",
+        octets: "11000181F10000000161",
+    },
+    Encoded {
+        kind: "submit",
+        options: &["--validity", "255"],
+        address: "1",
+        text: "a",
+        octets: "11000181F10000FF0161",
+    },
+    Encoded {
+        kind: "submit",
+        options: &["--rd", "--mr", "7", "--validity", "167"],
+        address: "1",
+        text: "a",
+        octets: "15070181F10000A70161",
+    },
+    Encoded {
+        kind: "deliver",
+        options: &["--stamp", "99309251619580"],
+        address: "1",
+        text: "a",
+        octets: "040181F10000993092516195800161",
+    },
+    Encoded {
+        kind: "deliver",
+        options: &["--stamp", "ffffffffffffff"],
+        address: "1",
+        text: "a",
+        octets: "040181F10000FFFFFFFFFFFFFF0161",
+    },
+];
+
+/// Units by their text.
+pub static ENCODED_TEXTS: [Encoded; 12] = [
+    Encoded {
+        kind: "submit",
         options: &[],
         address: "+1002",
         text: "€",
@@ -1090,11 +1188,85 @@ pub static UNITS: [Encoded; 71] = [
     },
     Encoded {
         kind: "submit",
-        options: &["--mr", "255", "--rd"],
-        address: "1002",
-        text: "a",
-        octets: "05FF0481012000000161",
+        options: &[],
+        address: "1",
+        text: "1111111",
+        octets: "01000181F1000007B1582C168BC500",
     },
+    Encoded {
+        kind: "submit",
+        options: &[],
+        address: "1",
+        text: "11111111",
+        octets: "01000181F1000008B1582C168BC562",
+    },
+    Encoded {
+        kind: "submit",
+        options: &[],
+        address: "1",
+        text: "111111111",
+        octets: "01000181F1000009B1582C168BC56231",
+    },
+    Encoded {
+        kind: "submit",
+        options: &[],
+        address: "1",
+        text: "@£$¥èéùìòÇØøÅå",
+        octets: "01000181F100000E8080604028180E88C482E17800",
+    },
+    Encoded {
+        kind: "submit",
+        options: &[],
+        address: "1",
+        text: "Δ_ΦΓΛΩΠΨΣΘΞ",
+        octets: "01000181F100000B90886442A9582E988C06",
+    },
+    Encoded {
+        kind: "submit",
+        options: &[],
+        address: "1",
+        text: "ÆæßÉ ¤¡ÄÖÑÜ§¿äöñüà",
+        octets: "01000181F10000129C8EE7032201B7DCAEF70BDEF3FBFE3F",
+    },
+    Encoded {
+        kind: "submit",
+        options: &[],
+        address: "1",
+        text: "-5",
+        octets: "01000181F1000002AD1A",
+    },
+    Encoded {
+        kind: "submit",
+        options: &[],
+        address: "+1002",
+        text: "ж",
+        octets: "0100049101200008020436",
+    },
+    Encoded {
+        kind: "submit",
+        options: &[],
+        address: "1",
+        text: "😀a",
+        octets: "01000181F1000806D83DDE000061",
+    },
+    Encoded {
+        kind: "deliver",
+        options: &[],
+        address: "1",
+        text: "€ж\u{fffd}",
+        octets: "040181F10008001010000000000620AC0436FFFD",
+    },
+    Encoded {
+        kind: "deliver",
+        options: &[],
+        address: "+1002",
+        text: "€",
+        octets: "0404910120000000101000000000029B32",
+    },
+];
+
+/// Units by the telephone number of their address.
+pub static TELEPHONES: [Encoded; 10] = [
     Encoded {
         kind: "submit",
         options: &[],
@@ -1152,139 +1324,6 @@ pub static UNITS: [Encoded; 71] = [
         octets: "010014911032547698103254769800000161",
     },
     Encoded {
-        kind: "submit",
-        options: &[],
-        address: "1",
-        text: "1111111",
-        octets: "01000181F1000007B1582C168BC500",
-    },
-    Encoded {
-        kind: "submit",
-        options: &[],
-        address: "1",
-        text: "11111111",
-        octets: "01000181F1000008B1582C168BC562",
-    },
-    Encoded {
-        kind: "submit",
-        options: &[],
-        address: "1",
-        text: "111111111",
-        octets: "01000181F1000009B1582C168BC56231",
-    },
-    Encoded {
-        kind: "submit",
-        options: &[],
-        address: "1",
-        text: "^{}\\[~]|€",
-        octets: "01000181F10000121BCA06B5496D5E1BDEA6B7F16D809B32",
-    },
-    Encoded {
-        kind: "submit",
-        options: &[],
-        address: "1",
-        text: "\n\r\u{c}",
-        octets: "01000181F10000048AC64601",
-    },
-    Encoded {
-        kind: "submit",
-        options: &[],
-        address: "1",
-        text: "@£$¥èéùìòÇØøÅå",
-        octets: "01000181F100000E8080604028180E88C482E17800",
-    },
-    Encoded {
-        kind: "submit",
-        options: &[],
-        address: "1",
-        text: "Δ_ΦΓΛΩΠΨΣΘΞ",
-        octets: "01000181F100000B90886442A9582E988C06",
-    },
-    Encoded {
-        kind: "submit",
-        options: &[],
-        address: "1",
-        text: "ÆæßÉ ¤¡ÄÖÑÜ§¿äöñüà",
-        octets: "01000181F10000129C8EE7032201B7DCAEF70BDEF3FBFE3F",
-    },
-    Encoded {
-        kind: "submit",
-        options: &["--mr", "0"],
-        address: "1",
-        text: "a",
-        octets: "01000181F100000161",
-    },
-    Encoded {
-        kind: "submit",
-        options: &["--validity", "0"],
-        address: "1",
-        text: "a",
-        octets: "11000181F10000000161",
-    },
-    Encoded {
-        kind: "submit",
-        options: &["--validity", "255"],
-        address: "1",
-        text: "a",
-        octets: "11000181F10000FF0161",
-    },
-    Encoded {
-        kind: "submit",
-        options: &["--rd", "--mr", "7", "--validity", "167"],
-        address: "1",
-        text: "a",
-        octets: "15070181F10000A70161",
-    },
-    Encoded {
-        kind: "submit",
-        options: &[],
-        address: "1",
-        text: "-5",
-        octets: "01000181F1000002AD1A",
-    },
-    Encoded {
-        kind: "submit",
-        options: &[],
-        address: "+1002",
-        text: "ж",
-        octets: "0100049101200008020436",
-    },
-    Encoded {
-        kind: "submit",
-        options: &[],
-        address: "1",
-        text: "\u{1b}",
-        octets: "01000181F1000802001B",
-    },
-    Encoded {
-        kind: "submit",
-        options: &[],
-        address: "1",
-        text: "a`\0\u{7f}",
-        octets: "01000181F1000808006100600000007F",
-    },
-    Encoded {
-        kind: "submit",
-        options: &[],
-        address: "1",
-        text: "😀a",
-        octets: "01000181F1000806D83DDE000061",
-    },
-    Encoded {
-        kind: "deliver",
-        options: &[],
-        address: "1",
-        text: "€ж\u{fffd}",
-        octets: "040181F10008001010000000000620AC0436FFFD",
-    },
-    Encoded {
-        kind: "deliver",
-        options: &[],
-        address: "hellohe",
-        text: "hi",
-        octets: "040DD0E8329BFD46970100000010100000000002E834",
-    },
-    Encoded {
         kind: "deliver",
         options: &[],
         address: "27838890001",
@@ -1294,108 +1333,14 @@ pub static UNITS: [Encoded; 71] = [
     Encoded {
         kind: "deliver",
         options: &[],
-        address: "+1002",
-        text: "€",
-        octets: "0404910120000000101000000000029B32",
-    },
-    Encoded {
-        kind: "deliver",
-        options: &[],
         address: "",
         text: "",
         octets: "04008100000010100000000000",
     },
-    Encoded {
-        kind: "deliver",
-        options: &["--stamp", "99309251619580"],
-        address: "1",
-        text: "a",
-        octets: "040181F10000993092516195800161",
-    },
-    Encoded {
-        kind: "deliver",
-        options: &["--stamp", "ffffffffffffff"],
-        address: "1",
-        text: "a",
-        octets: "040181F10000FFFFFFFFFFFFFF0161",
-    },
-    Encoded {
-        kind: "deliver",
-        options: &[],
-        address: "x",
-        text: "a",
-        octets: "0402D0780000001010000000000161",
-    },
-    Encoded {
-        kind: "deliver",
-        options: &[],
-        address: "xx",
-        text: "a",
-        octets: "0404D0783C0000001010000000000161",
-    },
-    Encoded {
-        kind: "deliver",
-        options: &[],
-        address: "xxx",
-        text: "a",
-        octets: "0406D0783C1E0000001010000000000161",
-    },
-    Encoded {
-        kind: "deliver",
-        options: &[],
-        address: "xxxx",
-        text: "a",
-        octets: "0407D0783C1E0F0000001010000000000161",
-    },
-    Encoded {
-        kind: "deliver",
-        options: &[],
-        address: "xxxxx",
-        text: "a",
-        octets: "0409D0783C1E8F070000001010000000000161",
-    },
-    Encoded {
-        kind: "deliver",
-        options: &[],
-        address: "xxxxxx",
-        text: "a",
-        octets: "040BD0783C1E8FC7030000001010000000000161",
-    },
-    Encoded {
-        kind: "deliver",
-        options: &[],
-        address: "xxxxxxx",
-        text: "a",
-        octets: "040DD0783C1E8FC7E3010000001010000000000161",
-    },
-    Encoded {
-        kind: "deliver",
-        options: &[],
-        address: "xxxxxxxx",
-        text: "a",
-        octets: "040ED0783C1E8FC7E3F10000001010000000000161",
-    },
-    Encoded {
-        kind: "deliver",
-        options: &[],
-        address: "xxxxxxxxx",
-        text: "a",
-        octets: "0410D0783C1E8FC7E3F1780000001010000000000161",
-    },
-    Encoded {
-        kind: "deliver",
-        options: &[],
-        address: "xxxxxxxxxx",
-        text: "a",
-        octets: "0412D0783C1E8FC7E3F1783C0000001010000000000161",
-    },
-    Encoded {
-        kind: "deliver",
-        options: &[],
-        address: "xxxxxxxxxxx",
-        text: "a",
-        octets: "0414D0783C1E8FC7E3F1783C1E0000001010000000000161",
-    },
+];
+
+/// Units by the length of the telephone number of their address.
+pub static TELEPHONES_OF_EACH_LENGTH: [Encoded; 19] = [
     Encoded {
         kind: "deliver",
         options: &[],
@@ -1529,6 +1474,94 @@ pub static UNITS: [Encoded; 71] = [
         text: "a",
         octets: "041391103254769810325476F80000001010000000000161",
     },
+];
+
+/// Units by the name in their address.
+pub static NAMES: [Encoded; 16] = [
+    Encoded {
+        kind: "deliver",
+        options: &[],
+        address: "hellohe",
+        text: "hi",
+        octets: "040DD0E8329BFD46970100000010100000000002E834",
+    },
+    Encoded {
+        kind: "deliver",
+        options: &[],
+        address: "x",
+        text: "a",
+        octets: "0402D0780000001010000000000161",
+    },
+    Encoded {
+        kind: "deliver",
+        options: &[],
+        address: "xx",
+        text: "a",
+        octets: "0404D0783C0000001010000000000161",
+    },
+    Encoded {
+        kind: "deliver",
+        options: &[],
+        address: "xxx",
+        text: "a",
+        octets: "0406D0783C1E0000001010000000000161",
+    },
+    Encoded {
+        kind: "deliver",
+        options: &[],
+        address: "xxxx",
+        text: "a",
+        octets: "0407D0783C1E0F0000001010000000000161",
+    },
+    Encoded {
+        kind: "deliver",
+        options: &[],
+        address: "xxxxx",
+        text: "a",
+        octets: "0409D0783C1E8F070000001010000000000161",
+    },
+    Encoded {
+        kind: "deliver",
+        options: &[],
+        address: "xxxxxx",
+        text: "a",
+        octets: "040BD0783C1E8FC7030000001010000000000161",
+    },
+    Encoded {
+        kind: "deliver",
+        options: &[],
+        address: "xxxxxxx",
+        text: "a",
+        octets: "040DD0783C1E8FC7E3010000001010000000000161",
+    },
+    Encoded {
+        kind: "deliver",
+        options: &[],
+        address: "xxxxxxxx",
+        text: "a",
+        octets: "040ED0783C1E8FC7E3F10000001010000000000161",
+    },
+    Encoded {
+        kind: "deliver",
+        options: &[],
+        address: "xxxxxxxxx",
+        text: "a",
+        octets: "0410D0783C1E8FC7E3F1780000001010000000000161",
+    },
+    Encoded {
+        kind: "deliver",
+        options: &[],
+        address: "xxxxxxxxxx",
+        text: "a",
+        octets: "0412D0783C1E8FC7E3F1783C0000001010000000000161",
+    },
+    Encoded {
+        kind: "deliver",
+        options: &[],
+        address: "xxxxxxxxxxx",
+        text: "a",
+        octets: "0414D0783C1E8FC7E3F1783C1E0000001010000000000161",
+    },
     Encoded {
         kind: "submit",
         options: &[],
@@ -1546,20 +1579,6 @@ pub static UNITS: [Encoded; 71] = [
     Encoded {
         kind: "submit",
         options: &[],
-        address: "A[\\]",
-        text: "a",
-        octets: "01000DD0C10D6FF3DAF80000000161",
-    },
-    Encoded {
-        kind: "deliver",
-        options: &[],
-        address: "a\n\u{c}",
-        text: "a",
-        octets: "0407D061C546010000001010000000000161",
-    },
-    Encoded {
-        kind: "submit",
-        options: &[],
         address: " ",
         text: "a",
         octets: "010002D02000000161",
@@ -1573,8 +1592,78 @@ pub static UNITS: [Encoded; 71] = [
     },
 ];
 
-/// Kinds of unit, options, addresses and texts that make none, the status and the answer.
-pub static NO_UNITS: [NotEncoded; 29] = [
+/// Units with characters that would break a line.
+pub static BREAKING: [Breaking; 6] = [
+    Breaking {
+        unit: Encoded {
+            kind: "submit",
+            options: &[],
+            address: "1",
+            text: "^{}\\[~]|€",
+            octets: "01000181F10000121BCA06B5496D5E1BDEA6B7F16D809B32",
+        },
+        address: "1",
+        text: "^{}\\\\[~]|€",
+    },
+    Breaking {
+        unit: Encoded {
+            kind: "submit",
+            options: &[],
+            address: "1",
+            text: "\n\r\u{c}",
+            octets: "01000181F10000048AC64601",
+        },
+        address: "1",
+        text: "\\n\\r\\f",
+    },
+    Breaking {
+        unit: Encoded {
+            kind: "submit",
+            options: &[],
+            address: "1",
+            text: "\u{1b}",
+            octets: "01000181F1000802001B",
+        },
+        address: "1",
+        text: "\\x1b",
+    },
+    Breaking {
+        unit: Encoded {
+            kind: "submit",
+            options: &[],
+            address: "1",
+            text: "a`\0\u{7f}",
+            octets: "01000181F1000808006100600000007F",
+        },
+        address: "1",
+        text: "a`\\x00\\x7f",
+    },
+    Breaking {
+        unit: Encoded {
+            kind: "submit",
+            options: &[],
+            address: "A[\\]",
+            text: "a",
+            octets: "01000DD0C10D6FF3DAF80000000161",
+        },
+        address: "A[\\\\]",
+        text: "a",
+    },
+    Breaking {
+        unit: Encoded {
+            kind: "deliver",
+            options: &[],
+            address: "a\n\u{c}",
+            text: "a",
+            octets: "0407D061C546010000001010000000000161",
+        },
+        address: "a\\n\\f",
+        text: "a",
+    },
+];
+
+/// Words whose address is none, the status and the answer.
+pub static NO_ADDRESSES: [NotEncoded; 14] = [
     NotEncoded {
         kind: "submit",
         options: &[],
@@ -1631,6 +1720,66 @@ pub static NO_UNITS: [NotEncoded; 29] = [
         status: 1,
         line: "bad address",
     },
+    NotEncoded {
+        kind: "deliver",
+        options: &[],
+        address: "+x",
+        text: "ж",
+        status: 1,
+        line: "bad address",
+    },
+    NotEncoded {
+        kind: "submit",
+        options: &[],
+        address: "ABCDEFGHIJKL",
+        text: "a",
+        status: 1,
+        line: "bad address",
+    },
+    NotEncoded {
+        kind: "submit",
+        options: &[],
+        address: "[[[[[[",
+        text: "a",
+        status: 1,
+        line: "bad address",
+    },
+    NotEncoded {
+        kind: "submit",
+        options: &[],
+        address: "ж",
+        text: "a",
+        status: 1,
+        line: "bad address",
+    },
+    NotEncoded {
+        kind: "submit",
+        options: &[],
+        address: "жжжжжжжжжжжж",
+        text: "a",
+        status: 1,
+        line: "bad address",
+    },
+    NotEncoded {
+        kind: "submit",
+        options: &[],
+        address: "a\u{1b}",
+        text: "a",
+        status: 1,
+        line: "bad address",
+    },
+    NotEncoded {
+        kind: "submit",
+        options: &[],
+        address: "x+ж",
+        text: "a",
+        status: 1,
+        line: "bad address",
+    },
+];
+
+/// Words with an option that is none of the kind, or with no stamp, the status and the answer.
+pub static NO_OPTIONS: [NotEncoded; 15] = [
     NotEncoded {
         kind: "deliver",
         options: &["--rd"],
@@ -1750,62 +1899,6 @@ pub static NO_UNITS: [NotEncoded; 29] = [
         text: "ж",
         status: 1,
         line: "bad hex",
-    },
-    NotEncoded {
-        kind: "deliver",
-        options: &[],
-        address: "+x",
-        text: "ж",
-        status: 1,
-        line: "bad address",
-    },
-    NotEncoded {
-        kind: "submit",
-        options: &[],
-        address: "ABCDEFGHIJKL",
-        text: "a",
-        status: 1,
-        line: "bad address",
-    },
-    NotEncoded {
-        kind: "submit",
-        options: &[],
-        address: "[[[[[[",
-        text: "a",
-        status: 1,
-        line: "bad address",
-    },
-    NotEncoded {
-        kind: "submit",
-        options: &[],
-        address: "ж",
-        text: "a",
-        status: 1,
-        line: "bad address",
-    },
-    NotEncoded {
-        kind: "submit",
-        options: &[],
-        address: "жжжжжжжжжжжж",
-        text: "a",
-        status: 1,
-        line: "bad address",
-    },
-    NotEncoded {
-        kind: "submit",
-        options: &[],
-        address: "a\u{1b}",
-        text: "a",
-        status: 1,
-        line: "bad address",
-    },
-    NotEncoded {
-        kind: "submit",
-        options: &[],
-        address: "x+ж",
-        text: "a",
-        status: 1,
-        line: "bad address",
     },
 ];
 

@@ -3,16 +3,21 @@
 mod rows;
 
 use super::{answer_to, repeated, says};
-use rows::{REFERENCES, SEPTETS, TOO_MANY, WIDE};
+use rows::{
+    Greatest, IN_ONE_PIECE, IN_PIECES, REFERENCES, Split, TOO_MANY, WIDE_IN_ONE_PIECE,
+    WIDE_IN_PIECES,
+};
+use std::alloc::Global;
+use std::process::Abort;
 use std::test::Fail;
 
 /// The text of parts between bars, each as many times as the number after its asterisk says, else once.
-pub(super) fn expanded(rt: &HostRuntime, parts: &str) -> Result<String, Fail> {
-    let mut text = String::new(rt.alloc());
+pub(super) fn expanded(alloc: Global, parts: &str) -> Result<String, Fail> {
+    let mut text = String::new(alloc);
     for part in parts.split('|') {
         match part.split_once('*') {
             Some((unit, times)) => {
-                text.push_str(&repeated(rt, unit, times.parse::<usize>()?)?)?;
+                text.push_str(&repeated(alloc, unit, times.parse::<usize>()?)?)?;
             }
             None => text.push_str(part)?,
         }
@@ -21,65 +26,88 @@ pub(super) fn expanded(rt: &HostRuntime, parts: &str) -> Result<String, Fail> {
 }
 
 /// Whether a text is split into segments with a reference.
-fn is_split(rt: &HostRuntime, reference: &str, text: &str, lines: &str) -> Result<bool, Fail> {
-    let text = expanded(rt, text)?;
-    let (status, answer) = answer_to(rt, &["sms", "split", "--ref", reference, "--", &text])?;
-    Ok(status == 0 && answer == expanded(rt, lines)?)
+fn is_split(alloc: Global, reference: &str, text: &str, lines: &str) -> Result<bool, Fail> {
+    let text = expanded(alloc, text)?;
+    let (status, answer) = answer_to(alloc, &["sms", "split", "--ref", reference, "--", &text])?;
+    Ok(status == 0 && answer == expanded(alloc, lines)?)
+}
+
+/// The text of each row is split into its segments.
+fn are_split(rt: &impl Abort, alloc: Global, rows: &[Split]) -> Result<(), Fail> {
+    for row in rows {
+        let split = is_split(alloc, "0", row.text, row.lines)?;
+        assert!(rt; split, "{}", row.text);
+    }
+    Ok(())
 }
 
 #[test]
 fn splits_texts_of_septets(rt: HostRuntime) -> Result<(), Fail> {
-    for row in SEPTETS.as_slice() {
-        let split = is_split(&rt, "0", row.text, row.lines)?;
-        assert!(rt; split, "{}", row.text);
-    }
-    Ok(())
+    are_split(&rt, rt.alloc(), IN_ONE_PIECE.as_slice())?;
+    are_split(&rt, rt.alloc(), IN_PIECES.as_slice())
 }
 
 #[test]
 fn splits_wide_texts(rt: HostRuntime) -> Result<(), Fail> {
-    for row in WIDE.as_slice() {
-        let split = is_split(&rt, "0", row.text, row.lines)?;
-        assert!(rt; split, "{}", row.text);
-    }
-    Ok(())
+    are_split(&rt, rt.alloc(), WIDE_IN_ONE_PIECE.as_slice())?;
+    are_split(&rt, rt.alloc(), WIDE_IN_PIECES.as_slice())
 }
 
 #[test]
 fn splits_with_references(rt: HostRuntime) -> Result<(), Fail> {
     for row in REFERENCES.as_slice() {
-        let split = is_split(&rt, row.reference, row.text, row.lines)?;
+        let split = is_split(rt.alloc(), row.reference, row.text, row.lines)?;
         assert!(rt; split, "{}", row.text);
     }
     Ok(())
 }
 
-#[test]
-fn splits_into_255_segments(rt: HostRuntime) -> Result<(), Fail> {
-    let text = repeated(&rt, "a", 39_015)?;
-    let rest = repeated(&rt, "E170381C0E87C3", 19)?;
-    let mut lines = String::new(rt.alloc());
+/// The lines of 255 segments of one letter.
+fn lines_of_255(alloc: Global) -> Result<String, Fail> {
+    let rest = repeated(alloc, "E170381C0E87C3", 19)?;
+    let mut lines = String::new(alloc);
     for place in 1..256 {
-        let line = format!(in rt.alloc(); "{place}/255 gsm 160 05000300FF{place:02X}C2{rest}\n")?;
+        let line = format!(in alloc; "{place}/255 gsm 160 05000300FF{place:02X}C2{rest}\n")?;
         lines.push_str(&line)?;
     }
-    let (status, answer) = answer_to(&rt, &["sms", "split", &text])?;
-    assert_eq!(rt; status, 0);
-    assert_eq!(rt; answer, lines);
+    Ok(lines)
+}
+
+/// Whether a text has a status and an answer.
+fn is_cut(alloc: Global, text: &str, wanted: u8, lines: &str) -> Result<bool, Fail> {
+    let (status, answer) = answer_to(alloc, &["sms", "split", text])?;
+    Ok(status == wanted && answer.as_str() == lines)
+}
+
+#[test]
+fn splits_into_255_segments(rt: HostRuntime) -> Result<(), Fail> {
+    let text = repeated(rt.alloc(), "a", 39_015)?;
+    let lines = lines_of_255(rt.alloc())?;
+    let split = is_cut(rt.alloc(), &text, 0, &lines)?;
+    assert!(rt; split);
     Ok(())
+}
+
+/// Whether a text is split, and the line of its last segment begins so.
+fn has_last(alloc: Global, text: &str, last: &str) -> Result<bool, Fail> {
+    let (status, answer) = answer_to(alloc, &["sms", "split", text])?;
+    Ok(status == 0 && says(&answer, last))
+}
+
+/// Whether as many characters as a row tells have 255 segments, and one more has too many.
+fn is_greatest(alloc: Global, row: &Greatest) -> Result<bool, Fail> {
+    let mut text = repeated(alloc, row.character, row.count)?;
+    let split = has_last(alloc, &text, row.last)?;
+    text.push_str(row.character)?;
+    let refused = is_cut(alloc, &text, 1, "too many segments\n")?;
+    Ok(split && refused)
 }
 
 #[test]
 fn refuses_more_than_255_segments(rt: HostRuntime) -> Result<(), Fail> {
     for row in TOO_MANY.as_slice() {
-        let mut text = repeated(&rt, row.character, row.count)?;
-        let (status, answer) = answer_to(&rt, &["sms", "split", &text])?;
-        assert_eq!(rt; status, 0, "{}", row.character);
-        assert!(rt; says(&answer, row.last), "{}", row.character);
-        text.push_str(row.character)?;
-        let (status, answer) = answer_to(&rt, &["sms", "split", &text])?;
-        assert_eq!(rt; status, 1, "{}", row.character);
-        assert_eq!(rt; answer.as_str(), "too many segments\n", "{}", row.character);
+        let greatest = is_greatest(rt.alloc(), row)?;
+        assert!(rt; greatest, "{}", row.character);
     }
     Ok(())
 }

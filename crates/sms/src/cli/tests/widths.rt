@@ -2,6 +2,7 @@
 
 use super::answer_to;
 use super::splits::expanded;
+use std::alloc::Global;
 use std::test::Fail;
 
 /// A text, its reference, and the lines of its segments; `|` and `*` as in the rows of `splits`.
@@ -74,36 +75,49 @@ static UNCUT_ROWS: [UncutRow; 3] = [
 
 /// The status and the whole output, for a text under a reference.
 fn split_of(
-    rt: &HostRuntime,
+    alloc: Global,
     is_wide: bool,
     reference: &str,
     text: &str,
 ) -> Result<(u8, String), Fail> {
-    let text = expanded(rt, text)?;
+    let text = expanded(alloc, text)?;
     if is_wide {
-        answer_to(rt, &["sms", "split", "--wide", "--ref", reference, &text])
+        answer_to(
+            alloc,
+            &["sms", "split", "--wide", "--ref", reference, &text],
+        )
     } else {
-        answer_to(rt, &["sms", "split", "--ref", reference, &text])
+        answer_to(alloc, &["sms", "split", "--ref", reference, &text])
     }
+}
+
+/// Whether a text is split into the segments of a row.
+fn is_split(alloc: Global, row: &WideRow) -> Result<bool, Fail> {
+    let (status, answer) = split_of(alloc, true, row.reference, row.text)?;
+    let lines = expanded(alloc, row.lines)?;
+    Ok(status == 0 && answer == lines)
 }
 
 #[test]
 fn splits_under_wide_references(rt: HostRuntime) -> Result<(), Fail> {
     for row in WIDE_ROWS.as_slice() {
-        let (status, answer) = split_of(&rt, true, row.reference, row.text)?;
-        let lines = expanded(&rt, row.lines)?;
-        assert_eq!(rt; status, 0, "{}", row.text);
-        assert_eq!(rt; answer, lines, "{}", row.text);
+        let split = is_split(rt.alloc(), row)?;
+        assert!(rt; split, "{} {}", row.text, row.reference);
     }
     Ok(())
+}
+
+/// Whether a text has the status and the line of a row.
+fn is_refused(alloc: Global, row: &UncutRow) -> Result<bool, Fail> {
+    let (status, answer) = split_of(alloc, row.is_wide, row.reference, row.text)?;
+    Ok(status == row.status && answer.as_str() == row.line)
 }
 
 #[test]
 fn refuses_references_and_texts_too_large(rt: HostRuntime) -> Result<(), Fail> {
     for row in UNCUT_ROWS.as_slice() {
-        let (status, answer) = split_of(&rt, row.is_wide, row.reference, row.text)?;
-        assert_eq!(rt; status, row.status, "{}", row.text);
-        assert_eq!(rt; answer.as_str(), row.line, "{}", row.text);
+        let refused = is_refused(rt.alloc(), row)?;
+        assert!(rt; refused, "{} {}", row.text, row.reference);
     }
     Ok(())
 }

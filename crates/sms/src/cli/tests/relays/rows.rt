@@ -9,8 +9,8 @@ pub struct WholeMessage {
     pub end: usize,
 }
 
-/// RP messages with what they carry, and the answer.
-pub static RP_MESSAGES: [Shown; 58] = [
+/// RP-DATA from phones, and the answer.
+pub static DATA_FROM_PHONES: [Shown; 14] = [
     Shown {
         octets: "000000039101000B010004910120000002E834",
         lines: "rp: data from phone\nreference: 00\naddress: +1000\ntype: submit\nreject: no\nreport: no\nreply: no\nreference: 00\nto: +1002\nnumber: 1 1\npid: 00\ndcs: 00\nvalidity: none\nlength: 2\ntext: hi\n",
@@ -67,6 +67,10 @@ pub static RP_MESSAGES: [Shown; 58] = [
         octets: "00000003910100124100049101200008090500030A02010436FF",
         lines: "rp: data from phone\nreference: 00\naddress: +1000\ntype: submit\nreject: no\nreport: no\nreply: no\nreference: 00\nto: +1002\nnumber: 1 1\npid: 00\ndcs: 08\nvalidity: none\nlength: 9\nheader: 00030A0201\nconcat: 8 10 2 1\ntext: ж\n",
     },
+];
+
+/// RP-DATA to phones, and the answer.
+pub static DATA_TO_PHONES: [Shown; 10] = [
     Shown {
         octets: "0100039101000011040491101000000010100000000002E834",
         lines: "rp: data to phone\nreference: 00\naddress: +1000\ntype: deliver\nmore: no\nloop: no\nreport: no\nreply: no\nfrom: +0101\nnumber: 1 1\npid: 00\ndcs: 00\nstamp: 2000-01-01 00:00:00 +00:00\nlength: 2\ntext: hi\n",
@@ -103,6 +107,14 @@ pub static RP_MESSAGES: [Shown; 58] = [
         octets: "010003910100001C040BC87238880900F10000993092516195800AE8329BFD4697D9EC37",
         lines: "rp: data to phone\nreference: 00\naddress: +1000\ntype: deliver\nmore: no\nloop: no\nreport: no\nreply: no\nfrom: 27838890001\nnumber: 4 8\npid: 00\ndcs: 00\nstamp: 2099-03-29 15:16:59 +02:00\nlength: 10\ntext: hellohello\n",
     },
+    Shown {
+        octets: "01000391010000E90400000000000000000000000000000000000000000000000000000000000000000000000000000000000000000000000000000000000000000000000000000000000000000000000000000000000000000000000000000000000000000000000000000000000000000000000000000000000000000000000000000000000000000000000000000000000000000000000000000000000000000000000000000000000000000000000000000000000000000000000000000000000000000000000000000000000000000000000000000000000000000000000000000000000000000000000000000000",
+        lines: "rp: data to phone\nreference: 00\naddress: +1000\ntype: deliver\nmore: no\nloop: no\nreport: no\nreply: no\nfrom: \nnumber: 0 0\npid: 00\ndcs: 00\nstamp: raw 00000000000000\nlength: 0\ntext: \nrest: 220\n",
+    },
+];
+
+/// RP-ACK, and the answer.
+pub static ACKNOWLEDGEMENTS: [Shown; 17] = [
     Shown {
         octets: "0200",
         lines: "rp: ack from phone\nreference: 00\nuser: none\n",
@@ -171,6 +183,10 @@ pub static RP_MESSAGES: [Shown; 58] = [
         octets: "0300410B0100001010000000000000",
         lines: "rp: ack to phone\nreference: 00\ntype: submit-ack\nheader: no\nstamp: 2000-01-01 00:00:00 +00:00\nrest: 2\n",
     },
+];
+
+/// RP-ERROR, and the answer.
+pub static ERRORS: [Shown; 17] = [
     Shown {
         octets: "0400016F",
         lines: "rp: error from phone\nreference: 00\ncause: 111\nuser: none\n",
@@ -228,10 +244,6 @@ pub static RP_MESSAGES: [Shown; 58] = [
         lines: "rp: error to phone\nreference: 00\ncause: 97\ndiagnostic: 65\nuser: none\n",
     },
     Shown {
-        octets: "01000391010000E90400000000000000000000000000000000000000000000000000000000000000000000000000000000000000000000000000000000000000000000000000000000000000000000000000000000000000000000000000000000000000000000000000000000000000000000000000000000000000000000000000000000000000000000000000000000000000000000000000000000000000000000000000000000000000000000000000000000000000000000000000000000000000000000000000000000000000000000000000000000000000000000000000000000000000000000000000000000",
-        lines: "rp: data to phone\nreference: 00\naddress: +1000\ntype: deliver\nmore: no\nloop: no\nreport: no\nreply: no\nfrom: \nnumber: 0 0\npid: 00\ndcs: 00\nstamp: raw 00000000000000\nlength: 0\ntext: \nrest: 220\n",
-    },
-    Shown {
         octets: "05000115410A01B00000101000000000",
         lines: "rp: error to phone\nreference: 00\ncause: 21\ntype: submit-error\nheader: no\ncause: B0\nstamp: 2000-01-01 00:00:00 +00:00\n",
     },
@@ -245,8 +257,8 @@ pub static RP_MESSAGES: [Shown; 58] = [
     },
 ];
 
-/// Octets that are no RP message, and the answer.
-pub static NO_RP_MESSAGES: [Shown; 65] = [
+/// Octets that are no RP message by their type, and the answer.
+pub static NO_RP_TYPES: [Shown; 12] = [
     Shown {
         octets: "",
         lines: "at 0: short\n",
@@ -295,6 +307,10 @@ pub static NO_RP_MESSAGES: [Shown; 65] = [
         octets: "05",
         lines: "at 1: short\n",
     },
+];
+
+/// Octets that are no RP message by their addresses, and the answer.
+pub static NO_RP_ADDRESSES: [Shown; 24] = [
     Shown {
         octets: "000001",
         lines: "at 2: bad address\n",
@@ -391,6 +407,10 @@ pub static NO_RP_MESSAGES: [Shown; 65] = [
         octets: "01000001",
         lines: "at 3: bad address\n",
     },
+];
+
+/// Octets that are no RP message by their RP-User data, and the answer.
+pub static NO_RP_USER_DATA: [Shown; 13] = [
     Shown {
         octets: "01000000EA",
         lines: "at 4: data too long\n",
@@ -443,6 +463,10 @@ pub static NO_RP_MESSAGES: [Shown; 65] = [
         octets: "02004102FF",
         lines: "at 5: short\n",
     },
+];
+
+/// Octets that are no RP message by their RP-Cause, or by what follows it, and the answer.
+pub static NO_RP_CAUSES: [Shown; 16] = [
     Shown {
         octets: "040000",
         lines: "at 2: bad cause\n",
@@ -509,8 +533,8 @@ pub static NO_RP_MESSAGES: [Shown; 65] = [
     },
 ];
 
-/// RP messages that carry no unit of their kind, and the answer.
-pub static FAULTS_IN_RP: [Shown; 43] = [
+/// RP-DATA whose unit is none, and the answer.
+pub static FAULTS_IN_TRANSFERS: [Shown; 20] = [
     Shown {
         octets: "0000000391010000",
         lines: "rp: data from phone\nreference: 00\naddress: +1000\nat 0: short\n",
@@ -587,6 +611,14 @@ pub static FAULTS_IN_RP: [Shown; 43] = [
         octets: "0100039101000001030102",
         lines: "rp: data to phone\nreference: 00\naddress: +1000\nrest: 2\nat 0: wrong type\n",
     },
+    Shown {
+        octets: "00000003910100E9FFFFFFFFFFFFFFFFFFFFFFFFFFFFFFFFFFFFFFFFFFFFFFFFFFFFFFFFFFFFFFFFFFFFFFFFFFFFFFFFFFFFFFFFFFFFFFFFFFFFFFFFFFFFFFFFFFFFFFFFFFFFFFFFFFFFFFFFFFFFFFFFFFFFFFFFFFFFFFFFFFFFFFFFFFFFFFFFFFFFFFFFFFFFFFFFFFFFFFFFFFFFFFFFFFFFFFFFFFFFFFFFFFFFFFFFFFFFFFFFFFFFFFFFFFFFFFFFFFFFFFFFFFFFFFFFFFFFFFFFFFFFFFFFFFFFFFFFFFFFFFFFFFFFFFFFFFFFFFFFFFFFFFFFFFFFFFFFFFFFFFFFFFFFFFFFFFFFFFFFFFFFFFFFFFFFFFFFFFFFFFFFFFFFFFFFFFFFFFFFFFFFFFFFFFFFFFFFFFFFFFFFFFFFFFFFFFFFFFFFFFFFFFFFFFFFFFFFFFFFFFFFFF",
+        lines: "rp: data from phone\nreference: 00\naddress: +1000\nat 0: wrong type\n",
+    },
+];
+
+/// RP-ACK and RP-ERROR whose unit is none, and the answer.
+pub static FAULTS_IN_ANSWERS: [Shown; 23] = [
     Shown {
         octets: "02004100",
         lines: "rp: ack from phone\nreference: 00\nat 0: short\n",
@@ -679,14 +711,10 @@ pub static FAULTS_IN_RP: [Shown; 43] = [
         octets: "050002958141010241",
         lines: "rp: error to phone\nreference: 00\ncause: 21\ndiagnostic: 129\nrest: 1\nat 0: wrong type\n",
     },
-    Shown {
-        octets: "00000003910100E9FFFFFFFFFFFFFFFFFFFFFFFFFFFFFFFFFFFFFFFFFFFFFFFFFFFFFFFFFFFFFFFFFFFFFFFFFFFFFFFFFFFFFFFFFFFFFFFFFFFFFFFFFFFFFFFFFFFFFFFFFFFFFFFFFFFFFFFFFFFFFFFFFFFFFFFFFFFFFFFFFFFFFFFFFFFFFFFFFFFFFFFFFFFFFFFFFFFFFFFFFFFFFFFFFFFFFFFFFFFFFFFFFFFFFFFFFFFFFFFFFFFFFFFFFFFFFFFFFFFFFFFFFFFFFFFFFFFFFFFFFFFFFFFFFFFFFFFFFFFFFFFFFFFFFFFFFFFFFFFFFFFFFFFFFFFFFFFFFFFFFFFFFFFFFFFFFFFFFFFFFFFFFFFFFFFFFFFFFFFFFFFFFFFFFFFFFFFFFFFFFFFFFFFFFFFFFFFFFFFFFFFFFFFFFFFFFFFFFFFFFFFFFFFFFFFFFFFFFFFFFFFFFF",
-        lines: "rp: data from phone\nreference: 00\naddress: +1000\nat 0: wrong type\n",
-    },
 ];
 
-/// CP messages with what they carry, and the answer.
-pub static CP_MESSAGES: [Shown; 46] = [
+/// CP-DATA with an RP-DATA, and the answer.
+pub static CP_DATA_OF_TRANSFERS: [Shown; 13] = [
     Shown {
         octets: "0901110000000391010009010004910120000000",
         lines: "cp: data\ntransaction: 0 0\nrp: data from phone\nreference: 00\naddress: +1000\ntype: submit\nreject: no\nreport: no\nreply: no\nreference: 00\nto: +1002\nnumber: 1 1\npid: 00\ndcs: 00\nvalidity: none\nlength: 0\ntext: \n",
@@ -696,28 +724,60 @@ pub static CP_MESSAGES: [Shown; 46] = [
         lines: "cp: data\ntransaction: 0 0\nrp: data from phone\nreference: 00\naddress: +1000\ntype: submit\nreject: no\nreport: no\nreply: no\nreference: 00\nto: +1002\nnumber: 1 1\npid: 00\ndcs: 00\nvalidity: none\nlength: 2\ntext: hi\n",
     },
     Shown {
-        octets: "8904",
-        lines: "cp: ack\ntransaction: 1 0\n",
+        octets: "0901190100039101000011040491011000000010100000000002E834",
+        lines: "cp: data\ntransaction: 0 0\nrp: data to phone\nreference: 00\naddress: +1000\ntype: deliver\nmore: no\nloop: no\nreport: no\nreply: no\nfrom: +1001\nnumber: 1 1\npid: 00\ndcs: 00\nstamp: 2000-01-01 00:00:00 +00:00\nlength: 2\ntext: hi\n",
     },
+    Shown {
+        octets: "190113000100039101000B050004910120000002E834",
+        lines: "cp: data\ntransaction: 0 1\nrp: data from phone\nreference: 01\naddress: +1000\ntype: submit\nreject: yes\nreport: no\nreply: no\nreference: 00\nto: +1002\nnumber: 1 1\npid: 00\ndcs: 00\nvalidity: none\nlength: 2\ntext: hi\n",
+    },
+    Shown {
+        octets: "090118010003910100001004049101100004001010000000000141",
+        lines: "cp: data\ntransaction: 0 0\nrp: data to phone\nreference: 00\naddress: +1000\ntype: deliver\nmore: no\nloop: no\nreport: no\nreply: no\nfrom: +1001\nnumber: 1 1\npid: 00\ndcs: 04\nstamp: 2000-01-01 00:00:00 +00:00\nlength: 1\ndata: 41\n",
+    },
+    Shown {
+        octets: "090113000000039101000B010004910120000402E834",
+        lines: "cp: data\ntransaction: 0 0\nrp: data from phone\nreference: 00\naddress: +1000\ntype: submit\nreject: no\nreport: no\nreply: no\nreference: 00\nto: +1002\nnumber: 1 1\npid: 00\ndcs: 04\nvalidity: none\nlength: 2\ndata: E834\n",
+    },
+    Shown {
+        octets: "590113000000039101000B010004910120000002E834",
+        lines: "cp: data\ntransaction: 0 5\nrp: data from phone\nreference: 00\naddress: +1000\ntype: submit\nreject: no\nreport: no\nreply: no\nreference: 00\nto: +1002\nnumber: 1 1\npid: 00\ndcs: 00\nvalidity: none\nlength: 2\ntext: hi\n",
+    },
+    Shown {
+        octets: "6901190100039101000011040491101000000010100000000002E834",
+        lines: "cp: data\ntransaction: 0 6\nrp: data to phone\nreference: 00\naddress: +1000\ntype: deliver\nmore: no\nloop: no\nreport: no\nreply: no\nfrom: +0101\nnumber: 1 1\npid: 00\ndcs: 00\nstamp: 2000-01-01 00:00:00 +00:00\nlength: 2\ntext: hi\n",
+    },
+    Shown {
+        octets: "090116000000039101000C010004910120000002E834010203040506",
+        lines: "cp: data\ntransaction: 0 0\nrest: 3\nrp: data from phone\nreference: 00\naddress: +1000\nrest: 2\ntype: submit\nreject: no\nreport: no\nreply: no\nreference: 00\nto: +1002\nnumber: 1 1\npid: 00\ndcs: 00\nvalidity: none\nlength: 2\ntext: hi\nrest: 1\n",
+    },
+    Shown {
+        octets: "09011B0100039101000012040491101000000010100000000002E834010203",
+        lines: "cp: data\ntransaction: 0 0\nrest: 1\nrp: data to phone\nreference: 00\naddress: +1000\nrest: 1\ntype: deliver\nmore: no\nloop: no\nreport: no\nreply: no\nfrom: +0101\nnumber: 1 1\npid: 00\ndcs: 00\nstamp: 2000-01-01 00:00:00 +00:00\nlength: 2\ntext: hi\nrest: 1\n",
+    },
+    Shown {
+        octets: "090110000000000B010004910120000002E834",
+        lines: "cp: data\ntransaction: 0 0\nrp: data from phone\nreference: 00\naddress: none\ntype: submit\nreject: no\nreport: no\nreply: no\nreference: 00\nto: +1002\nnumber: 1 1\npid: 00\ndcs: 00\nvalidity: none\nlength: 2\ntext: hi\n",
+    },
+    Shown {
+        octets: "0901160100000011040491101000000010100000000002E834",
+        lines: "cp: data\ntransaction: 0 0\nrp: data to phone\nreference: 00\naddress: none\ntype: deliver\nmore: no\nloop: no\nreport: no\nreply: no\nfrom: +0101\nnumber: 1 1\npid: 00\ndcs: 00\nstamp: 2000-01-01 00:00:00 +00:00\nlength: 2\ntext: hi\n",
+    },
+    Shown {
+        octets: "0901F100000003910100E9010004910120000002E834555555555555555555555555555555555555555555555555555555555555555555555555555555555555555555555555555555555555555555555555555555555555555555555555555555555555555555555555555555555555555555555555555555555555555555555555555555555555555555555555555555555555555555555555555555555555555555555555555555555555555555555555555555555555555555555555555555555555555555555555555555555555555555555555555555555555555555555555555555555555555555555555555555555555",
+        lines: "cp: data\ntransaction: 0 0\nrp: data from phone\nreference: 00\naddress: +1000\ntype: submit\nreject: no\nreport: no\nreply: no\nreference: 00\nto: +1002\nnumber: 1 1\npid: 00\ndcs: 00\nvalidity: none\nlength: 2\ntext: hi\nrest: 222\n",
+    },
+];
+
+/// CP-DATA with an RP-ACK or an RP-ERROR, and the answer.
+pub static CP_DATA_OF_ANSWERS: [Shown; 20] = [
     Shown {
         octets: "89010D03004109010000101000000000",
         lines: "cp: data\ntransaction: 1 0\nrp: ack to phone\nreference: 00\ntype: submit-ack\nheader: no\nstamp: 2000-01-01 00:00:00 +00:00\n",
     },
     Shown {
-        octets: "0901190100039101000011040491011000000010100000000002E834",
-        lines: "cp: data\ntransaction: 0 0\nrp: data to phone\nreference: 00\naddress: +1000\ntype: deliver\nmore: no\nloop: no\nreport: no\nreply: no\nfrom: +1001\nnumber: 1 1\npid: 00\ndcs: 00\nstamp: 2000-01-01 00:00:00 +00:00\nlength: 2\ntext: hi\n",
-    },
-    Shown {
         octets: "890106020041020000",
         lines: "cp: data\ntransaction: 1 0\nrp: ack from phone\nreference: 00\ntype: deliver-ack\nheader: no\n",
-    },
-    Shown {
-        octets: "0904",
-        lines: "cp: ack\ntransaction: 0 0\n",
-    },
-    Shown {
-        octets: "190113000100039101000B050004910120000002E834",
-        lines: "cp: data\ntransaction: 0 1\nrp: data from phone\nreference: 01\naddress: +1000\ntype: submit\nreject: yes\nreport: no\nreply: no\nreference: 00\nto: +1002\nnumber: 1 1\npid: 00\ndcs: 00\nvalidity: none\nlength: 2\ntext: hi\n",
     },
     Shown {
         octets: "99011005010115410A01C50000101000000000",
@@ -728,16 +788,8 @@ pub static CP_MESSAGES: [Shown; 46] = [
         lines: "cp: data\ntransaction: 1 0\nrp: error to phone\nreference: 00\ncause: 1\ntype: submit-error\nheader: no\ncause: C3\nstamp: 2000-01-01 00:00:00 +00:00\n",
     },
     Shown {
-        octets: "090118010003910100001004049101100004001010000000000141",
-        lines: "cp: data\ntransaction: 0 0\nrp: data to phone\nreference: 00\naddress: +1000\ntype: deliver\nmore: no\nloop: no\nreport: no\nreply: no\nfrom: +1001\nnumber: 1 1\npid: 00\ndcs: 04\nstamp: 2000-01-01 00:00:00 +00:00\nlength: 1\ndata: 41\n",
-    },
-    Shown {
         octets: "8901090400016F4103009000",
         lines: "cp: data\ntransaction: 1 0\nrp: error from phone\nreference: 00\ncause: 111\ntype: deliver-error\nheader: no\ncause: 90\n",
-    },
-    Shown {
-        octets: "090113000000039101000B010004910120000402E834",
-        lines: "cp: data\ntransaction: 0 0\nrp: data from phone\nreference: 00\naddress: +1000\ntype: submit\nreject: no\nreport: no\nreply: no\nreference: 00\nto: +1002\nnumber: 1 1\npid: 00\ndcs: 04\nvalidity: none\nlength: 2\ndata: E834\n",
     },
     Shown {
         octets: "99010904010116410300D300",
@@ -754,6 +806,62 @@ pub static CP_MESSAGES: [Shown; 46] = [
     Shown {
         octets: "89010405050161",
         lines: "cp: data\ntransaction: 1 0\nrp: error to phone\nreference: 05\ncause: 97\nuser: none\n",
+    },
+    Shown {
+        octets: "0901020200",
+        lines: "cp: data\ntransaction: 0 0\nrp: ack from phone\nreference: 00\nuser: none\n",
+    },
+    Shown {
+        octets: "8901020300",
+        lines: "cp: data\ntransaction: 1 0\nrp: ack to phone\nreference: 00\nuser: none\n",
+    },
+    Shown {
+        octets: "09010404000116",
+        lines: "cp: data\ntransaction: 0 0\nrp: error from phone\nreference: 00\ncause: 22\nuser: none\n",
+    },
+    Shown {
+        octets: "E90104050001E0",
+        lines: "cp: data\ntransaction: 1 6\nrp: error to phone\nreference: 00\ncause: 96\nuser: none\n",
+    },
+    Shown {
+        octets: "0901020200FF",
+        lines: "cp: data\ntransaction: 0 0\nrest: 1\nrp: ack from phone\nreference: 00\nuser: none\n",
+    },
+    Shown {
+        octets: "090103020040",
+        lines: "cp: data\ntransaction: 0 0\nrp: ack from phone\nreference: 00\nuser: none\nrest: 1\n",
+    },
+    Shown {
+        octets: "090104020040FFFF",
+        lines: "cp: data\ntransaction: 0 0\nrest: 1\nrp: ack from phone\nreference: 00\nuser: none\nrest: 2\n",
+    },
+    Shown {
+        octets: "090109020041030000010203040506",
+        lines: "cp: data\ntransaction: 0 0\nrest: 3\nrp: ack from phone\nreference: 00\nrest: 2\ntype: deliver-ack\nheader: no\nrest: 1\n",
+    },
+    Shown {
+        octets: "09010F0300410A010000101000000000014100",
+        lines: "cp: data\ntransaction: 0 0\nrest: 1\nrp: ack to phone\nreference: 00\nrest: 1\ntype: submit-ack\nheader: no\nstamp: 2000-01-01 00:00:00 +00:00\nrest: 1\n",
+    },
+    Shown {
+        octets: "09010C0400021600410400D300014100",
+        lines: "cp: data\ntransaction: 0 0\nrest: 1\nrp: error from phone\nreference: 00\ncause: 22\ndiagnostic: 0\nrest: 1\ntype: deliver-error\nheader: no\ncause: D3\nrest: 1\n",
+    },
+    Shown {
+        octets: "09011205000115410B01C50000101000000000010041",
+        lines: "cp: data\ntransaction: 0 0\nrest: 1\nrp: error to phone\nreference: 00\ncause: 21\nrest: 1\ntype: submit-error\nheader: no\ncause: C5\nstamp: 2000-01-01 00:00:00 +00:00\nrest: 1\n",
+    },
+];
+
+/// CP-ACK and CP-ERROR, and the answer.
+pub static CP_WITHOUT_DATA: [Shown; 13] = [
+    Shown {
+        octets: "8904",
+        lines: "cp: ack\ntransaction: 1 0\n",
+    },
+    Shown {
+        octets: "0904",
+        lines: "cp: ack\ntransaction: 0 0\n",
     },
     Shown {
         octets: "0904FF",
@@ -798,78 +906,6 @@ pub static CP_MESSAGES: [Shown; 46] = [
     Shown {
         octets: "89107F0102",
         lines: "cp: error\ntransaction: 1 0\ncause: 127\nrest: 2\n",
-    },
-    Shown {
-        octets: "590113000000039101000B010004910120000002E834",
-        lines: "cp: data\ntransaction: 0 5\nrp: data from phone\nreference: 00\naddress: +1000\ntype: submit\nreject: no\nreport: no\nreply: no\nreference: 00\nto: +1002\nnumber: 1 1\npid: 00\ndcs: 00\nvalidity: none\nlength: 2\ntext: hi\n",
-    },
-    Shown {
-        octets: "6901190100039101000011040491101000000010100000000002E834",
-        lines: "cp: data\ntransaction: 0 6\nrp: data to phone\nreference: 00\naddress: +1000\ntype: deliver\nmore: no\nloop: no\nreport: no\nreply: no\nfrom: +0101\nnumber: 1 1\npid: 00\ndcs: 00\nstamp: 2000-01-01 00:00:00 +00:00\nlength: 2\ntext: hi\n",
-    },
-    Shown {
-        octets: "0901020200",
-        lines: "cp: data\ntransaction: 0 0\nrp: ack from phone\nreference: 00\nuser: none\n",
-    },
-    Shown {
-        octets: "8901020300",
-        lines: "cp: data\ntransaction: 1 0\nrp: ack to phone\nreference: 00\nuser: none\n",
-    },
-    Shown {
-        octets: "09010404000116",
-        lines: "cp: data\ntransaction: 0 0\nrp: error from phone\nreference: 00\ncause: 22\nuser: none\n",
-    },
-    Shown {
-        octets: "E90104050001E0",
-        lines: "cp: data\ntransaction: 1 6\nrp: error to phone\nreference: 00\ncause: 96\nuser: none\n",
-    },
-    Shown {
-        octets: "0901020200FF",
-        lines: "cp: data\ntransaction: 0 0\nrest: 1\nrp: ack from phone\nreference: 00\nuser: none\n",
-    },
-    Shown {
-        octets: "090103020040",
-        lines: "cp: data\ntransaction: 0 0\nrp: ack from phone\nreference: 00\nuser: none\nrest: 1\n",
-    },
-    Shown {
-        octets: "090104020040FFFF",
-        lines: "cp: data\ntransaction: 0 0\nrest: 1\nrp: ack from phone\nreference: 00\nuser: none\nrest: 2\n",
-    },
-    Shown {
-        octets: "090116000000039101000C010004910120000002E834010203040506",
-        lines: "cp: data\ntransaction: 0 0\nrest: 3\nrp: data from phone\nreference: 00\naddress: +1000\nrest: 2\ntype: submit\nreject: no\nreport: no\nreply: no\nreference: 00\nto: +1002\nnumber: 1 1\npid: 00\ndcs: 00\nvalidity: none\nlength: 2\ntext: hi\nrest: 1\n",
-    },
-    Shown {
-        octets: "09011B0100039101000012040491101000000010100000000002E834010203",
-        lines: "cp: data\ntransaction: 0 0\nrest: 1\nrp: data to phone\nreference: 00\naddress: +1000\nrest: 1\ntype: deliver\nmore: no\nloop: no\nreport: no\nreply: no\nfrom: +0101\nnumber: 1 1\npid: 00\ndcs: 00\nstamp: 2000-01-01 00:00:00 +00:00\nlength: 2\ntext: hi\nrest: 1\n",
-    },
-    Shown {
-        octets: "090109020041030000010203040506",
-        lines: "cp: data\ntransaction: 0 0\nrest: 3\nrp: ack from phone\nreference: 00\nrest: 2\ntype: deliver-ack\nheader: no\nrest: 1\n",
-    },
-    Shown {
-        octets: "09010F0300410A010000101000000000014100",
-        lines: "cp: data\ntransaction: 0 0\nrest: 1\nrp: ack to phone\nreference: 00\nrest: 1\ntype: submit-ack\nheader: no\nstamp: 2000-01-01 00:00:00 +00:00\nrest: 1\n",
-    },
-    Shown {
-        octets: "09010C0400021600410400D300014100",
-        lines: "cp: data\ntransaction: 0 0\nrest: 1\nrp: error from phone\nreference: 00\ncause: 22\ndiagnostic: 0\nrest: 1\ntype: deliver-error\nheader: no\ncause: D3\nrest: 1\n",
-    },
-    Shown {
-        octets: "09011205000115410B01C50000101000000000010041",
-        lines: "cp: data\ntransaction: 0 0\nrest: 1\nrp: error to phone\nreference: 00\ncause: 21\nrest: 1\ntype: submit-error\nheader: no\ncause: C5\nstamp: 2000-01-01 00:00:00 +00:00\nrest: 1\n",
-    },
-    Shown {
-        octets: "090110000000000B010004910120000002E834",
-        lines: "cp: data\ntransaction: 0 0\nrp: data from phone\nreference: 00\naddress: none\ntype: submit\nreject: no\nreport: no\nreply: no\nreference: 00\nto: +1002\nnumber: 1 1\npid: 00\ndcs: 00\nvalidity: none\nlength: 2\ntext: hi\n",
-    },
-    Shown {
-        octets: "0901160100000011040491101000000010100000000002E834",
-        lines: "cp: data\ntransaction: 0 0\nrp: data to phone\nreference: 00\naddress: none\ntype: deliver\nmore: no\nloop: no\nreport: no\nreply: no\nfrom: +0101\nnumber: 1 1\npid: 00\ndcs: 00\nstamp: 2000-01-01 00:00:00 +00:00\nlength: 2\ntext: hi\n",
-    },
-    Shown {
-        octets: "0901F100000003910100E9010004910120000002E834555555555555555555555555555555555555555555555555555555555555555555555555555555555555555555555555555555555555555555555555555555555555555555555555555555555555555555555555555555555555555555555555555555555555555555555555555555555555555555555555555555555555555555555555555555555555555555555555555555555555555555555555555555555555555555555555555555555555555555555555555555555555555555555555555555555555555555555555555555555555555555555555555555555555",
-        lines: "cp: data\ntransaction: 0 0\nrp: data from phone\nreference: 00\naddress: +1000\ntype: submit\nreject: no\nreport: no\nreply: no\nreference: 00\nto: +1002\nnumber: 1 1\npid: 00\ndcs: 00\nvalidity: none\nlength: 2\ntext: hi\nrest: 222\n",
     },
 ];
 
@@ -997,8 +1033,8 @@ pub static NO_CP_MESSAGES: [Shown; 30] = [
     },
 ];
 
-/// CP messages that carry no RP message, or one that carries no unit of its kind, and the answer.
-pub static FAULTS_IN_CP: [Shown; 39] = [
+/// CP-DATA whose RP message is none, and the answer.
+pub static FAULTS_OF_RP_IN_CP: [Shown; 25] = [
     Shown {
         octets: "090100",
         lines: "cp: data\ntransaction: 0 0\nat 0: short\n",
@@ -1088,12 +1124,24 @@ pub static FAULTS_IN_CP: [Shown; 39] = [
         lines: "cp: data\ntransaction: 0 0\nat 3: short\n",
     },
     Shown {
-        octets: "090106030041010201",
-        lines: "cp: data\ntransaction: 0 0\nrp: ack to phone\nreference: 00\nrest: 1\nat 0: wrong type\n",
-    },
-    Shown {
         octets: "09010106FF",
         lines: "cp: data\ntransaction: 0 0\nrest: 1\nat 0: unknown type\n",
+    },
+    Shown {
+        octets: "090112000000039101000B010004910120000002E8",
+        lines: "cp: data\ntransaction: 0 0\nat 18: short\n",
+    },
+    Shown {
+        octets: "090112000000039101000B010004910120000002E834",
+        lines: "cp: data\ntransaction: 0 0\nrest: 1\nat 18: short\n",
+    },
+];
+
+/// CP-DATA with an RP message whose unit is none, and the answer.
+pub static FAULTS_OF_UNITS_IN_CP: [Shown; 14] = [
+    Shown {
+        octets: "090106030041010201",
+        lines: "cp: data\ntransaction: 0 0\nrp: ack to phone\nreference: 00\nrest: 1\nat 0: wrong type\n",
     },
     Shown {
         octets: "0901080000000391010000",
@@ -1142,14 +1190,6 @@ pub static FAULTS_IN_CP: [Shown; 39] = [
     Shown {
         octets: "89010704000116410101",
         lines: "cp: data\ntransaction: 1 0\nrp: error from phone\nreference: 00\ncause: 22\nat 0: wrong type\n",
-    },
-    Shown {
-        octets: "090112000000039101000B010004910120000002E8",
-        lines: "cp: data\ntransaction: 0 0\nat 18: short\n",
-    },
-    Shown {
-        octets: "090112000000039101000B010004910120000002E834",
-        lines: "cp: data\ntransaction: 0 0\nrest: 1\nat 18: short\n",
     },
     Shown {
         octets: "09011100000003910100090100049101200000A1",
@@ -1222,8 +1262,8 @@ pub static WHOLE_MESSAGES: [WholeMessage; 12] = [
     },
 ];
 
-/// Kinds, octets that begin with the address of a service centre, the status, and the answer.
-pub static AFTER_CENTRES: [AfterCentre; 30] = [
+/// RP messages after the address of a service centre, the status and the answer.
+pub static RP_AFTER_CENTRES: [AfterCentre; 13] = [
     AfterCentre {
         kind: "rp",
         octets: "00000000039101000B010004910120000002E834",
@@ -1302,6 +1342,10 @@ pub static AFTER_CENTRES: [AfterCentre; 30] = [
         status: 1,
         answer: "at 2: bad address\n",
     },
+];
+
+/// CP messages after the address of a service centre, the status and the answer.
+pub static CP_AFTER_CENTRES: [AfterCentre; 17] = [
     AfterCentre {
         kind: "cp",
         octets: "00090113000000039101000B010004910120000002E834",

@@ -24,8 +24,8 @@ pub struct Data {
     pub lines: &'static str,
 }
 
-/// Kinds, octets with each choice of parts, and the answer.
-pub static COMBINATIONS: [Report; 32] = [
+/// SMS-SUBMIT-REPORT with each choice of parts, and the answer.
+pub static SUBMIT_COMBINATIONS: [Report; 16] = [
     Report {
         kind: "submit-ack",
         octets: "010099309251619580",
@@ -106,6 +106,10 @@ pub static COMBINATIONS: [Report; 32] = [
         octets: "01D307993092516195807F04030041FF",
         answer: "type: submit-error\nheader: no\ncause: D3\nstamp: 2099-03-29 15:16:59 +02:00\npid: 7F\ndcs: 04\nlength: 3\nuser: 0041FF\n",
     },
+];
+
+/// SMS-DELIVER-REPORT with each choice of parts, and the answer.
+pub static DELIVER_COMBINATIONS: [Report; 16] = [
     Report {
         kind: "deliver-ack",
         octets: "0000",
@@ -188,8 +192,8 @@ pub static COMBINATIONS: [Report; 32] = [
     },
 ];
 
-/// Kinds, octets, and the answer: indicators that go on, bits that are ignored, schemes, stamps.
-pub static REPORTS: [Report; 60] = [
+/// SMS-SUBMIT-REPORT under RP-ACK, and the answer.
+pub static SUBMIT_ACKS: [Report; 16] = [
     Report {
         kind: "submit-ack",
         octets: "01800099309251619580",
@@ -261,6 +265,20 @@ pub static REPORTS: [Report; 60] = [
         answer: "type: submit-ack\nheader: no\nstamp: 2099-03-29 15:16:59 +02:00\ndcs: 20\nlength: 2\nuser: FFFE\n",
     },
     Report {
+        kind: "submit-ack",
+        octets: "010000000000000000",
+        answer: "type: submit-ack\nheader: no\nstamp: raw 00000000000000\n",
+    },
+    Report {
+        kind: "submit-ack",
+        octets: "01000010100000002B",
+        answer: "type: submit-ack\nheader: no\nstamp: 2000-01-01 00:00:00 -08:00\n",
+    },
+];
+
+/// SMS-SUBMIT-REPORT under RP-ERROR, and the answer.
+pub static SUBMIT_ERRORS: [Report; 16] = [
+    Report {
         kind: "submit-error",
         octets: "01D3800099309251619580",
         answer: "type: submit-error\nheader: no\ncause: D3\nstamp: 2099-03-29 15:16:59 +02:00\n",
@@ -331,6 +349,20 @@ pub static REPORTS: [Report; 60] = [
         answer: "type: submit-error\nheader: no\ncause: D3\nstamp: 2099-03-29 15:16:59 +02:00\ndcs: 20\nlength: 2\nuser: FFFE\n",
     },
     Report {
+        kind: "submit-error",
+        octets: "01D30000000000000000",
+        answer: "type: submit-error\nheader: no\ncause: D3\nstamp: raw 00000000000000\n",
+    },
+    Report {
+        kind: "submit-error",
+        octets: "01D30000101000001000",
+        answer: "type: submit-error\nheader: no\ncause: D3\nstamp: 2000-01-01 00:00:01 +00:00\n",
+    },
+];
+
+/// SMS-DELIVER-REPORT under RP-ACK, and the answer.
+pub static DELIVER_ACKS: [Report; 14] = [
+    Report {
         kind: "deliver-ack",
         octets: "008000",
         answer: "type: deliver-ack\nheader: no\n",
@@ -400,6 +432,10 @@ pub static REPORTS: [Report; 60] = [
         octets: "00062002FFFE",
         answer: "type: deliver-ack\nheader: no\ndcs: 20\nlength: 2\nuser: FFFE\n",
     },
+];
+
+/// SMS-DELIVER-REPORT under RP-ERROR, and the answer.
+pub static DELIVER_ERRORS: [Report; 14] = [
     Report {
         kind: "deliver-error",
         octets: "00D38000",
@@ -469,26 +505,6 @@ pub static REPORTS: [Report; 60] = [
         kind: "deliver-error",
         octets: "00D3062002FFFE",
         answer: "type: deliver-error\nheader: no\ncause: D3\ndcs: 20\nlength: 2\nuser: FFFE\n",
-    },
-    Report {
-        kind: "submit-ack",
-        octets: "010000000000000000",
-        answer: "type: submit-ack\nheader: no\nstamp: raw 00000000000000\n",
-    },
-    Report {
-        kind: "submit-ack",
-        octets: "01000010100000002B",
-        answer: "type: submit-ack\nheader: no\nstamp: 2000-01-01 00:00:00 -08:00\n",
-    },
-    Report {
-        kind: "submit-error",
-        octets: "01D30000000000000000",
-        answer: "type: submit-error\nheader: no\ncause: D3\nstamp: raw 00000000000000\n",
-    },
-    Report {
-        kind: "submit-error",
-        octets: "01D30000101000001000",
-        answer: "type: submit-error\nheader: no\ncause: D3\nstamp: 2000-01-01 00:00:01 +00:00\n",
     },
 ];
 
@@ -601,8 +617,8 @@ pub static CAUSES: [Report; 21] = [
     },
 ];
 
-/// Kinds, what stands before the length, the length, how many octets `A5` follow, and the lines before the data.
-pub static LENGTHS: [Data; 64] = [
+/// SMS-SUBMIT-REPORT under RP-ACK, by the length of its data and by its parts.
+pub static SUBMIT_ACK_LENGTHS: [Data; 16] = [
     Data {
         kind: "submit-ack",
         front: "010499309251619580",
@@ -715,6 +731,10 @@ pub static LENGTHS: [Data; 64] = [
         count: 159,
         lines: "type: submit-ack\nheader: no\nstamp: 2099-03-29 15:16:59 +02:00\npid: 00\ndcs: 08\nlength: 159\n",
     },
+];
+
+/// SMS-SUBMIT-REPORT under RP-ERROR, by the length of its data and by its parts.
+pub static SUBMIT_ERROR_LENGTHS: [Data; 16] = [
     Data {
         kind: "submit-error",
         front: "01D30499309251619580",
@@ -827,6 +847,10 @@ pub static LENGTHS: [Data; 64] = [
         count: 159,
         lines: "type: submit-error\nheader: no\ncause: D3\nstamp: 2099-03-29 15:16:59 +02:00\npid: 00\ndcs: 08\nlength: 159\n",
     },
+];
+
+/// SMS-DELIVER-REPORT under RP-ACK, by the length of its data and by its parts.
+pub static DELIVER_ACK_LENGTHS: [Data; 16] = [
     Data {
         kind: "deliver-ack",
         front: "0004",
@@ -939,6 +963,10 @@ pub static LENGTHS: [Data; 64] = [
         count: 159,
         lines: "type: deliver-ack\nheader: no\npid: 00\ndcs: 08\nlength: 159\n",
     },
+];
+
+/// SMS-DELIVER-REPORT under RP-ERROR, by the length of its data and by its parts.
+pub static DELIVER_ERROR_LENGTHS: [Data; 16] = [
     Data {
         kind: "deliver-error",
         front: "00D304",
@@ -1053,8 +1081,8 @@ pub static LENGTHS: [Data; 64] = [
     },
 ];
 
-/// Kinds, octets that are no such report, and the answer.
-pub static NO_REPORTS: [Report; 48] = [
+/// Octets that are no SMS-SUBMIT-REPORT, and the answer.
+pub static NO_SUBMIT_REPORTS: [Report; 18] = [
     Report {
         kind: "submit-ack",
         octets: "",
@@ -1145,6 +1173,10 @@ pub static NO_REPORTS: [Report; 48] = [
         octets: "01D307993092516195800004A0",
         answer: "at 12: data too long\n",
     },
+];
+
+/// Octets that are no SMS-DELIVER-REPORT, and the answer.
+pub static NO_DELIVER_REPORTS: [Report; 18] = [
     Report {
         kind: "deliver-ack",
         octets: "",
@@ -1235,6 +1267,10 @@ pub static NO_REPORTS: [Report; 48] = [
         octets: "00D3070004A0",
         answer: "at 5: data too long\n",
     },
+];
+
+/// SMS-SUBMIT-REPORT under RP-ACK whose TP-UDL is too great for its alphabet, and the answer.
+pub static TOO_LONG_SUBMIT_ACKS: [Report; 15] = [
     Report {
         kind: "submit-ack",
         octets: "010499309251619580B6A5A5",
@@ -1295,10 +1331,6 @@ pub static NO_REPORTS: [Report; 48] = [
         octets: "0107993092516195800008A0",
         answer: "at 11: data too long\n",
     },
-];
-
-/// More of them.
-pub static MORE_NO_REPORTS: [Report; 48] = [
     Report {
         kind: "submit-ack",
         octets: "0107993092516195800008A0A5A5",
@@ -1314,6 +1346,10 @@ pub static MORE_NO_REPORTS: [Report; 48] = [
         octets: "0107993092516195800008FFA5A5",
         answer: "at 11: data too long\n",
     },
+];
+
+/// SMS-SUBMIT-REPORT under RP-ERROR whose TP-UDL is too great for its alphabet, and the answer.
+pub static TOO_LONG_SUBMIT_ERRORS: [Report; 15] = [
     Report {
         kind: "submit-error",
         octets: "01D30499309251619580B6A5A5",
@@ -1389,6 +1425,10 @@ pub static MORE_NO_REPORTS: [Report; 48] = [
         octets: "01D307993092516195800008FFA5A5",
         answer: "at 12: data too long\n",
     },
+];
+
+/// SMS-DELIVER-REPORT under RP-ACK whose TP-UDL is too great for its alphabet, and the answer.
+pub static TOO_LONG_DELIVER_ACKS: [Report; 15] = [
     Report {
         kind: "deliver-ack",
         octets: "0004B6A5A5",
@@ -1464,6 +1504,10 @@ pub static MORE_NO_REPORTS: [Report; 48] = [
         octets: "00070008FFA5A5",
         answer: "at 4: data too long\n",
     },
+];
+
+/// SMS-DELIVER-REPORT under RP-ERROR whose TP-UDL is too great for its alphabet, and the answer.
+pub static TOO_LONG_DELIVER_ERRORS: [Report; 15] = [
     Report {
         kind: "deliver-error",
         octets: "00D304B6A5A5",
@@ -1594,8 +1638,8 @@ pub static WHOLE_REPORTS: [WholeReport; 12] = [
     },
 ];
 
-/// Kinds, octets that begin with the address of a service centre, the status, and the answer.
-pub static AFTER_CENTRES: [AfterCentre; 36] = [
+/// SMS-SUBMIT-REPORT after the address of a service centre, the status and the answer.
+pub static SUBMIT_REPORTS_AFTER_CENTRES: [AfterCentre; 18] = [
     AfterCentre {
         kind: "submit-ack",
         octets: "000107993092516195807F040141",
@@ -1704,6 +1748,10 @@ pub static AFTER_CENTRES: [AfterCentre; 36] = [
         status: 1,
         answer: "at 2: short\n",
     },
+];
+
+/// SMS-DELIVER-REPORT after the address of a service centre, the status and the answer.
+pub static DELIVER_REPORTS_AFTER_CENTRES: [AfterCentre; 18] = [
     AfterCentre {
         kind: "deliver-ack",
         octets: "0000077F040141",

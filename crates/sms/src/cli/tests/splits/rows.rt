@@ -21,8 +21,8 @@ pub struct Greatest {
     pub last: &'static str,
 }
 
-/// Texts of the 7-bit alphabet, and the answer.
-pub static SEPTETS: [Split; 40] = [
+/// Texts of the 7-bit alphabet in one piece, and the answer.
+pub static IN_ONE_PIECE: [Split; 19] = [
     Split {
         text: "",
         lines: "1/1 gsm 0 -\n",
@@ -88,6 +88,22 @@ pub static SEPTETS: [Split; 40] = [
         lines: "1/1 gsm 160 |E170381C0E87C3*20|\n",
     },
     Split {
+        text: "a*158|€",
+        lines: "1/1 gsm 160 |E170381C0E87C3*19|E170381C0E6FCA\n",
+    },
+    Split {
+        text: "a*152|€|a*6",
+        lines: "1/1 gsm 160 |E170381C0E87C3*19|9B72381C0E87C3\n",
+    },
+    Split {
+        text: "€*80",
+        lines: "1/1 gsm 160 |9BF2A6BC296FCA*20|\n",
+    },
+];
+
+/// Texts of the 7-bit alphabet in several pieces, and the answer.
+pub static IN_PIECES: [Split; 21] = [
+    Split {
         text: "a*161",
         lines: "1/2 gsm 160 050003000201C2|E170381C0E87C3*19|\n2/2 gsm 15 050003000202C2E170381C0E8701\n",
     },
@@ -112,10 +128,6 @@ pub static SEPTETS: [Split; 40] = [
         lines: "1/4 gsm 160 050003000401C2|E170381C0E87C3*19|\n2/4 gsm 160 050003000402C2|E170381C0E87C3*19|\n3/4 gsm 160 050003000403C2|E170381C0E87C3*19|\n4/4 gsm 8 050003000404C2\n",
     },
     Split {
-        text: "a*158|€",
-        lines: "1/1 gsm 160 |E170381C0E87C3*19|E170381C0E6FCA\n",
-    },
-    Split {
         text: "a*159|€",
         lines: "1/2 gsm 160 050003000201C2|E170381C0E87C3*19|\n2/2 gsm 15 050003000202C2E170381CDE9401\n",
     },
@@ -134,10 +146,6 @@ pub static SEPTETS: [Split; 40] = [
     Split {
         text: "a*152|€|a*7",
         lines: "1/2 gsm 159 050003000201C2|E170381C0E87C3*18|E170381C0E8701\n2/2 gsm 16 05000300020236E570381C0E87C3\n",
-    },
-    Split {
-        text: "a*152|€|a*6",
-        lines: "1/1 gsm 160 |E170381C0E87C3*19|9B72381C0E87C3\n",
     },
     Split {
         text: "a*304|€",
@@ -168,10 +176,6 @@ pub static SEPTETS: [Split; 40] = [
         lines: "1/3 gsm 159 050003000301C2|E170381C0E87C3*18|E170381C0E8701\n2/3 gsm 160 05000300030236E5|70381C0E87C3E1*18|70381C0E6FCA\n3/3 gsm 12 050003000303C2E170380C\n",
     },
     Split {
-        text: "€*80",
-        lines: "1/1 gsm 160 |9BF2A6BC296FCA*20|\n",
-    },
-    Split {
         text: "€*81",
         lines: "1/2 gsm 159 05000300020136|E54D7953DE9437*18|E54D7953DE9401\n2/2 gsm 17 05000300020236E54D7953DE943765\n",
     },
@@ -185,8 +189,8 @@ pub static SEPTETS: [Split; 40] = [
     },
 ];
 
-/// Texts that need UCS-2, and the answer.
-pub static WIDE: [Split; 34] = [
+/// Texts in UCS-2 in one piece, and the answer.
+pub static WIDE_IN_ONE_PIECE: [Split; 11] = [
     Split {
         text: "ж",
         lines: "1/1 ucs2 2 0436\n",
@@ -216,6 +220,26 @@ pub static WIDE: [Split; 34] = [
         lines: "1/1 ucs2 140 |0436*70|\n",
     },
     Split {
+        text: "a*69|ж",
+        lines: "1/1 ucs2 140 |0061*69|0436\n",
+    },
+    Split {
+        text: "ж*68|😀",
+        lines: "1/1 ucs2 140 |0436*68|D83DDE00\n",
+    },
+    Split {
+        text: "ж*66|😀|ж*2",
+        lines: "1/1 ucs2 140 |0436*66|D83DDE0004360436\n",
+    },
+    Split {
+        text: "😀*35",
+        lines: "1/1 ucs2 140 |D83DDE00*35|\n",
+    },
+];
+
+/// Texts in UCS-2 in several pieces, and the answer.
+pub static WIDE_IN_PIECES: [Split; 23] = [
+    Split {
         text: "ж*71",
         lines: "1/2 ucs2 140 050003000201|0436*67|\n2/2 ucs2 14 050003000202|0436*4|\n",
     },
@@ -240,20 +264,12 @@ pub static WIDE: [Split; 34] = [
         lines: "1/4 ucs2 140 050003000401|0436*67|\n2/4 ucs2 140 050003000402|0436*67|\n3/4 ucs2 140 050003000403|0436*67|\n4/4 ucs2 8 0500030004040436\n",
     },
     Split {
-        text: "a*69|ж",
-        lines: "1/1 ucs2 140 |0061*69|0436\n",
-    },
-    Split {
         text: "a*70|ж",
         lines: "1/2 ucs2 140 05000300020|1006*67|1\n2/2 ucs2 14 050003000202|0061*3|0436\n",
     },
     Split {
         text: "€*70|ж",
         lines: "1/2 ucs2 140 050003000201|20AC*67|\n2/2 ucs2 14 050003000202|20AC*3|0436\n",
-    },
-    Split {
-        text: "ж*68|😀",
-        lines: "1/1 ucs2 140 |0436*68|D83DDE00\n",
     },
     Split {
         text: "ж*69|😀",
@@ -270,10 +286,6 @@ pub static WIDE: [Split; 34] = [
     Split {
         text: "ж*67|😀|ж*2",
         lines: "1/2 ucs2 140 050003000201|0436*67|\n2/2 ucs2 14 050003000202D83DDE0004360436\n",
-    },
-    Split {
-        text: "ж*66|😀|ж*2",
-        lines: "1/1 ucs2 140 |0436*66|D83DDE0004360436\n",
     },
     Split {
         text: "ж*132|😀",
@@ -302,10 +314,6 @@ pub static WIDE: [Split; 34] = [
     Split {
         text: "ж*66|😀|ж*63|😀|ж",
         lines: "1/3 ucs2 138 050003000301|0436*66|\n2/3 ucs2 140 050003000302D83DDE00|0436*63|D83DDE00\n3/3 ucs2 8 0500030003030436\n",
-    },
-    Split {
-        text: "😀*35",
-        lines: "1/1 ucs2 140 |D83DDE00*35|\n",
     },
     Split {
         text: "😀*36",
