@@ -287,12 +287,17 @@ fn found_request<'a>(matches: &ArgMatches<'a>) -> Option<Request<'a>> {
     request_of(name, found)
 }
 
-/// What the words ask for, the program's name first.
-pub fn parse_words<'a, S: AsStr>(alloc: Global, words: &'a [S]) -> Result<Request<'a>, Error> {
-    let mut command = whole_command(alloc)?;
+/// What the words ask of a command.
+fn asked_of<'a, S: AsStr>(command: &mut Command<'a>, words: &'a [S]) -> Result<Request<'a>, Error> {
     let matches = command.try_get_matches_from_mut(words)?;
     match found_request(&matches) {
         Some(request) => Ok(request),
         None => Err(command.error(ErrorKind::InvalidSubcommand, "unknown subcommand or kind")?),
     }
+}
+
+/// What the words ask for, the program's name first.
+pub fn parse_words<'a, S: AsStr>(alloc: Global, words: &'a [S]) -> Result<Request<'a>, Error> {
+    let mut command = whole_command(alloc)?;
+    asked_of(&mut command, words)
 }

@@ -5,6 +5,7 @@ mod rows;
 use super::splits::expanded;
 use super::*;
 use rows::{PHONES, PLAYED, Played, WAY, WAY_TOLD, WHOLES, Whole};
+use std::alloc::AllocError;
 use std::io::ErrorKind;
 use std::test::Fail;
 
@@ -32,14 +33,26 @@ fn number_in(line: &str) -> Option<&str> {
     }
 }
 
+/// Adds a line of a transcript: of a packet its number, to the line of its event; another line after a line feed.
+fn put_line(events: &mut String, line: &str) -> Result<(), AllocError> {
+    match number_in(line) {
+        Some(number) => {
+            events.push(' ')?;
+            events.push_str(number)
+        }
+        None => {
+            events.push('\n')?;
+            events.push_str(line)
+        }
+    }
+}
+
 /// The lines of a transcript with the numbers of packets at the end of their event's line, each
 /// between line feeds.
 fn events_in(alloc: Global, transcript: &str) -> Result<String, Fail> {
     let mut events = String::new(alloc);
     for line in transcript.lines() {
-        let number = number_in(line);
-        events.push(if number.is_some() { ' ' } else { '\n' })?;
-        events.push_str(number.unwrap_or(line))?;
+        put_line(&mut events, line)?;
     }
     events.push('\n')?;
     Ok(events)
