@@ -66,21 +66,29 @@ fn put_body<W: Write>(
     }
 }
 
-/// Writes the fields of an RP message, and those of the unit that it carries.
-pub fn show_rp<W: Write>(alloc: Global, octets: &[u8], lines: &mut Lines<W>) -> Result<(), Fault> {
-    let (message, used) = RpView::read(octets)?;
-    lines.put("rp", relay_name(&message))?;
+/// The lines of a relay message without the unit that it carries.
+fn put_front<W: Write>(
+    alloc: Global,
+    lines: &mut Lines<W>,
+    message: &RpView<'_>,
+) -> Result<(), Fault> {
+    lines.put("rp", relay_name(message))?;
     lines.put("reference", Hexadecimal(&[message.reference]))?;
     put_body(alloc, lines, &message.body)?;
     match unit_inside(&message.body) {
-        Some(unit) => {
-            lines.put_rest(&octets[used..])?;
-            show_unit(alloc, kind_inside(&message), unit, lines)
-        }
-        None => {
-            lines.put("user", "none")?;
-            lines.put_rest(&octets[used..])
-        }
+        Some(_) => Ok(()),
+        None => lines.put("user", "none"),
+    }
+}
+
+/// Writes the fields of an RP message, and those of the unit that it carries.
+pub fn show_rp<W: Write>(alloc: Global, octets: &[u8], lines: &mut Lines<W>) -> Result<(), Fault> {
+    let (message, used) = RpView::read(octets)?;
+    put_front(alloc, lines, &message)?;
+    lines.put_rest(&octets[used..])?;
+    match unit_inside(&message.body) {
+        Some(unit) => show_unit(alloc, kind_inside(&message), unit, lines),
+        None => Ok(()),
     }
 }
 
@@ -93,18 +101,24 @@ fn connection_name(body: &CpBodyView<'_>) -> &'static str {
     }
 }
 
-/// Writes the fields of a CP message, and those of the RP message that it carries.
-pub fn show_cp<W: Write>(alloc: Global, octets: &[u8], lines: &mut Lines<W>) -> Result<(), Fault> {
-    let (message, used) = CpView::read(octets)?;
+/// The lines of a connection message without the relay message that it carries.
+fn put_connection<W: Write>(lines: &mut Lines<W>, message: &CpView<'_>) -> Result<(), Fault> {
     let transaction = TransactionText {
         flag: message.flag,
         value: message.value,
     };
     lines.put("cp", connection_name(&message.body))?;
     lines.put("transaction", transaction)?;
-    if let CpBodyView::Fail(cause) = &message.body {
-        lines.put("cause", *cause)?;
+    match &message.body {
+        CpBodyView::Fail(cause) => lines.put("cause", *cause),
+        CpBodyView::Transfer(_) | CpBodyView::Ack => Ok(()),
     }
+}
+
+/// Writes the fields of a CP message, and those of the RP message that it carries.
+pub fn show_cp<W: Write>(alloc: Global, octets: &[u8], lines: &mut Lines<W>) -> Result<(), Fault> {
+    let (message, used) = CpView::read(octets)?;
+    put_connection(lines, &message)?;
     lines.put_rest(&octets[used..])?;
     match &message.body {
         CpBodyView::Transfer(relayed) => show_rp(alloc, relayed.as_slice(), lines),
