@@ -32,8 +32,8 @@ fn packs(rt: &impl Abort, alloc: Global, row: &Packed, septets: &[u8]) -> Result
     Ok(())
 }
 
-/// The septets are packed so behind other octets.
-fn packs_behind(rt: &impl Abort, alloc: Global, row: &Packed, septets: &[u8]) -> Result<(), Fail>
+/// The septets are packed so after other octets.
+fn packs_after(rt: &impl Abort, alloc: Global, row: &Packed, septets: &[u8]) -> Result<(), Fail>
     requires { AreSeptets septets.now }
 {
     let mut longer = Vec::from_slice(alloc, row.plain)?;
@@ -74,7 +74,7 @@ fn come_back(rt: &impl Abort, alloc: Global, row: &Packed, septets: &[u8]) -> Re
 fn is_packed(rt: &impl Abort, alloc: Global, row: &Packed) -> Result<(), Fail> {
     let septets = septets_of(alloc, row.text)?;
     packs(rt, alloc, row, &septets)?;
-    packs_behind(rt, alloc, row, &septets)?;
+    packs_after(rt, alloc, row, &septets)?;
     come_back(rt, alloc, row, &septets)
 }
 
