@@ -1,6 +1,6 @@
 //! Events that come to nothing, and what is told of them.
 
-use crate::two::{Two, address, answers, at_last, coming, new_two, typing};
+use crate::two::{Two, address, answers, coming, new_two, typing};
 use sms_party::{Dropped, Outcome};
 use sms_script::Network;
 use sms_world::{Event, Octets, Text, World, WorldFault};
@@ -202,16 +202,17 @@ fn a_fault_says_what_the_transcript_tells(rt: HostRuntime) -> Result<(), Fail> {
 }
 
 /// The first phone types as many texts as may wait.
-fn types_a_thousand(two: &mut Two, event: &Event) {
+fn types_a_thousand(world: &mut World, event: &Event) -> Result<(), Fail> {
     for _ in 0..1000u16 {
-        let _ = at_last(two, event);
+        let _ = world.step(event)?;
     }
+    Ok(())
 }
 
 #[test]
 fn the_transcript_tells_that_texts_wait(rt: HostRuntime) -> Result<(), Fail> {
     let mut two = new_two(rt.alloc())?;
     let event = typing(rt.alloc(), "")?;
-    types_a_thousand(&mut two, &event);
+    types_a_thousand(&mut two.world, &event)?;
     tells(&rt, rt.alloc(), &mut two.world, &event, "drop busy")
 }
