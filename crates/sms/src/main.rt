@@ -1,18 +1,7 @@
 //! The command line of the short message tools.
 #![tactic(auto)]
 
-mod cli;
-mod encode;
-mod fault;
-mod lines;
-mod play;
-mod printed;
-mod relay;
-mod reports;
-mod show;
-mod split;
-mod words;
-
+use sms_command::command;
 use std::env;
 use std::io::{self, BufReader, BufWriter, ErrorKind, Write};
 use std::process::ExitCode;
@@ -28,7 +17,7 @@ fn run(rt: &HostRuntime) -> io::Result<u8> {
     let words: Vec<String> = env::args(rt)?.collect(alloc)?;
     let mut input = BufReader::new(alloc, rt.reader())?;
     let mut output = BufWriter::new(alloc, io::writer(rt))?;
-    let status = cli::command(alloc, words.as_slice(), &mut input, &mut output);
+    let status = command(alloc, words.as_slice(), &mut input, &mut output);
     output.flush()?;
     Ok(status)
 }

@@ -2,7 +2,7 @@
 
 mod rows;
 
-use super::{answer_to, repeated, says};
+use crate::found::{answer_to, repeated, says};
 use rows::{
     Greatest, IN_ONE_PIECE, IN_PIECES, REFERENCES, Split, TOO_MANY, WIDE_IN_ONE_PIECE,
     WIDE_IN_PIECES,
@@ -12,7 +12,7 @@ use std::process::Abort;
 use std::test::Fail;
 
 /// The text of parts between bars, each as many times as the number after its asterisk says, else once.
-pub(super) fn expanded(alloc: Global, parts: &str) -> Result<String, Fail> {
+pub fn expanded(alloc: Global, parts: &str) -> Result<String, Fail> {
     let mut text = String::new(alloc);
     for part in parts.split('|') {
         match part.split_once('*') {

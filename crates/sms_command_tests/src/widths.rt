@@ -1,7 +1,7 @@
 //! Texts split under references of two octets, and texts and references that are too large.
 
-use super::answer_to;
-use super::splits::expanded;
+use crate::found::answer_to;
+use crate::splits::expanded;
 use std::alloc::Global;
 use std::test::Fail;
 

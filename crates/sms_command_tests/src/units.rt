@@ -1,34 +1,22 @@
-mod plays;
-mod relays;
-mod reports;
-mod rows;
-mod splits;
-mod widths;
+//! Units that are shown and encoded, and words that are explained.
 
-use super::*;
-use rows::{
-    AFTER_CENTRES, AfterCentre, BREAKING, CODINGS, DELIVERY_FLAGS, ELEMENTS, ENCODE_WORDS,
-    ENCODED_OPTIONS, ENCODED_TEXTS, Encoded, Explained, Filled, HEADERS, HELLO, HELLO_SHOWN,
-    LONG_TEXTS, LongText, NAMES, NO_ADDRESSES, NO_DELIVERIES, NO_OPTIONS, NO_SUBMISSIONS,
-    NotEncoded, ORIGINS, PLACES, SHOW_WORDS, SPLIT_WORDS, STAMPS, SUBMISSIONS, Shown, TELEPHONES,
-    TELEPHONES_OF_EACH_LENGTH, TEXTS, TOO_FULL, TWO_PIECES, TooFull, TwoPieces, VALIDITIES,
-    WHOLE_WORDS, WIDE_TEXTS,
+mod rows;
+
+use crate::found::{
+    Shown, answer_to, are_answered, are_answered_after_a_centre, is_answered, is_missed, repeated,
+    says,
 };
+use rows::{
+    AFTER_CENTRES, BREAKING, CODINGS, DELIVERY_FLAGS, ELEMENTS, ENCODE_WORDS, ENCODED_OPTIONS,
+    ENCODED_TEXTS, Encoded, Explained, Filled, HEADERS, HELLO, HELLO_SHOWN, LONG_TEXTS, LongText,
+    NAMES, NO_ADDRESSES, NO_DELIVERIES, NO_OPTIONS, NO_SUBMISSIONS, NotEncoded, ORIGINS, PLACES,
+    SHOW_WORDS, SPLIT_WORDS, STAMPS, SUBMISSIONS, TELEPHONES, TELEPHONES_OF_EACH_LENGTH, TEXTS,
+    TOO_FULL, TWO_PIECES, TooFull, TwoPieces, VALIDITIES, WHOLE_WORDS, WIDE_TEXTS,
+};
+use sms_command::command;
+use std::alloc::Global;
 use std::process::Abort;
 use std::test::Fail;
-
-/// The status and the whole output.
-fn answer_to(alloc: Global, words: &[&str]) -> Result<(u8, String), Fail> {
-    let mut input = b"".as_slice();
-    let mut output = Vec::new(alloc);
-    let status = command(alloc, words, &mut input, &mut output);
-    Ok((status, String::from_utf8(output)?))
-}
-
-/// Whether an answer has these lines, or this part of a line.
-fn says(answer: &str, part: &str) -> bool {
-    answer.contains(part)
-}
 
 /// Whether octets are shown as a unit with these lines.
 fn is_shown(alloc: Global, kind: &str, octets: &str, lines: &str) -> Result<bool, Fail> {
@@ -41,33 +29,6 @@ fn are_shown(rt: &impl Abort, alloc: Global, kind: &str, rows: &[Shown]) -> Resu
     for row in rows {
         let shown = is_shown(alloc, kind, row.octets, row.lines)?;
         assert!(rt; shown, "{kind} {}", row.octets);
-    }
-    Ok(())
-}
-
-/// Whether octets as a kind have a status and an answer.
-fn is_answered(
-    alloc: Global,
-    kind: &str,
-    octets: &str,
-    lines: &str,
-    wanted: u8,
-) -> Result<bool, Fail> {
-    let (status, answer) = answer_to(alloc, &["sms", "show", kind, octets])?;
-    Ok(status == wanted && answer.as_str() == lines)
-}
-
-/// The octets of each row as a kind have a status, and its lines as their answer.
-fn are_answered(
-    rt: &impl Abort,
-    alloc: Global,
-    kind: &str,
-    rows: &[Shown],
-    status: u8,
-) -> Result<(), Fail> {
-    for row in rows {
-        let answered = is_answered(alloc, kind, row.octets, row.lines, status)?;
-        assert!(rt; answered, "{kind} {}", row.octets);
     }
     Ok(())
 }
@@ -101,25 +62,6 @@ fn shows_a_whole_delivery(rt: HostRuntime) -> Result<(), Fail> {
     Ok(())
 }
 
-/// Whether octets that begin with a centre have the status and the answer of a row.
-fn is_answered_after_a_centre(alloc: Global, row: &AfterCentre) -> Result<bool, Fail> {
-    let (status, answer) = answer_to(alloc, &["sms", "show", "--sca", row.kind, row.octets])?;
-    Ok(status == row.status && answer.as_str() == row.answer)
-}
-
-/// The octets of each row, which begin with a centre, have its status and its answer.
-fn are_answered_after_a_centre(
-    rt: &impl Abort,
-    alloc: Global,
-    rows: &[AfterCentre],
-) -> Result<(), Fail> {
-    for row in rows {
-        let answered = is_answered_after_a_centre(alloc, row)?;
-        assert!(rt; answered, "{} {}", row.kind, row.octets);
-    }
-    Ok(())
-}
-
 #[test]
 fn shows_what_stands_after_a_centre(rt: HostRuntime) -> Result<(), Fail> {
     are_answered_after_a_centre(&rt, rt.alloc(), AFTER_CENTRES.as_slice())
@@ -133,12 +75,6 @@ fn refuses_what_is_no_delivery(rt: HostRuntime) -> Result<(), Fail> {
 #[test]
 fn refuses_what_is_no_submission(rt: HostRuntime) -> Result<(), Fail> {
     are_answered(&rt, rt.alloc(), "submit", NO_SUBMISSIONS.as_slice(), 1)
-}
-
-/// Whether a front of the octets of a unit is refused as short at its end.
-fn is_missed(alloc: Global, kind: &str, front: &str) -> Result<bool, Fail> {
-    let line = format!(in alloc; "at {}: short\n", front.len() / 2)?;
-    is_answered(alloc, kind, front, &line, 1)
 }
 
 #[test]
@@ -187,7 +123,21 @@ fn fails_where_the_output_is_full(rt: HostRuntime) -> Result<(), Fail> {
     Ok(())
 }
 
-/// The status and the answer to `encode`, without its line feed.
+/// The words that ask for a unit.
+fn words_of<'a>(
+    alloc: Global,
+    kind: &'a str,
+    options: &[&'a str],
+    address: &'a str,
+    text: &'a str,
+) -> Result<Vec<&'a str>, Fail> {
+    let mut words = Vec::from_slice(alloc, &["sms", "encode", kind])?;
+    words.extend_from_slice(options)?;
+    words.extend_from_slice(&["--", address, text])?;
+    Ok(words)
+}
+
+/// The status and the answer to `encode`.
 fn encoding_of(
     alloc: Global,
     kind: &str,
@@ -195,33 +145,42 @@ fn encoding_of(
     address: &str,
     text: &str,
 ) -> Result<(u8, String), Fail> {
-    let mut words = Vec::from_slice(alloc, &["sms", "encode", kind])?;
-    words.extend_from_slice(options)?;
-    words.extend_from_slice(&["--", address, text])?;
-    let (status, answer) = answer_to(alloc, words.as_slice())?;
-    let line = answer.strip_suffix('\n').ok_or("no line")?;
-    Ok((status, String::from_str(alloc, line)?))
+    let words = words_of(alloc, kind, options, address, text)?;
+    answer_to(alloc, words.as_slice())
+}
+
+/// Whether an answer is this line.
+fn is_line(answer: &str, line: &str) -> bool {
+    answer.strip_suffix('\n') == Some(line)
 }
 
 /// Whether words are encoded as the octets of a row.
 fn is_encoded(alloc: Global, row: &Encoded) -> Result<bool, Fail> {
     let (status, answer) = encoding_of(alloc, row.kind, row.options, row.address, row.text)?;
-    Ok(status == 0 && answer.as_str() == row.octets)
+    Ok(status == 0 && is_line(&answer, row.octets))
+}
+
+/// Whether lines have one of this name with this value, and not as the first.
+fn has_line(alloc: Global, lines: &str, name: &str, value: &str) -> Result<bool, Fail> {
+    let line = format!(in alloc; "\n{name}: {value}\n")?;
+    Ok(says(lines, &line))
 }
 
 /// Whether the octets of a row are shown with this address and this text.
 fn comes_back(alloc: Global, row: &Encoded, address: &str, text: &str) -> Result<bool, Fail> {
     let party = if row.kind == "submit" { "to" } else { "from" };
-    let party = format!(in alloc; "\n{party}: {address}\n")?;
-    let last = format!(in alloc; "\ntext: {text}\n")?;
     let (status, lines) = answer_to(alloc, &["sms", "show", row.kind, row.octets])?;
-    Ok(status == 0 && says(&lines, &party) && says(&lines, &last))
+    Ok(
+        status == 0
+            && has_line(alloc, &lines, party, address)?
+            && has_line(alloc, &lines, "text", text)?,
+    )
 }
 
 /// Whether a row of what cannot be encoded gives its status and its line.
 fn is_refused(alloc: Global, row: &NotEncoded) -> Result<bool, Fail> {
     let (status, answer) = encoding_of(alloc, row.kind, row.options, row.address, row.text)?;
-    Ok(status == row.status && answer.as_str() == row.line)
+    Ok(status == row.status && is_line(&answer, row.line))
 }
 
 /// The words of each row are encoded as its octets, and these are shown as what went in.
@@ -272,35 +231,30 @@ fn refuses_what_is_not_encoded(rt: HostRuntime) -> Result<(), Fail> {
     are_refused(&rt, rt.alloc(), NO_OPTIONS.as_slice())
 }
 
-/// A text, as many times as are asked for.
-fn repeated(alloc: Global, part: &str, times: usize) -> Result<String, Fail> {
-    let mut text = String::new(alloc);
-    for _ in 0..times {
-        text.push_str(part)?;
-    }
-    Ok(text)
-}
-
 /// The status and the answer to a delivery with a header, by its coding scheme, length and data.
 fn shown_data(alloc: Global, scheme: &str, length: &str, data: &str) -> Result<(u8, String), Fail> {
     let octets = format!(in alloc; "440491101000{scheme}00101000000000{length}{data}")?;
     answer_to(alloc, &["sms", "show", "deliver", &octets])
 }
 
+/// Whether data that are full are shown after their header as the septets of a row.
+fn is_full_of_septets(alloc: Global, row: &Filled, data: &str) -> Result<bool, Fail> {
+    let text = repeated(alloc, "à", row.septets)?;
+    let (status, lines) = shown_data(alloc, "00", "A0", data)?;
+    Ok(status == 0 && has_line(alloc, &lines, "text", &text)?)
+}
+
+/// Whether data that are full are shown after their header as the octets of a row.
+fn is_full_of_octets(alloc: Global, row: &Filled, data: &str) -> Result<bool, Fail> {
+    let octets = after_header(alloc, row)?;
+    let (status, lines) = shown_data(alloc, "04", "8C", data)?;
+    Ok(status == 0 && has_line(alloc, &lines, "data", &octets)?)
+}
+
 /// Whether data that are full are shown after their header under each alphabet.
 fn is_full(alloc: Global, row: &Filled, data: &str) -> Result<bool, Fail> {
-    let ones = repeated(alloc, "FF", row.ones)?;
-    let text = repeated(alloc, "à", row.septets)?;
-    let text_line = format!(in alloc; "\ntext: {text}\n")?;
-    let data_line = format!(in alloc; "\ndata: {}{ones}\n", row.first)?;
-    let septets = shown_data(alloc, "00", "A0", data)?;
-    let octets = shown_data(alloc, "04", "8C", data)?;
-    let units = shown_data(alloc, "08", "8C", data)?;
-    Ok(
-        (septets.0, octets.0, units.0) == (0, 0, 0)
-            && says(&septets.1, &text_line)
-            && says(&octets.1, &data_line),
-    )
+    let (units, _) = shown_data(alloc, "08", "8C", data)?;
+    Ok(units == 0 && is_full_of_septets(alloc, row, data)? && is_full_of_octets(alloc, row, data)?)
 }
 
 /// Whether data are refused after their header under a coding scheme, at a length above the greatest.
@@ -309,10 +263,16 @@ fn is_too_full(alloc: Global, scheme: &str, length: &str, data: &str) -> Result<
     Ok(status == 1 && answer.as_str() == "at 14: data too long\n")
 }
 
+/// The data that fill what the header of a row leaves.
+fn after_header(alloc: Global, row: &Filled) -> Result<String, Fail> {
+    let ones = repeated(alloc, "FF", row.ones)?;
+    Ok(format!(in alloc; "{}{ones}", row.first)?)
+}
+
 /// The header of a row, and the data that fill what it leaves.
 fn filled(alloc: Global, row: &Filled) -> Result<String, Fail> {
-    let ones = repeated(alloc, "FF", row.ones)?;
-    Ok(format!(in alloc; "{}{}{ones}", row.header, row.first)?)
+    let data = after_header(alloc, row)?;
+    Ok(format!(in alloc; "{}{data}", row.header)?)
 }
 
 #[test]
@@ -348,13 +308,17 @@ fn refuses_what_does_not_fit_after_a_header(rt: HostRuntime) -> Result<(), Fail>
     Ok(())
 }
 
+/// The octets of a row.
+fn long_octets(alloc: Global, row: &LongText) -> Result<String, Fail> {
+    let middle = repeated(alloc, row.part, row.times)?;
+    Ok(format!(in alloc; "{}{middle}{}", row.first, row.last)?)
+}
+
 /// Whether a text of one character is encoded as the octets of a row.
 fn is_long(alloc: Global, row: &LongText) -> Result<bool, Fail> {
     let text = repeated(alloc, row.character, row.count)?;
-    let middle = repeated(alloc, row.part, row.times)?;
     let (status, answer) = encoding_of(alloc, "submit", &[], "", &text)?;
-    let octets = format!(in alloc; "{}{middle}{}", row.first, row.last)?;
-    Ok(status == 0 && answer == octets)
+    Ok(status == 0 && is_line(&answer, &long_octets(alloc, row)?))
 }
 
 #[test]
@@ -370,7 +334,7 @@ fn encodes_what_fits_one_piece(rt: HostRuntime) -> Result<(), Fail> {
 fn is_too_long(alloc: Global, row: &TwoPieces) -> Result<bool, Fail> {
     let text = repeated(alloc, row.character, row.count)?;
     let (status, answer) = encoding_of(alloc, row.kind, &[], "+1002", &text)?;
-    Ok(status == 1 && answer.as_str() == "text too long")
+    Ok(status == 1 && is_line(&answer, "text too long"))
 }
 
 #[test]

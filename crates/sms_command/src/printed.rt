@@ -5,7 +5,7 @@ use sms_tpdu::{Concat, Width};
 use std::fmt;
 
 /// A bit, as `yes` or `no`.
-#[derive(Clone, Copy, Debug)]
+#[derive(Clone, Copy)]
 pub struct Answer(pub bool);
 
 impl fmt::Display for Answer {
@@ -15,7 +15,7 @@ impl fmt::Display for Answer {
 }
 
 /// Octets in upper case hexadecimal, none as `-`.
-#[derive(Clone, Copy, Debug)]
+#[derive(Clone, Copy)]
 pub struct Hexadecimal<'a>(pub &'a [u8]);
 
 impl fmt::Display for Hexadecimal<'_> {
@@ -31,7 +31,7 @@ impl fmt::Display for Hexadecimal<'_> {
 }
 
 /// A text in one line: what would break the line stands as an escape.
-#[derive(Clone, Copy, Debug)]
+#[derive(Clone, Copy)]
 pub struct Escaped<'a>(pub &'a str);
 
 impl fmt::Display for Escaped<'_> {
@@ -51,7 +51,7 @@ impl fmt::Display for Escaped<'_> {
 }
 
 /// What kind of number an address holds: its type and its plan.
-#[derive(Clone, Copy, Debug)]
+#[derive(Clone, Copy)]
 pub struct Numbering {
     type_of_number: u8,
     plan: u8,
@@ -73,7 +73,7 @@ impl fmt::Display for Numbering {
 }
 
 /// A stamp as its date, time of day and zone, or as its octets where it is no date.
-#[derive(Clone, Copy, Debug)]
+#[derive(Clone, Copy)]
 pub struct StampText(pub Stamp);
 
 impl fmt::Display for StampText {
@@ -86,7 +86,7 @@ impl fmt::Display for StampText {
 }
 
 /// The date, the time of day and the zone of a stamp.
-#[derive(Clone, Copy, Debug)]
+#[derive(Clone, Copy)]
 struct DateText(StampDate);
 
 impl fmt::Display for DateText {
@@ -101,7 +101,7 @@ impl fmt::Display for DateText {
 }
 
 /// A validity period, in its format.
-#[derive(Clone, Copy, Debug)]
+#[derive(Clone, Copy)]
 pub struct ValidityText(pub Validity);
 
 impl fmt::Display for ValidityText {
@@ -124,7 +124,7 @@ fn seconds_of(octet: u8) -> u64 {
 }
 
 /// A concatenation: the bits of its reference, the reference, the maximum and the sequence.
-#[derive(Clone, Copy, Debug)]
+#[derive(Clone, Copy)]
 pub struct ConcatText(pub Concat);
 
 impl fmt::Display for ConcatText {
@@ -140,7 +140,7 @@ impl fmt::Display for ConcatText {
 }
 
 /// A transaction of the connection: 1 where the message goes to the side that opened it, else 0, and its value.
-#[derive(Clone, Copy, Debug)]
+#[derive(Clone, Copy)]
 pub struct TransactionText {
     pub flag: bool,
     pub value: u8,

@@ -1,6 +1,6 @@
 //! Rows of the tests of reports.
 
-use crate::cli::tests::rows::AfterCentre;
+use crate::found::AfterCentre;
 
 /// A kind of report, its octets, and the answer where they are shown.
 pub struct Report {

@@ -100,6 +100,3 @@ pub fn command<S: AsStr, R: Read, W: Write>(
         Err(error) => explain(&error, output),
     }
 }
-
-#[cfg(test)]
-mod tests;

@@ -2,7 +2,7 @@
 
 mod rows;
 
-use super::{are_answered_after_a_centre, is_answered, is_missed, repeated};
+use crate::found::{are_answered_after_a_centre, is_answered, is_missed, repeated};
 use rows::{
     CAUSES, DELIVER_ACK_LENGTHS, DELIVER_ACKS, DELIVER_COMBINATIONS, DELIVER_ERROR_LENGTHS,
     DELIVER_ERRORS, DELIVER_REPORTS_AFTER_CENTRES, Data, NO_DELIVER_REPORTS, NO_SUBMIT_REPORTS,

@@ -121,43 +121,12 @@ pub static WHOLES: [Whole; 9] = [
     },
 ];
 
-pub static PLAYED: [Played; 20] = [
+/// Texts in one piece that come to a store.
+pub static STORED: [Played; 4] = [
     Played {
         script: "type a +1002\ncarry 1\npush b\ncarry 4\n",
         says: &["1 typed 1 #1", "store b 1\n+1001 "],
         packets: &["#1 a>centre 0901110000000391010009010004910120000000"],
-    },
-    Played {
-        script: "brief\ntype a +1002 |a*161|\ncarry 1\ncarry 3\ncarry 5\npush b\npush b\ncarry 9\ncarry 8\ncarry 8\n|\
-            carry 9\ncarry 11\ncarry 13\npush b\ncarry 19\ncarry 21\ncarry 7\n",
-        says: &[LONG_SAYS, "store b 1\n+1001 |a*161"],
-        packets: &[
-            "#1 a>centre 160",
-            "#5 a>centre 34",
-            "#8 centre>b 166",
-            "#9 centre>b 40",
-            "#19 centre>b 166",
-        ],
-    },
-    Played {
-        script: "wide\ntype a +1002 |a*161|\ncarry 1\ncarry 3\ncarry 5\npush b\npush b\ncarry 9\ncarry 8\ncarry 8\n|\
-            carry 9\ncarry 11\ncarry 13\npush b\ncarry 19\ncarry 21\ncarry 7\n",
-        says: &[LONG_SAYS, "store b 1\n+1001 |a*161"],
-        packets: &[],
-    },
-    Played {
-        script: "type a +1002 hi\ncarry 1\ntimeout a\ncarry 4\ncarry 6\ncarry 3\npush b\ncarry 8\ncarry 10\n|\
-            tick 172800\ncarry 4\npush b\ncarry 14\n",
-        says: &[
-            "1 typed 1 #1\n2 held #2 #3\n3 repeated 1 #4\n4 refused 21 C5 #5 #6\n5 accepted 1 #7",
-            "6 drop unmatched\n7 pushed #8\n8 finished #9 #10\n9 delivered #11\n10 ticked",
-            "11 held #12 #13\n12 pushed #14\n13 finished #15 #16",
-            "store b 2\n+1001 hi\n+1001 hi",
-        ],
-        packets: &[
-            "#4 a>centre 190113000100039101000B050004910120000002E834",
-            "#6 centre>a 99011005010115410A01C50000101000000000",
-        ],
     },
     Played {
         script: "type a +1002 hi\ncarry 1\ncarry 3\ntype a +1002 hi\ncarry 5\npush b\npush b\ncarry 8\ncarry 9\n",
@@ -180,6 +149,41 @@ pub static PLAYED: [Played; 20] = [
         packets: &[],
     },
     Played {
+        script: "store 1\ntype a +1002 one\ncarry 1\ncarry 3\npush b\ncarry 5\ncarry 7\ntype a +1002 two\ncarry 9\n|\
+            carry 11\npush b\ncarry 13\ncarry 15\npush b\ncarry 17\ncarry 5\n",
+        says: &[
+            "10 pushed #13\n11 refused 22 D3 #14 #15\n12 returned #16\n13 pushed #17",
+            "14 refused 22 D3 #18 #19\n15 repeat #20 #21",
+            "store b 1\n+1001 one",
+        ],
+        packets: &[
+            "#15 b>centre 99010904010116410300D300",
+            "#19 b>centre A9010904020116410300D300",
+        ],
+    },
+];
+
+/// Texts in two segments.
+pub static IN_SEGMENTS: [Played; 5] = [
+    Played {
+        script: "brief\ntype a +1002 |a*161|\ncarry 1\ncarry 3\ncarry 5\npush b\npush b\ncarry 9\ncarry 8\ncarry 8\n|\
+            carry 9\ncarry 11\ncarry 13\npush b\ncarry 19\ncarry 21\ncarry 7\n",
+        says: &[LONG_SAYS, "store b 1\n+1001 |a*161"],
+        packets: &[
+            "#1 a>centre 160",
+            "#5 a>centre 34",
+            "#8 centre>b 166",
+            "#9 centre>b 40",
+            "#19 centre>b 166",
+        ],
+    },
+    Played {
+        script: "wide\ntype a +1002 |a*161|\ncarry 1\ncarry 3\ncarry 5\npush b\npush b\ncarry 9\ncarry 8\ncarry 8\n|\
+            carry 9\ncarry 11\ncarry 13\npush b\ncarry 19\ncarry 21\ncarry 7\n",
+        says: &[LONG_SAYS, "store b 1\n+1001 |a*161"],
+        packets: &[],
+    },
+    Played {
         script: "open 1\ntype a +1002 |a*161|\ntype c +1002 |x*161|\ncarry 1\ncarry 2\ncarry 4\ncarry 6\ncarry 8\n|\
             carry 10\npush b\ncarry 15\ncarry 17\npush b\ncarry 19\ncarry 21\npush b\ncarry 23\ncarry 25\n|\
             push b\ncarry 27\ncarry 29\npush b\ncarry 31\n",
@@ -192,57 +196,44 @@ pub static PLAYED: [Played; 20] = [
         packets: &["#21 b>centre 99010904010116410300D300"],
     },
     Played {
+        script: "type a +1002 |a*161|\ncarry 1\ncarry 3\ncarry 5\npush b\npush b\ncarry 8\ntick 604799\ntick 1\n|\
+            carry 9\ncarry 8\ncarry 9\n",
+        says: &[
+            "7 kept #10 #11\n8 ticked\n9 ticked\n10 kept #12 #13\n11 finished #14 #15\n12 repeat #16 #17",
+            "store b 1\n+1001 |a*161",
+        ],
+        packets: &[],
+    },
+    Played {
+        script: "type a +1002 |a*161|\ncarry 1\ncarry 3\ncarry 5\npush b\npush b\ncarry 8\ntick 604799\ncarry 9\n",
+        says: &["7 kept #10 #11\n8 ticked\n9 finished #12 #13"],
+        packets: &[],
+    },
+];
+
+/// Texts that the centre sees twice, or refuses.
+pub static AT_THE_CENTRE: [Played; 5] = [
+    Played {
+        script: "type a +1002 hi\ncarry 1\ntimeout a\ncarry 4\ncarry 6\ncarry 3\npush b\ncarry 8\ncarry 10\n|\
+            tick 172800\ncarry 4\npush b\ncarry 14\n",
+        says: &[
+            "1 typed 1 #1\n2 held #2 #3\n3 repeated 1 #4\n4 refused 21 C5 #5 #6\n5 accepted 1 #7",
+            "6 drop unmatched\n7 pushed #8\n8 finished #9 #10\n9 delivered #11\n10 ticked",
+            "11 held #12 #13\n12 pushed #14\n13 finished #15 #16",
+            "store b 2\n+1001 hi\n+1001 hi",
+        ],
+        packets: &[
+            "#4 a>centre 190113000100039101000B050004910120000002E834",
+            "#6 centre>a 99011005010115410A01C50000101000000000",
+        ],
+    },
+    Played {
         script: "type a +1009 hi\ncarry 1\ncarry 3\n",
         says: &[
             "1 typed 1 #1\n2 refused 1 C3 #2 #3\n3 failed 1 1 C3 #4",
             "sent a 1 failed",
         ],
         packets: &["#3 centre>a 89011005000101410A01C30000101000000000"],
-    },
-    Played {
-        script: "inject down b 090118010003910100001004049101100004001010000000000141\ninject up a FF\n|\
-            inject up a 090113000000039101000B010004910120000402E834\npush b\ncarry 5\ncarry 7\n",
-        says: &[
-            "1 refused 111 90 #1 #2\n2 drop not cp\n3 held #3 #4\n4 pushed #5\n5 refused 111 90 #6 #7",
-            "6 abandoned #8",
-        ],
-        packets: &[
-            "#2 b>centre 8901090400016F4103009000",
-            "#7 b>centre 8901090400016F4103009000",
-        ],
-    },
-    Played {
-        script: "carry 1\n",
-        says: &["1 fault no such packet"],
-        packets: &[],
-    },
-    Played {
-        script: "type a +1002 hi\ninject down a 9901020300\ninject down a 8901020301\ninject down a 8901020200\n|\
-            inject down a 8904\ninject down a 8901020300\ninject down a 8901020300\n",
-        says: &[
-            "2 drop unmatched\n3 drop unmatched\n4 drop unmatched\n5 noted\n6 accepted 1 #2\n7 drop unmatched",
-            "sent a 1 accepted",
-            "store b 0",
-        ],
-        packets: &["#2 a>centre 0904"],
-    },
-    Played {
-        script: "inject up b 8901020200\ninject up a 0901130000\n",
-        says: &["1 drop unmatched\n2 drop not cp"],
-        packets: &[],
-    },
-    Played {
-        script: "store 1\ntype a +1002 one\ncarry 1\ncarry 3\npush b\ncarry 5\ncarry 7\ntype a +1002 two\ncarry 9\n|\
-            carry 11\npush b\ncarry 13\ncarry 15\npush b\ncarry 17\ncarry 5\n",
-        says: &[
-            "10 pushed #13\n11 refused 22 D3 #14 #15\n12 returned #16\n13 pushed #17",
-            "14 refused 22 D3 #18 #19\n15 repeat #20 #21",
-            "store b 1\n+1001 one",
-        ],
-        packets: &[
-            "#15 b>centre 99010904010116410300D300",
-            "#19 b>centre A9010904020116410300D300",
-        ],
     },
     Played {
         script: "held 1\ntype a +1002 hi\ncarry 1\ntype c +1001 hi\ncarry 4\ncarry 6\ntick 172800\npush b\n|\
@@ -270,18 +261,44 @@ pub static PLAYED: [Played; 20] = [
         says: &["3 held #4 #5"],
         packets: &[],
     },
+];
+
+/// Packets that no party put out.
+pub static INJECTED: [Played; 3] = [
     Played {
-        script: "type a +1002 |a*161|\ncarry 1\ncarry 3\ncarry 5\npush b\npush b\ncarry 8\ntick 604799\ntick 1\n|\
-            carry 9\ncarry 8\ncarry 9\n",
+        script: "inject down b 090118010003910100001004049101100004001010000000000141\ninject up a FF\n|\
+            inject up a 090113000000039101000B010004910120000402E834\npush b\ncarry 5\ncarry 7\n",
         says: &[
-            "7 kept #10 #11\n8 ticked\n9 ticked\n10 kept #12 #13\n11 finished #14 #15\n12 repeat #16 #17",
-            "store b 1\n+1001 |a*161",
+            "1 refused 111 90 #1 #2\n2 drop not cp\n3 held #3 #4\n4 pushed #5\n5 refused 111 90 #6 #7",
+            "6 abandoned #8",
         ],
-        packets: &[],
+        packets: &[
+            "#2 b>centre 8901090400016F4103009000",
+            "#7 b>centre 8901090400016F4103009000",
+        ],
     },
     Played {
-        script: "type a +1002 |a*161|\ncarry 1\ncarry 3\ncarry 5\npush b\npush b\ncarry 8\ntick 604799\ncarry 9\n",
-        says: &["7 kept #10 #11\n8 ticked\n9 finished #12 #13"],
+        script: "type a +1002 hi\ninject down a 9901020300\ninject down a 8901020301\ninject down a 8901020200\n|\
+            inject down a 8904\ninject down a 8901020300\ninject down a 8901020300\n",
+        says: &[
+            "2 drop unmatched\n3 drop unmatched\n4 drop unmatched\n5 noted\n6 accepted 1 #2\n7 drop unmatched",
+            "sent a 1 accepted",
+            "store b 0",
+        ],
+        packets: &["#2 a>centre 0904"],
+    },
+    Played {
+        script: "inject up b 8901020200\ninject up a 0901130000\n",
+        says: &["1 drop unmatched\n2 drop not cp"],
+        packets: &[],
+    },
+];
+
+/// Texts and events that nothing answers.
+pub static UNANSWERED: [Played; 3] = [
+    Played {
+        script: "carry 1\n",
+        says: &["1 fault no such packet"],
         packets: &[],
     },
     Played {

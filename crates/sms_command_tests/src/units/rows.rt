@@ -1,4 +1,6 @@
-//! Rows of the tests: words, and what the command answers.
+//! Units in octets and in words, and what the command answers.
+
+use crate::found::{AfterCentre, Shown};
 
 /// A delivery of a text, and its fields.
 pub const HELLO: &str = "040BC87238880900F10000993092516195800AE8329BFD4697D9EC37";
@@ -17,12 +19,6 @@ stamp: 2099-03-29 15:16:59 +02:00
 length: 10
 text: hellohello
 ";
-
-/// Octets, and the answer where they are shown: its lines, or some of them.
-pub struct Shown {
-    pub octets: &'static str,
-    pub lines: &'static str,
-}
 
 /// A unit in the words of a command, and its octets.
 pub struct Encoded {
@@ -82,14 +78,6 @@ pub struct Filled {
     pub first: &'static str,
     pub ones: usize,
     pub septets: usize,
-}
-
-/// A kind of unit, octets that begin with the address of a service centre, the status and the answer.
-pub struct AfterCentre {
-    pub kind: &'static str,
-    pub octets: &'static str,
-    pub status: u8,
-    pub answer: &'static str,
 }
 
 /// Deliveries by their first octet, and lines of the answer.

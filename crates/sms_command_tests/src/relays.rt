@@ -2,8 +2,7 @@
 
 mod rows;
 
-use super::rows::AfterCentre;
-use super::{answer_to, are_answered, is_missed};
+use crate::found::{AfterCentre, answer_to, are_answered, is_missed};
 use rows::{
     ACKNOWLEDGEMENTS, CP_AFTER_CENTRES, CP_DATA_OF_ANSWERS, CP_DATA_OF_TRANSFERS, CP_WITHOUT_DATA,
     DATA_FROM_PHONES, DATA_TO_PHONES, ERRORS, FAULTS_IN_ANSWERS, FAULTS_IN_TRANSFERS,

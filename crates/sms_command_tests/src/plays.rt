@@ -2,11 +2,15 @@
 
 mod rows;
 
-use super::splits::expanded;
-use super::*;
-use rows::{PHONES, PLAYED, Played, WAY, WAY_TOLD, WHOLES, Whole};
-use std::alloc::AllocError;
-use std::io::ErrorKind;
+use crate::splits::expanded;
+use rows::{
+    AT_THE_CENTRE, IN_SEGMENTS, INJECTED, PHONES, Played, STORED, UNANSWERED, WAY, WAY_TOLD,
+    WHOLES, Whole,
+};
+use sms_command::command;
+use std::alloc::{AllocError, Global};
+use std::io::{ErrorKind, Read};
+use std::process::Abort;
 use std::test::Fail;
 
 /// The status and the whole output where a reader gives the script.
@@ -91,13 +95,30 @@ fn is_played(alloc: Global, row: &Played) -> Result<bool, Fail> {
     Ok(status == 0 && told && sent)
 }
 
-#[test]
-fn plays_scripts(rt: HostRuntime) -> Result<(), Fail> {
-    for row in PLAYED.as_slice() {
-        let played = is_played(rt.alloc(), row)?;
+/// The script of each row is played, and its transcript says all that the row wants.
+fn are_played(rt: &impl Abort, alloc: Global, rows: &[Played]) -> Result<(), Fail> {
+    for row in rows {
+        let played = is_played(alloc, row)?;
         assert!(rt; played, "{}", row.script);
     }
     Ok(())
+}
+
+#[test]
+fn plays_texts(rt: HostRuntime) -> Result<(), Fail> {
+    are_played(&rt, rt.alloc(), STORED.as_slice())?;
+    are_played(&rt, rt.alloc(), IN_SEGMENTS.as_slice())
+}
+
+#[test]
+fn plays_what_is_refused_or_unanswered(rt: HostRuntime) -> Result<(), Fail> {
+    are_played(&rt, rt.alloc(), AT_THE_CENTRE.as_slice())?;
+    are_played(&rt, rt.alloc(), UNANSWERED.as_slice())
+}
+
+#[test]
+fn plays_packets_that_no_party_put_out(rt: HostRuntime) -> Result<(), Fail> {
+    are_played(&rt, rt.alloc(), INJECTED.as_slice())
 }
 
 /// Whether a whole script has the status and the output of a row.
@@ -177,20 +198,22 @@ fn tells_the_lines_before_a_read_that_fails(rt: HostRuntime) -> Result<(), Fail>
     Ok(())
 }
 
+/// Whether the front of the transcript fills an output with as much room, and then no more is played.
+fn is_filled(alloc: Global, room: usize) -> bool {
+    let mut space = [0; 600];
+    let mut input = WAY.as_bytes();
+    let Some(mut output) = space.get_mut(..room) else {
+        return false;
+    };
+    let status = command(alloc, ["sms", "play"].as_slice(), &mut input, &mut output);
+    status == 3 && space.get(..room) == WAY_TOLD.as_bytes().get(..room)
+}
+
 #[test]
 fn plays_until_the_output_is_full(rt: HostRuntime) -> Result<(), Fail> {
     for room in 0..WAY_TOLD.len() {
-        let mut space = [0; 600];
-        let mut input = WAY.as_bytes();
-        let mut output = &mut space[..room];
-        let status = command(
-            rt.alloc(),
-            ["sms", "play"].as_slice(),
-            &mut input,
-            &mut output,
-        );
-        assert_eq!(rt; status, 3, "{room}");
-        assert_eq!(rt; &space[..room], &WAY_TOLD.as_bytes()[..room], "{room}");
+        let filled = is_filled(rt.alloc(), room);
+        assert!(rt; filled, "{room}");
     }
     Ok(())
 }

@@ -1,6 +1,6 @@
 //! Rows of the tests of relay and connection messages.
 
-use crate::cli::tests::rows::{AfterCentre, Shown};
+use crate::found::{AfterCentre, Shown};
 
 /// A kind of message, its octets, and where it may end: before its user data, or else at its end.
 pub struct WholeMessage {

@@ -1,0 +1,17 @@
+//! The command `sms` over any reader and writer: units that are shown and encoded, texts that are split, scripts that
+//! are played.
+#![tactic(auto)]
+
+mod cli;
+mod encode;
+mod fault;
+mod lines;
+mod play;
+mod printed;
+mod relay;
+mod reports;
+mod show;
+mod split;
+mod words;
+
+pub use cli::command;

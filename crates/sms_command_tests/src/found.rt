@@ -1,0 +1,94 @@
+//! Octets and words, and what the command answers to them.
+
+use sms_command::command;
+use std::alloc::Global;
+use std::process::Abort;
+use std::test::Fail;
+
+/// Octets, and the answer where they are shown: its lines, or some of them.
+pub struct Shown {
+    pub octets: &'static str,
+    pub lines: &'static str,
+}
+
+/// A kind of unit, octets that begin with the address of a service centre, the status and the answer.
+pub struct AfterCentre {
+    pub kind: &'static str,
+    pub octets: &'static str,
+    pub status: u8,
+    pub answer: &'static str,
+}
+
+/// The status and the whole output.
+pub fn answer_to(alloc: Global, words: &[&str]) -> Result<(u8, String), Fail> {
+    let mut input = b"".as_slice();
+    let mut output = Vec::new(alloc);
+    let status = command(alloc, words, &mut input, &mut output);
+    Ok((status, String::from_utf8(output)?))
+}
+
+/// Whether an answer has these lines, or this part of a line.
+pub fn says(answer: &str, part: &str) -> bool {
+    answer.contains(part)
+}
+
+/// Whether octets as a kind have a status and an answer.
+pub fn is_answered(
+    alloc: Global,
+    kind: &str,
+    octets: &str,
+    lines: &str,
+    wanted: u8,
+) -> Result<bool, Fail> {
+    let (status, answer) = answer_to(alloc, &["sms", "show", kind, octets])?;
+    Ok(status == wanted && answer.as_str() == lines)
+}
+
+/// The octets of each row as a kind have a status, and its lines as their answer.
+pub fn are_answered(
+    rt: &impl Abort,
+    alloc: Global,
+    kind: &str,
+    rows: &[Shown],
+    status: u8,
+) -> Result<(), Fail> {
+    for row in rows {
+        let answered = is_answered(alloc, kind, row.octets, row.lines, status)?;
+        assert!(rt; answered, "{kind} {}", row.octets);
+    }
+    Ok(())
+}
+
+/// Whether octets that begin with a centre have the status and the answer of a row.
+fn is_answered_after_a_centre(alloc: Global, row: &AfterCentre) -> Result<bool, Fail> {
+    let (status, answer) = answer_to(alloc, &["sms", "show", "--sca", row.kind, row.octets])?;
+    Ok(status == row.status && answer.as_str() == row.answer)
+}
+
+/// The octets of each row, which begin with a centre, have its status and its answer.
+pub fn are_answered_after_a_centre(
+    rt: &impl Abort,
+    alloc: Global,
+    rows: &[AfterCentre],
+) -> Result<(), Fail> {
+    for row in rows {
+        let answered = is_answered_after_a_centre(alloc, row)?;
+        assert!(rt; answered, "{} {}", row.kind, row.octets);
+    }
+    Ok(())
+}
+
+/// Whether a front of the octets of a unit is refused as short at its end.
+pub fn is_missed(alloc: Global, kind: &str, front: &str) -> Result<bool, Fail> {
+    let line = format!(in alloc; "at {}: short\n", front.len() / 2)?;
+    is_answered(alloc, kind, front, &line, 1)
+}
+
+/// A text, as many times as are asked for.
+pub fn repeated(alloc: Global, part: &str, times: usize) -> Result<String, Fail> {
+    let mut text = String::new(alloc);
+    for _ in 0..times {
+        text.push_str(part)?;
+    }
+    Ok(text)
+}

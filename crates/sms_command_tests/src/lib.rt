@@ -1,0 +1,17 @@
+//! What the command answers to its words and its input, against the public call of `sms_command`.
+#![tactic(auto)]
+
+#[cfg(test)]
+mod found;
+#[cfg(test)]
+mod plays;
+#[cfg(test)]
+mod relays;
+#[cfg(test)]
+mod reports;
+#[cfg(test)]
+mod splits;
+#[cfg(test)]
+mod units;
+#[cfg(test)]
+mod widths;
