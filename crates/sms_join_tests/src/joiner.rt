@@ -44,6 +44,78 @@ static ORDERS: [[usize; 6]; 12] = [
     [2, 1, 0, 2, 1, 0],
 ];
 
+/// The first segment of two, under the reference 7.
+const FIRST: Option<Concat> = Some(Concat {
+    width: Width::Eight,
+    reference: 7,
+    maximum: 2,
+    sequence: 1,
+});
+
+/// The second of them.
+const SECOND: Option<Concat> = Some(Concat {
+    width: Width::Eight,
+    reference: 7,
+    maximum: 2,
+    sequence: 2,
+});
+
+/// The first segment of two, under the reference 8.
+const FIRST_OF_8: Option<Concat> = Some(Concat {
+    width: Width::Eight,
+    reference: 8,
+    maximum: 2,
+    sequence: 1,
+});
+
+/// The second of them.
+const SECOND_OF_8: Option<Concat> = Some(Concat {
+    width: Width::Eight,
+    reference: 8,
+    maximum: 2,
+    sequence: 2,
+});
+
+/// The first segment of two, under the reference 9.
+const FIRST_OF_9: Option<Concat> = Some(Concat {
+    width: Width::Eight,
+    reference: 9,
+    maximum: 2,
+    sequence: 1,
+});
+
+/// The first segment of two, under the reference 7 of two octets.
+const WIDE_FIRST: Option<Concat> = Some(Concat {
+    width: Width::Sixteen,
+    reference: 7,
+    maximum: 2,
+    sequence: 1,
+});
+
+/// The second of them.
+const WIDE_SECOND: Option<Concat> = Some(Concat {
+    width: Width::Sixteen,
+    reference: 7,
+    maximum: 2,
+    sequence: 2,
+});
+
+/// The first segment of two, under the reference 263.
+const WIDE_FIRST_OF_263: Option<Concat> = Some(Concat {
+    width: Width::Sixteen,
+    reference: 263,
+    maximum: 2,
+    sequence: 1,
+});
+
+/// The second of them.
+const WIDE_SECOND_OF_263: Option<Concat> = Some(Concat {
+    width: Width::Sixteen,
+    reference: 263,
+    maximum: 2,
+    sequence: 2,
+});
+
 /// The first segment of two, or the second.
 fn of_two(width: Width, reference: u16, sequence: u8) -> Option<Concat> {
     Some(Concat {
@@ -231,71 +303,136 @@ fn differs(alloc: Global, rows: &[Row]) -> Result<Option<&'static str>, AllocErr
     differs_from(alloc, &mut joiner, rows)
 }
 
-/// One set may be open, and one key is remembered.
+/// What is offered where one set may be open, and one key is remembered.
+static IN_TURN: [Row; 7] = [
+    Row {
+        shows: "opens",
+        from: "+1001",
+        place: SECOND,
+        piece: PieceUnits::Gsm("b"),
+        want: Want::Kept,
+    },
+    Row {
+        shows: "one set too many",
+        from: "+1001",
+        place: FIRST_OF_8,
+        piece: PieceUnits::Gsm("z"),
+        want: Want::TooManyOpen,
+    },
+    Row {
+        shows: "alone",
+        from: "+1001",
+        place: None,
+        piece: PieceUnits::Gsm("u"),
+        want: Want::Finished("u"),
+    },
+    Row {
+        shows: "there already",
+        from: "+1001",
+        place: SECOND,
+        piece: PieceUnits::Gsm("b"),
+        want: Want::Repeat,
+    },
+    Row {
+        shows: "the last",
+        from: "+1001",
+        place: FIRST,
+        piece: PieceUnits::Gsm("a"),
+        want: Want::Finished("ab"),
+    },
+    Row {
+        shows: "finished lately",
+        from: "+1001",
+        place: FIRST,
+        piece: PieceUnits::Gsm("a"),
+        want: Want::Repeat,
+    },
+    Row {
+        shows: "forgotten",
+        from: "+1001",
+        place: None,
+        piece: PieceUnits::Gsm("u"),
+        want: Want::Finished("u"),
+    },
+];
+
 #[test]
 fn answers_in_turn(rt: HostRuntime) -> Result<(), Fail> {
-    let (alloc, eight) = (rt.alloc(), Width::Eight);
-    let (first, second) = (of_two(eight, 7, 1), of_two(eight, 7, 2));
-    let other = of_two(eight, 8, 1);
-    let rows = [
-        Row::letters("opens", second, "b", Want::Kept),
-        Row::letters("one set too many", other, "z", Want::TooManyOpen),
-        Row::letters("alone", None, "u", Want::Finished("u")),
-        Row::letters("there already", second, "b", Want::Repeat),
-        Row::letters("the last", first, "a", Want::Finished("ab")),
-        Row::letters("finished lately", first, "a", Want::Repeat),
-        Row::letters("forgotten", None, "u", Want::Finished("u")),
-    ];
-    let mut joiner = Joiner::new(alloc, 1, 1)?;
-    offers_all(&rt, alloc, &mut joiner, 0, rows.as_slice())
+    let mut joiner = Joiner::new(rt.alloc(), 1, 1)?;
+    offers_all(&rt, rt.alloc(), &mut joiner, 0, IN_TURN.as_slice())
 }
 
 /// Sets of two origins under one reference, and of both widths under one number.
+static APART: [Row; 9] = [
+    Row {
+        shows: "without a plus",
+        from: "1001",
+        place: FIRST,
+        piece: PieceUnits::Gsm("a"),
+        want: Want::Kept,
+    },
+    Row {
+        shows: "another origin",
+        from: "+1001",
+        place: FIRST,
+        piece: PieceUnits::Gsm("x"),
+        want: Want::Kept,
+    },
+    Row {
+        shows: "another width",
+        from: "+1001",
+        place: WIDE_SECOND,
+        piece: PieceUnits::Gsm("n"),
+        want: Want::Kept,
+    },
+    Row {
+        shows: "263 is not 7",
+        from: "+1001",
+        place: WIDE_SECOND_OF_263,
+        piece: PieceUnits::Gsm("q"),
+        want: Want::Kept,
+    },
+    Row {
+        shows: "its own",
+        from: "+1001",
+        place: SECOND,
+        piece: PieceUnits::Gsm("y"),
+        want: Want::Finished("xy"),
+    },
+    Row {
+        shows: "still open",
+        from: "1001",
+        place: FIRST,
+        piece: PieceUnits::Gsm("c"),
+        want: Want::Repeat,
+    },
+    Row {
+        shows: "without a plus, the last",
+        from: "1001",
+        place: SECOND,
+        piece: PieceUnits::Gsm("b"),
+        want: Want::Finished("ab"),
+    },
+    Row {
+        shows: "the other width",
+        from: "+1001",
+        place: WIDE_FIRST,
+        piece: PieceUnits::Gsm("m"),
+        want: Want::Finished("mn"),
+    },
+    Row {
+        shows: "both alphabets",
+        from: "+1001",
+        place: WIDE_FIRST_OF_263,
+        piece: PieceUnits::Ucs2(0x4F60),
+        want: Want::Finished("你q"),
+    },
+];
+
 #[test]
 fn keeps_sets_apart(rt: HostRuntime) -> Result<(), Fail> {
-    let (alloc, eight, sixteen) = (rt.alloc(), Width::Eight, Width::Sixteen);
-    let rows = [
-        Row {
-            shows: "without a plus",
-            from: "1001",
-            place: of_two(eight, 7, 1),
-            piece: PieceUnits::Gsm("a"),
-            want: Want::Kept,
-        },
-        Row::letters("another origin", of_two(eight, 7, 1), "x", Want::Kept),
-        Row::letters("another width", of_two(sixteen, 7, 2), "n", Want::Kept),
-        Row::letters("263 is not 7", of_two(sixteen, 263, 2), "q", Want::Kept),
-        Row::letters("its own", of_two(eight, 7, 2), "y", Want::Finished("xy")),
-        Row {
-            shows: "still open",
-            from: "1001",
-            place: of_two(eight, 7, 1),
-            piece: PieceUnits::Gsm("c"),
-            want: Want::Repeat,
-        },
-        Row {
-            shows: "without a plus, the last",
-            from: "1001",
-            place: of_two(eight, 7, 2),
-            piece: PieceUnits::Gsm("b"),
-            want: Want::Finished("ab"),
-        },
-        Row::letters(
-            "the other width",
-            of_two(sixteen, 7, 1),
-            "m",
-            Want::Finished("mn"),
-        ),
-        Row {
-            shows: "both alphabets",
-            from: "+1001",
-            place: of_two(sixteen, 263, 1),
-            piece: PieceUnits::Ucs2(0x4F60),
-            want: Want::Finished("你q"),
-        },
-    ];
-    let mut joiner = Joiner::new(alloc, 4, 2)?;
-    offers_all(&rt, alloc, &mut joiner, 0, rows.as_slice())
+    let mut joiner = Joiner::new(rt.alloc(), 4, 2)?;
+    offers_all(&rt, rt.alloc(), &mut joiner, 0, APART.as_slice())
 }
 
 /// Offers a letter with this sequence in each of six sets.
@@ -333,13 +470,11 @@ fn holds_six_open_sets(rt: HostRuntime) -> Result<(), Fail> {
 
 /// A set is opened, is there a second before its time, and then makes room.
 fn ages(rt: &impl Abort, alloc: Global, joiner: &mut Joiner) -> Result<(), Fail> {
-    let eight = Width::Eight;
-    let (first, second) = (of_two(eight, 7, 1), of_two(eight, 7, 2));
-    let opens = [Row::letters("opens", first, "a", Want::Kept)];
-    let again = [Row::letters("is there yet", first, "a", Want::Repeat)];
+    let opens = [Row::letters("opens", FIRST, "a", Want::Kept)];
+    let again = [Row::letters("is there yet", FIRST, "a", Want::Repeat)];
     let room = [
-        Row::letters("has room", of_two(eight, 8, 1), "c", Want::Kept),
-        Row::letters("was dropped", second, "b", Want::TooManyOpen),
+        Row::letters("has room", FIRST_OF_8, "c", Want::Kept),
+        Row::letters("was dropped", SECOND, "b", Want::TooManyOpen),
     ];
     offers_all(rt, alloc, joiner, 5, opens.as_slice())?;
     joiner.age(604_804);
@@ -475,35 +610,67 @@ fn joins_as_many_as_there_can_be(rt: HostRuntime) -> Result<(), Fail> {
     joins_longest(&rt, rt.alloc(), "mixed", &order)
 }
 
+/// What is offered where two sets may be open.
+static OF_TWO_SETS: [Row; 7] = [
+    Row {
+        shows: "opens",
+        from: "+1001",
+        place: SECOND,
+        piece: PieceUnits::Gsm("b"),
+        want: Want::Kept,
+    },
+    Row {
+        shows: "opens another",
+        from: "+1001",
+        place: FIRST_OF_8,
+        piece: PieceUnits::Gsm("x"),
+        want: Want::Kept,
+    },
+    Row {
+        shows: "one set too many",
+        from: "+1001",
+        place: FIRST_OF_9,
+        piece: PieceUnits::Gsm("z"),
+        want: Want::TooManyOpen,
+    },
+    Row {
+        shows: "alone",
+        from: "+1001",
+        place: None,
+        piece: PieceUnits::Gsm("u"),
+        want: Want::Finished("u"),
+    },
+    Row {
+        shows: "there already",
+        from: "+1001",
+        place: SECOND,
+        piece: PieceUnits::Gsm("b"),
+        want: Want::Repeat,
+    },
+    Row {
+        shows: "the last",
+        from: "+1001",
+        place: FIRST,
+        piece: PieceUnits::Gsm("a"),
+        want: Want::Finished("ab"),
+    },
+    Row {
+        shows: "both alphabets",
+        from: "+1001",
+        place: SECOND_OF_8,
+        piece: PieceUnits::Ucs2(0x4F60),
+        want: Want::Finished("x你"),
+    },
+];
+
 /// One growth is refused, whichever it is (docs/CONTRIBUTING.md says how): an offer that wants memory has changed
 /// nothing, and the same offer is then answered as where none was refused.
 #[test]
 fn answers_after_a_refused_growth(rt: HostRuntime) -> Result<(), Fail> {
-    let (alloc, eight) = (rt.alloc(), Width::Eight);
-    let (first, second) = (of_two(eight, 7, 1), of_two(eight, 7, 2));
-    let rows = [
-        Row::letters("opens", second, "b", Want::Kept),
-        Row::letters("opens another", of_two(eight, 8, 1), "x", Want::Kept),
-        Row::letters(
-            "one set too many",
-            of_two(eight, 9, 1),
-            "z",
-            Want::TooManyOpen,
-        ),
-        Row::letters("alone", None, "u", Want::Finished("u")),
-        Row::letters("there already", second, "b", Want::Repeat),
-        Row::letters("the last", first, "a", Want::Finished("ab")),
-        Row {
-            shows: "both alphabets",
-            from: "+1001",
-            place: of_two(eight, 8, 2),
-            piece: PieceUnits::Ucs2(0x4F60),
-            want: Want::Finished("x你"),
-        },
-    ];
-    let other = match differs(alloc, &rows) {
+    let rows = OF_TWO_SETS.as_slice();
+    let other = match differs(rt.alloc(), rows) {
         Ok(other) => other,
-        Err(_) => differs(alloc, &rows)?,
+        Err(_) => differs(rt.alloc(), rows)?,
     };
     assert_eq!(rt; other, None);
     Ok(())
