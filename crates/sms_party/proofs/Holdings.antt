@@ -5,7 +5,7 @@ use Rattle.std.specs.List.{filter, slice_get}
 use Rattle.std.proofs.Math.ListN.{set}
 use Rattle.std.proofs.lemmas.Bool.Decides.{nat_tests}
 use Rattle.std.proofs.lemmas.List.{length-append}
-use Rattle.std.proofs.lemmas.List.Elements.{All-nil, All-cons, All-head, All-tail, All-push, All-append, All-weaker, All-filter, filter_passes, filter-append, Contains-append_left, Contains-append_right, Contains-append_cases}
+use Rattle.std.proofs.lemmas.List.Elements.{All-nil, All-cons, All-head, All-tail, All-push, All-weaker, All-filter, filter_passes, filter-append, Contains-append_left, Contains-append_right, Contains-append_cases}
 use Rattle.sms_field.specs.AddressValue.{AddressValue}
 use Rattle.sms_party.specs.declared.centre.held.Ending.{Ending}
 use Rattle.sms_party.specs.declared.message.Tag.{Tag}
@@ -14,7 +14,7 @@ use Rattle.sms_party.specs.declared.outcome.Step.{Step}
 use Rattle.sms_party.specs.declared.outcome.Dropped.{Dropped}
 use Rattle.sms_party.specs.declared.outcome.Dropped.TheVariants.{NotCp, Unmatched, Busy, Memory, TooManySegments}
 use Rattle.sms_party.specs.Centre.Verdicts.{stays}
-use Rattle.sms_party.specs.Centre.Kept.{free_at, IsPutIn, KeepsAfter, IsHeldLater, ForgetsFirst}
+use Rattle.sms_party.specs.Centre.Kept.{free_at, IsPutIn, IsHeldLater, ForgetsFirst}
 use Rattle.sms_party.specs.Centre.Value.{WaitingValue, LineValue, HeldValue, HoldingsValue, waiting_at, line_at, endings_after}
 use Rattle.sms_party.specs.Centre.Lines.{new_line, accepting_line, forgetting_line, ChangesLine, PushesFrom, LinePushes, HearsFor, LineHears}
 use Rattle.sms_party.specs.Centre.Holdings.{ending_of, AreHeld, LeavesSame, ForgetsOne}

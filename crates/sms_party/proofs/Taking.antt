@@ -1,5 +1,5 @@
 -- What comes to the centre from a phone, without what is accepted.
-use Rattle.std.proofs.Common.{◌≡◌, ℕ, zero, suc, ◌+◌, ◌<◌, ◌≤◌, max, Bool, true, false, not, cond, ◌&&◌, nat_lt, List, [], ◌∷◌, ◌++◌, length, Option, Some, None, Result, Ok, Err, refl, sym, ap, ◌∙◌, subst, arith}
+use Rattle.std.proofs.Common.{◌≡◌, ℕ, zero, suc, ◌+◌, ◌<◌, ◌≤◌, max, Bool, true, false, not, cond, ◌&&◌, nat_lt, List, [], ◌∷◌, length, Option, Some, None, Result, Ok, Err, refl, sym, ap, ◌∙◌, subst, arith}
 use Rattle.std.specs.Prelude.{nat_le, position}
 use Rattle.std.specs.List.{prefix_len}
 use Rattle.std.proofs.lemmas.List.Quantifiers.{position-Some}
@@ -7,7 +7,6 @@ use Rattle.std.specs.List.{slice_get}
 use Rattle.std.proofs.Common.{get_or}
 use Rattle.std.proofs.lemmas.Option.{slice_get_read}
 use Rattle.std.proofs.lemmas.Bool.Decides.{nat_tests}
-use Rattle.std.proofs.lemmas.List.{length-append}
 use Rattle.sms_field.specs.AddressValue.{AddressValue}
 use Rattle.sms_field.specs.declared.validity.ValidityFault.{ValidityFault}
 use Rattle.sms_field.specs.declared.validity.ValidityFault.TheVariants.{EnhancedValidity, NoMoment}
@@ -15,7 +14,7 @@ use Rattle.sms_tpdu.specs.Submit.{Submission}
 use Rattle.sms_field.specs.SameAddress.{same_address}
 use Rattle.sms_party.specs.Address.{phone_at, address_of}
 use Rattle.sms_field.specs.Times.{end_of, end_of_2099}
-use Rattle.sms_party.specs.Centre.State.{Acceptance, CentreState}
+use Rattle.sms_party.specs.Centre.State.{CentreState}
 use Rattle.sms_party.specs.Centre.Checks.{Books, check_space, check_recipient, check_validity, checked_by, books_of}
 use Rattle.sms_party.specs.Does.{drops, notes, Puts, packets_of, CarriesEach}
 use Rattle.sms_party.specs.Centre.Held.{unended, is_held, next_stamp}

@@ -1,9 +1,9 @@
 -- A walk over the elements of a header.
-use Rattle.std.proofs.Common.{◌≡◌, inl, inr, ℕ, ◌<◌, ◌≤◌, List, [], ◌∷◌, ◌++◌, length, take, drop, get_or, refl, sym, ap, subst, ◌∙◌, append_assoc, arith, length-append}
+use Rattle.std.proofs.Common.{◌≡◌, inl, inr, ℕ, ◌<◌, ◌≤◌, List, [], ◌∷◌, ◌++◌, length, take, drop, get_or, refl, sym, ap, ◌∙◌, append_assoc, arith, length-append}
 use Rattle.std.specs.List.{flat_map}
 use Rattle.std.proofs.lemmas.List.{append-nil, drop_at, take-append-drop, length-take}
 use Rattle.std.proofs.lemmas.Grind.{flat_map-append}
-use Rattle.sms_tpdu.specs.UserData.Elements.{Element, element_octets, Spells, AreElements, AreWhole, StartsAt}
+use Rattle.sms_tpdu.specs.UserData.Elements.{Element, element_octets, Spells, AreWhole, StartsAt}
 use Rattle.sms_tpdu.proofs.ElementLaws.{follows, two_first, from_third, short_of}
 
 -- some elements were passed

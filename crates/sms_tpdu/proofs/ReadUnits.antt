@@ -1,10 +1,9 @@
 -- What is read of octets has a spelling: units, and headers.
-use Rattle.std.proofs.Common.{◌≡◌, ℕ, suc, ◌+◌, ◌-◌, ◌<◌, ◌≤◌, Bool, true, false, cond, leb, List, [], ◌∷◌, length, Option, Some, None, Result, Ok, Err, refl, sym, subst, arith}
+use Rattle.std.proofs.Common.{◌≡◌, ℕ, suc, ◌+◌, ◌-◌, ◌<◌, ◌≤◌, Bool, true, false, cond, leb, List, length, Option, Ok, Err, refl, sym, subst, arith}
 use Rattle.std.specs.Prelude.{IfSome}
 use Rattle.std.proofs.lemmas.Bool.{leb-true}
 use Rattle.sms_text.specs.Octets.{IsOctets}
-use Rattle.sms_field.specs.Field.{Field, octet, octet_by, octets_of, map_reason}
-use Rattle.sms_field.specs.Address.{address}
+use Rattle.sms_field.specs.Field.{Field, octet, octet_by, octets_of}
 use Rattle.sms_field.specs.AddressValue.{HasSpelling}
 use Rattle.sms_field.specs.Coding.{alphabet_at}
 use Rattle.sms_field.specs.ReadAddressLaws.{has_octet, has_stamp, has_up_to, has_address}
@@ -14,7 +13,7 @@ use Rattle.sms_field.specs.Stamp.{IsStamp}
 use Rattle.sms_field.specs.declared.coding.Alphabet.{Alphabet}
 use Rattle.sms_field.specs.declared.coding.Alphabet.TheVariants.{Gsm7, EightBit, Ucs2, Compressed}
 use Rattle.sms_tpdu.specs.Deliver.{deliver, IsDeliverable}
-use Rattle.sms_tpdu.specs.Report.{Parts, report_length, report_data, IsReportData, part_if, report_alphabet, parts, AreParts}
+use Rattle.sms_tpdu.specs.Report.{report_length, report_data, IsReportData, part_if, report_alphabet, parts, AreParts}
 use Rattle.sms_tpdu.specs.Report.DeliverAck.{deliver_ack, IsDeliverAck}
 use Rattle.sms_tpdu.specs.Report.DeliverError.{deliver_error, IsDeliverError}
 use Rattle.sms_tpdu.specs.Report.SubmitAck.{submit_ack, IsSubmitAck}

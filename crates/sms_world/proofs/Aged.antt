@@ -1,20 +1,16 @@
 -- The clock moves for one phone after another.
-use Rattle.std.proofs.Common.{◌≡◌, ℕ, zero, suc, ◌≤◌, List, [], ◌∷◌, length, Some, refl, sym, ap, ◌∙◌, subst, arith}
+use Rattle.std.proofs.Common.{◌≡◌, ℕ, zero, suc, ◌≤◌, List, [], ◌∷◌, length, Some, refl, sym, ◌∙◌, subst, arith}
 use Rattle.std.specs.List.{slice_get}
 use Rattle.std.proofs.Math.ListN.{set}
 use Rattle.sms_party.specs.Centre.Calls.{StandsLater}
-use Rattle.sms_party.specs.Centre.Value.{CentreValue}
 use Rattle.sms_party.specs.Phone.{PhoneValue}
 use Rattle.sms_party.specs.Receiver.Aging.{ages}
-use Rattle.sms_party.specs.Receiver.Standing as receiver
 use Rattle.sms_party.specs.Sender.Stands.{SenderStands}
 use Rattle.sms_party.specs.Sender.Texts.{size_of}
 use Rattle.sms_party.specs.Sent.{nth}
-use Rattle.sms_world.specs.Machine.{Machine}
 use Rattle.sms_world.specs.Machine.Next.{receiver_limits, aged_at, ticked}
 use Rattle.sms_world.specs.World.Value.{PartiesValue}
 use Rattle.sms_world.specs.World.Phones.{IsAged}
-use Rattle.sms_world.specs.World.Standing.{PartiesStand}
 use Rattle.sms_world.specs.World.Parties.{MovesTo}
 
 -- it has moved for the first ones, as many as given

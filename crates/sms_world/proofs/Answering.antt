@@ -1,16 +1,14 @@
 -- What the parties answer is what the machine does.
-use Rattle.std.proofs.Common.{◌≡◌, ◌≢◌, ℕ, ◌≤◌, Bool, true, false, List, [], ◌∷◌, length, Option, Some, None, Result, Ok, Err, refl, sym, ap, ◌∙◌, subst, arith}
+use Rattle.std.proofs.Common.{◌≡◌, ◌≢◌, ℕ, ◌≤◌, Bool, true, false, List, [], length, Option, Some, None, Result, Ok, Err, refl, sym, ap, ◌∙◌, subst, arith}
 use Rattle.std.specs.List.{slice_get}
-use Rattle.std.proofs.Math.ListN.{set}
 use Rattle.sms_field.specs.AddressValue.{AddressValue}
 use Rattle.sms_join.specs.declared.units.Units.{Units}
 use Rattle.sms_join.specs.Cut.{IsCut}
 use Rattle.sms_join.specs.UnitsOfText.{IsText}
 use Rattle.sms_party.specs.Drops.{DoesOrDrops, SendsOrDrops}
 use Rattle.sms_party.specs.Few.{AreFewTo}
-use Rattle.sms_party.specs.Does.{Does, CarriesEach, packets_of, Answered, drops, notes}
+use Rattle.sms_party.specs.Does.{Does, packets_of, Answered}
 use Rattle.sms_party.specs.Message.{Origin}
-use Rattle.sms_party.specs.Message.Reading.{ReadsAs}
 use Rattle.sms_party.specs.Sent.{Sent, Sends, Centre, Phone, messages_of}
 use Rattle.sms_party.specs.Centre.{centre_receives}
 use Rattle.sms_party.specs.Centre.State.{CentreState, changed}
@@ -31,7 +29,6 @@ use Rattle.sms_party.specs.Sender.Stands.{SenderStands, in_messages}
 use Rattle.sms_party.specs.Sender.Value.{SenderValue}
 use Rattle.sms_party.specs.declared.message.Message.{Message}
 use Rattle.sms_party.specs.declared.message.Message.TheVariants.{NotCp, Note, Tiny, Data}
-use Rattle.sms_party.specs.declared.outcome.Outcome.{Outcome}
 use Rattle.sms_party.specs.declared.outcome.Step.{Step}
 use Rattle.sms_party.specs.declared.outcome.Dropped.{Dropped}
 use Rattle.sms_party.specs.declared.outcome.Dropped.TheVariants as dropped
@@ -43,7 +40,7 @@ use Rattle.sms_world.specs.Machine.Next.{Next, entered, stays, by_sender, by_rec
 use Rattle.sms_world.specs.World.Value.{PartiesValue}
 use Rattle.sms_world.specs.World.Standing.{PartiesStand, ArePacketsOf}
 use Rattle.sms_world.specs.World.Parties.{on_way, Answers, Types, Pushes, Receives}
-use Rattle.sms_world.proofs.Replaced.{with_phone, replaced, everywhere, changed_here, changed_elsewhere, not_changed, same_receivers}
+use Rattle.sms_world.proofs.Replaced.{with_phone, replaced, changed_here, changed_elsewhere, not_changed, same_receivers}
 use Rattle.sms_world.proofs.Ways.{on_their_way, down_to, up_from, as_many, as_many_sent, put_none, put_none_up}
 
 -- ---- the parties are as they were

@@ -1,21 +1,19 @@
 -- The first state.
-use Rattle.std.proofs.Common.{◌≡◌, ℕ, ◌<◌, Bool, true, false, not, ◌&&◌, List, [], length, Some, refl, sym, ap, ◌∙◌, subst, arith}
+use Rattle.std.proofs.Common.{◌≡◌, ◌<◌, Bool, true, false, not, ◌&&◌, List, [], length, refl, sym, subst, arith}
 use Rattle.std.specs.Prelude.{IsTrue, ◌∷◌}
-use Rattle.std.specs.List.{AllByRecursion, list_any, slice_get}
+use Rattle.std.specs.List.{AllByRecursion, list_any}
 use Rattle.sms_field.specs.AddressValue.{AddressValue}
 use Rattle.sms_field.specs.SameAddress.{same_address}
-use Rattle.sms_field.specs.Times.{end_of_2099}
 use Rattle.sms_party.specs.Address.{are_distinct}
 use Rattle.sms_party.specs.Centre.State.{new_centre}
 use Rattle.sms_party.specs.Centre.Value.{CentreValue}
 use Rattle.sms_party.specs.Centre.Calls.{StandsAlways}
 use Rattle.sms_party.specs.Phone.{PhoneValue}
-use Rattle.sms_party.specs.Receiver.State.{new_receiver}
 use Rattle.sms_script.specs.Meaning.Known.{AreDistinct}
 use Rattle.sms_script.specs.declared.script.limits.Limits.{Limits}
 use Rattle.sms_script.specs.Transcript.Lines.{PacketValue}
-use Rattle.sms_world.specs.Machine.{Machine, start}
-use Rattle.sms_world.specs.World.Value.{PartiesValue, WorldValue}
+use Rattle.sms_world.specs.Machine.{start}
+use Rattle.sms_world.specs.World.Value.{PartiesValue}
 use Rattle.sms_world.specs.World.Phones.{IsNewPhone}
 use Rattle.sms_world.specs.World.Standing.{ArePacketsOf, PartiesStand, StandsFor, IsWorld}
 use Rattle.sms_world.proofs.AllOf.{one_of_all}

@@ -1,11 +1,11 @@
 -- The claims of a world are those of the states for which it stands.
-use Rattle.std.proofs.Common.{◌≡◌, ◌≢◌, ℕ, zero, suc, ◌<◌, ◌≤◌, ◌-◌, ◌==◌, Bool, true, false, cond, List, [], ◌∷◌, ◌++◌, length, reverse, Option, Some, None, refl, sym, ap, ◌∙◌, subst, arith, Contains, ◌⊎◌, inl, inr}
+use Rattle.std.proofs.Common.{◌≡◌, ℕ, zero, suc, ◌-◌, Bool, true, false, List, [], ◌∷◌, ◌++◌, reverse, Some, refl, sym, ap, ◌∙◌, subst, arith, Contains, ◌⊎◌, inl, inr}
 use Rattle.std.specs.List.{slice_get}
 use Rattle.std.proofs.lemmas.List.{reverse-append}
 use Rattle.std.proofs.lemmas.List.Elements.{Contains-append_cases}
 use Rattle.sms_party.specs.declared.sender.Status.{Status}
-use Rattle.sms_party.specs.declared.sender.Status.TheVariants.{Waiting, Accepted, Failed}
-use Rattle.sms_party.specs.Sender.Stands.{status_if, statuses_of, status_of}
+use Rattle.sms_party.specs.declared.sender.Status.TheVariants.{Accepted}
+use Rattle.sms_party.specs.Sender.Stands.{status_if, statuses_of}
 use Rattle.sms_party.specs.Sender.Value.{all_waiting, status_among}
 use Rattle.sms_world.specs.Accepted.{AcceptedIsAccepted}
 use Rattle.sms_world.specs.Accepted.Reject.{OnlyTimeIsLeft}
@@ -13,11 +13,7 @@ use Rattle.sms_world.specs.Headline.Finished.{FinishedTexts}
 use Rattle.sms_world.specs.Headline.Once.{AcceptedAtMostOnce}
 use Rattle.sms_world.specs.Headline.Refused.{RefusedOnlyWhereFull}
 use Rattle.sms_world.specs.Headline.Stores.{StoresStand}
-use Rattle.sms_world.specs.Machine.{Machine}
-use Rattle.sms_world.specs.World.Value.{WorldValue}
-use Rattle.sms_world.specs.World.Phones.{statuses_at}
-use Rattle.sms_world.specs.World.Standing.{StandsFor}
-use Rattle.sms_world.specs.World.Claims.{StoresAreWhole, RefusesOnlyWhereFull, AcceptsOnce, AcceptedWereAccepted, WasAccepted, ClaimsHold}
+use Rattle.sms_world.specs.World.Claims.{ClaimsHold}
 use Rattle.sms_world.proofs.Entries.{contains_here, contains_more, contains_cases, contains_none}
 use Rattle.sms_world.proofs.Shown.{store_stands, statuses_stand}
 

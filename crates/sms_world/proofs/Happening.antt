@@ -1,5 +1,5 @@
 -- What happens to a world is a step of the machine.
-use Rattle.std.proofs.Common.{◌≡◌, ℕ, zero, suc, ◌≤◌, ◌<◌, ◌+◌, Bool, true, false, not, cond, nat_lt, List, [], ◌∷◌, ◌++◌, length, reverse, Option, Some, None, is_some, Result, Ok, Err, ◌⊎◌, inl, inr, refl, sym, ap, ◌∙◌, subst, arith}
+use Rattle.std.proofs.Common.{◌≡◌, ℕ, zero, suc, ◌≤◌, ◌<◌, ◌+◌, Bool, true, false, not, nat_lt, List, [], ◌∷◌, ◌++◌, length, reverse, Option, Some, None, is_some, Result, Ok, Err, inl, inr, refl, sym, ap, ◌∙◌, subst, arith}
 use Rattle.std.specs.List.{AllByRecursion, slice_get}
 use Rattle.std.specs.Result.{IsErrAnd}
 use Rattle.std.proofs.lemmas.List.{append-nil, length-map}
@@ -29,16 +29,16 @@ use Rattle.sms_world.specs.Below.{Below}
 use Rattle.sms_world.specs.Told.{Told}
 use Rattle.sms_world.specs.Machine.{Machine}
 use Rattle.sms_world.specs.Machine.Event.{Event, Compose, Carry, Timeout, Push, Tick, Inject, Act, Composes, Carries, TimesOut, Pushes, Ticks, Injects, Is}
-use Rattle.sms_world.specs.Machine.Next.{Next, entered, stays, by_sender, by_receiver, by_centre, pushed, of_centre, comes, comes_to_phone, packet, carries, ticked, phone_of, at_phone, next}
-use Rattle.sms_world.specs.Machine.Step.{takes_memory, Step, Acts}
+use Rattle.sms_world.specs.Machine.Next.{Next, entered, stays, by_sender, by_receiver, by_centre, pushed, comes, comes_to_phone, packet, carries, ticked, phone_of, at_phone, next}
+use Rattle.sms_world.specs.Machine.Step.{takes_memory}
 use Rattle.sms_world.specs.World.Value.{PartiesValue, WorldValue}
-use Rattle.sms_world.specs.World.Standing.{place_of, IsPacketOf, ArePacketsOf, PartiesStand, StandsFor, IsWorld}
+use Rattle.sms_world.specs.World.Standing.{ArePacketsOf, PartiesStand, StandsFor, IsWorld}
 use Rattle.std.proofs.lemmas.Option.{slice_get_past}
 use Rattle.sms_world.proofs.AllOf.{all_and_all, one_of_all}
 use Rattle.sms_world.specs.World.Parties as parties
 use Rattle.sms_world.specs.World.Parties.{on_way, place_at, Answers}
 use Rattle.sms_world.specs.World.Steps.{PutsMore, StepsFrom, Steps}
-use Rattle.sms_world.proofs.Packets.{reverse_entered, packets_and_more, IsSent, packet_there, packet_not_there, no_packet_0}
+use Rattle.sms_world.proofs.Packets.{reverse_entered, packets_and_more, packet_there, packet_not_there, no_packet_0}
 
 -- a world with other parties, and with packets that came
 abbrev pub with_parties : WorldValue → PartiesValue → WorldValue

@@ -5,11 +5,9 @@ use Rattle.sms_field.specs.AddressValue.{AddressValue}
 use Rattle.sms_script.specs.declared.script.limits.Limits.{Limits}
 use Rattle.sms_script.specs.declared.meaning.event.Event as script
 use Rattle.sms_world.specs.Told.{Told}
-use Rattle.sms_world.specs.Machine.{Machine, start}
-use Rattle.sms_world.specs.Machine.Event.{Event}
+use Rattle.sms_world.specs.Machine.{start}
 use Rattle.sms_world.specs.Machine.Step.{Run}
 use Rattle.sms_world.specs.World.Value.{WorldValue}
-use Rattle.sms_world.specs.World.Standing.{StandsFor}
 use Rattle.sms_world.specs.World.Steps.{event_of, Steps, told_past, Runs}
 
 -- one event more is the newest

@@ -1,7 +1,7 @@
-use Rattle.std.proofs.Common.{◌≤◌, ◌+◌, ◌++◌, ◌∷◌, ℕ, List, length, length-append, arith}
+use Rattle.std.proofs.Common.{◌≤◌, ◌+◌, ◌∷◌, ℕ, List, length, length-append, arith}
 use Rattle.sms_field.specs.AddressLengthLaws.{relay_address_few}
 use Rattle.sms_field.specs.RelayAddress.{optional_address_octets}
-use Rattle.sms_relay.specs.Rp.{rp_data_octets, rp_body_octets}
+use Rattle.sms_relay.specs.Rp.{rp_data_octets}
 use Rattle.sms_relay.specs.RpUserData.{user_octets}
 use Rattle.sms_relay.specs.declared.side.Side.{Side}
 use Rattle.sms_relay.specs.declared.side.Side.TheVariants.{FromPhone, ToPhone}

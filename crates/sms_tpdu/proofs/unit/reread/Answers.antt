@@ -1,4 +1,4 @@
-use Rattle.std.proofs.Common.{[], List, ℕ, length, refl, sym, subst}
+use Rattle.std.proofs.Common.{[], length, refl, sym}
 use Rattle.std.proofs.lemmas.List.{append-nil}
 use Rattle.std.proofs.lemmas.Result.{err_from_is_err_and}
 use Rattle.sms_field.specs.Reading.{Reads}

@@ -1,9 +1,5 @@
-use Rattle.std.proofs.Common.{◌≡◌, ℕ, ◌≤◌, ◌<◌, ◌+◌, ◌++◌, List, [], ◌∷◌, length, map, arith, sym, ap, subst, ◌∙◌}
-use Rattle.std.proofs.lemmas.List.{append-nil, append_assoc}
-use Rattle.std.specs.Vec.{vec_len, vec_capacity}
+use Rattle.std.proofs.Common.{◌≡◌, ℕ, ◌++◌, List, length, map, arith, sym, ap, ◌∙◌}
 use Rattle.std.specs.Global.{Vec}
-use Rattle.sms_script.specs.Transcript.Lines.{PacketValue}
-use Rattle.sms_party.specs.Does.{packets_of}
 use Rattle.sms_world.specs.World.Parties.{on_way}
 use Rattle.sms_world.proofs.Ways.{kept_one, kept_all}
 use Rattle.sms_world.proofs.world.keep.Goals as goal

@@ -1,7 +1,6 @@
 use Rattle.std.proofs.Common.{ap, sym, subst, ◌∙◌}
 use Rattle.sms_party.specs.Centre.State.{new_centre}
 use Rattle.sms_party.specs.Centre.Value.{HoldingsValue, addresses}
-use Rattle.sms_party.specs.Centre.Lines.{new_line}
 use Rattle.sms_party.specs.Centre.Standing.{StandsFor}
 use Rattle.sms_party.proofs.NewCentre.{new_addresses, new_centre_stands}
 use Rattle.sms_party.proofs.centre.Centre.new.Goals as goal

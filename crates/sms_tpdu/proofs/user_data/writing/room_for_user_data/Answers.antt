@@ -1,5 +1,5 @@
-use Rattle.std.proofs.Common.{◌≡◌, ℕ, List, length, ap, length-append, arith}
-use Rattle.sms_tpdu.specs.UserData.{header_octets, SpellsUserData}
+use Rattle.std.proofs.Common.{length, ap, length-append, arith}
+use Rattle.sms_tpdu.specs.UserData.{header_octets}
 use Rattle.sms_tpdu.proofs.user_data.writing.room_for_user_data.Goals as goal
 
 pub returns : goal.returns

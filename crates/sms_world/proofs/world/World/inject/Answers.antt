@@ -1,4 +1,4 @@
-use Rattle.std.proofs.Common.{◌≡◌, ◌<◌, ◌≤◌, true, false, not, List, length, Ok, Err, refl, sym, ap, subst, ◌∙◌, arith}
+use Rattle.std.proofs.Common.{◌<◌, ◌≤◌, not, length, Ok, Err, subst, arith}
 use Rattle.sms_field.specs.OctetLists.{octets_are}
 use Rattle.sms_world.specs.World.Parties.{place_at}
 use Rattle.sms_world.specs.Machine.Event.{Inject}

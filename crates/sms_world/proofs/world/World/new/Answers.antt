@@ -1,7 +1,3 @@
-use Rattle.std.proofs.Common.{◌≡◌, [], refl, arith, sym, ap, subst}
-use Rattle.sms_world.specs.World.Value.{WorldValue}
-use Rattle.sms_world.specs.World.Standing.{StandsFor, IsWorld}
-use Rattle.sms_world.specs.Machine.{start}
 use Rattle.sms_world.proofs.Beginning.{distinct, world_begins, stands_at_first}
 use Rattle.sms_world.proofs.world.World.new.Goals as goal
 

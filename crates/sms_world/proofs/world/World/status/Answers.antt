@@ -1,4 +1,4 @@
-use Rattle.std.proofs.Common.{◌≡◌, ◌<◌, length, ap, sym, subst, ◌∙◌}
+use Rattle.std.proofs.Common.{◌<◌, length, sym, subst}
 use Rattle.sms_world.specs.World.Value.{WorldValue}
 use Rattle.sms_world.specs.World.Standing.{StandsFor}
 use Rattle.sms_world.proofs.Shown.{status_stands}

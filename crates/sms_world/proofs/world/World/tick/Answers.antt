@@ -1,4 +1,4 @@
-use Rattle.std.proofs.Common.{◌≡◌, ◌<◌, ◌≤◌, ◌+◌, subst, arith}
+use Rattle.std.proofs.Common.{arith}
 use Rattle.sms_world.specs.Machine.Event.{Tick}
 use Rattle.sms_world.specs.World.Value.{WorldValue}
 use Rattle.sms_world.proofs.Happening.{clock_moved, clock_ended, world_moved, seen, seen_still}

@@ -1,4 +1,4 @@
-use Rattle.std.proofs.Common.{List, Option, None, Some, true, false, ap, subst}
+use Rattle.std.proofs.Common.{List, Option, true, false, ap, subst}
 use Rattle.sms_party.specs.declared.centre.held.Ending.{Ending}
 use Rattle.sms_party.specs.Centre.Value.{HeldValue, HoldingsValue}
 use Rattle.sms_party.specs.Centre.Kept.{ForgetsFirst}

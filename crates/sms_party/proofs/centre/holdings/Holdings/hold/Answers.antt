@@ -1,8 +1,7 @@
-use Rattle.std.proofs.Common.{◌≤◌, List, sym, ap, subst, ◌∙◌}
-use Rattle.sms_party.specs.declared.centre.held.Ending.{Ending}
+use Rattle.std.proofs.Common.{◌≤◌, List, sym, subst}
 use Rattle.sms_party.specs.Centre.Value.{LineValue, HeldValue, HoldingsValue}
 use Rattle.sms_party.specs.Centre.Kept.{free_at}
-use Rattle.sms_party.specs.Centre.Holdings.{AreHeld, ending_of}
+use Rattle.sms_party.specs.Centre.Holdings.{AreHeld}
 use Rattle.sms_party.proofs.Holdings.{is_new, accepted_held}
 use Rattle.sms_party.proofs.centre.holdings.Holdings.hold.Goals as goal
 

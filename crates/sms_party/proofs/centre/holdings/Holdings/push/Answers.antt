@@ -1,6 +1,3 @@
-use Rattle.std.proofs.Common.{List, ap, subst}
-use Rattle.sms_party.specs.Centre.Value.{LineValue, HeldValue, HoldingsValue}
-use Rattle.sms_party.specs.Centre.Lines.{ChangesLine, LinePushes}
 use Rattle.sms_party.proofs.Holdings.{pushed_held}
 use Rattle.sms_party.proofs.centre.holdings.Holdings.push.Goals as goal
 

@@ -1,5 +1,5 @@
 use Rattle.std.proofs.Common.{sym, arith, ◌∙◌}
-use Rattle.sms_tpdu.proofs.ElementWalk.{whole_end, whole_next, next_is}
+use Rattle.sms_tpdu.proofs.ElementWalk.{whole_end, whole_next}
 use Rattle.sms_tpdu.proofs.user_data.elements.ElementsIterator.next.Goals as goal
 
 pub returns-in_default-clause-steps : goal.returns-in_default-clause-steps

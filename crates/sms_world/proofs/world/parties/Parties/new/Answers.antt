@@ -1,4 +1,3 @@
-use Rattle.std.proofs.Common.{◌≡◌, ◌∙◌}
 use Rattle.sms_world.proofs.Beginning.{parties_begin}
 use Rattle.sms_world.proofs.world.parties.Parties.new.Goals as goal
 

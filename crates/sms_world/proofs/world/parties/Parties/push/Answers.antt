@@ -1,4 +1,4 @@
-use Rattle.std.proofs.Common.{◌≡◌, subst}
+use Rattle.std.proofs.Common.{subst}
 use Rattle.sms_world.specs.World.Value.{PartiesValue}
 use Rattle.sms_world.specs.World.Parties.{Pushes}
 use Rattle.sms_world.proofs.Answering.{with_centre, pushes}

@@ -1,5 +1,5 @@
 use Rattle.sms_field.specs.OctetLists.{octets_are}
-use Rattle.std.proofs.Common.{◌≡◌, true, subst, arith}
+use Rattle.std.proofs.Common.{true, subst, arith}
 use Rattle.sms_world.specs.World.Value.{PartiesValue}
 use Rattle.sms_world.specs.World.Parties.{Receives}
 use Rattle.sms_world.proofs.Answering.{with_centre, reaches_centre}

@@ -1,5 +1,5 @@
 use Rattle.sms_field.specs.OctetLists.{octets_are}
-use Rattle.std.proofs.Common.{◌≡◌, ◌<◌, false, ap, sym, subst, ◌∙◌, length, arith}
+use Rattle.std.proofs.Common.{◌<◌, false, ap, sym, subst, ◌∙◌, length, arith}
 use Rattle.std.proofs.lemmas.Option.{slice_get_read}
 use Rattle.sms_world.specs.World.Value.{PartiesValue}
 use Rattle.sms_world.specs.World.Parties.{Receives}

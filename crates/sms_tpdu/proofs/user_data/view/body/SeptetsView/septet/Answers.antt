@@ -1,4 +1,4 @@
-use Rattle.std.proofs.Common.{◌≡◌, ◌<◌, length, sym, ap, arith, ◌∙◌}
+use Rattle.std.proofs.Common.{◌<◌, length, sym, ap, arith, ◌∙◌}
 use Rattle.sms_text.specs.PackingLaws.{septet_in, unpacked_septets}
 use Rattle.sms_tpdu.proofs.user_data.view.body.SeptetsView.septet.Goals as goal
 
