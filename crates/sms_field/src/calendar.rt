@@ -3,7 +3,7 @@
 ghost use Rattle.std.specs.Prelude.{◌≡◌, ◌↔◌, ◌<◌, IsSome, IfSome};
 ghost use Rattle.sms_field.specs.Days.{IsDay, days_before};
 
-use jiff::civil::Date;
+use jiff_core::civil::Date;
 
 /// The days from 2000-01-01 to a date of 2000 to 2099; none where the date does not exist.
 pub fn days_since_2000(year: u16, month: u8, day: u8) -> Option<u64>
@@ -14,7 +14,7 @@ pub fn days_since_2000(year: u16, month: u8, day: u8) -> Option<u64>
         return None;
     }
     match Date::new(year as i16, month as i8, day as i8) {
-        Ok(date) => Some((date.to_plain().days_since_min() - 4_382_544) as u64),
+        Ok(date) => Some((date.days_since_min() - 4_382_544) as u64),
         Err(_) => None,
     }
 }
@@ -25,6 +25,6 @@ pub fn date_of(days: u64) -> (u16, u8, u8)
     ensures date { IsDay result.0 result.1 result.2 }
     ensures value { days_before result.0 result.1 result.2 ≡ days }
 {
-    let plain = jiff_core::civil::Date::from_days_since_min(days as u32 + 4_382_544);
-    (plain.year as u16, plain.month, plain.day)
+    let date = Date::from_days_since_min(days as u32 + 4_382_544);
+    (date.year as u16, date.month, date.day)
 }
