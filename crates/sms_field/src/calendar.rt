@@ -1,6 +1,6 @@
 //! Days of 2000 to 2099 by their numbers.
 
-ghost use Rattle.std.specs.Prelude.{◌≡◌, ◌↔◌, ◌<◌, IsSome, IfSome};
+ghost use Rattle.std.specs.Prelude.{◌≡◌, ◌↔◌, ◌<◌, IsTrue, IsSome, IfSome};
 ghost use Rattle.sms_field.specs.Days.{IsDay, days_before};
 
 use jiff_core::civil::Date;
@@ -17,6 +17,13 @@ pub fn days_since_2000(year: u16, month: u8, day: u8) -> Option<u64>
         Ok(date) => Some((date.days_since_min() - 4_382_544) as u64),
         Err(_) => None,
     }
+}
+
+/// Whether a date of 2000 to 2099 exists.
+pub fn is_day(year: u16, month: u8, day: u8) -> bool
+    ensures { IsTrue result ↔ IsDay year month day }
+{
+    days_since_2000(year, month, day).is_some()
 }
 
 /// The date of a day that lies that many days after 2000-01-01.

@@ -10,7 +10,7 @@ ghost use Rattle.sms_field.specs.Stamp.{stamp, IsStamp};
 ghost use Rattle.sms_field.specs.StampDate.{HasTwoDigits, number_in, quarters_in, date_in, IsDate};
 
 use crate::bit::has_bit;
-use crate::calendar::days_since_2000;
+use crate::calendar::is_day;
 use crate::cursor::Cursor;
 use crate::fault::FieldFault;
 use crate::refusal::{Fault, Reason};
@@ -119,8 +119,8 @@ impl Stamp {
             second: two_digits(second)?,
             quarters: quarters_of(zone)?,
         };
-        days_since_2000(date.year, date.month, date.day)?;
-        if date.hour < 24 && date.minute < 60 && date.second < 60 {
+        let exists = is_day(date.year, date.month, date.day);
+        if exists && date.hour < 24 && date.minute < 60 && date.second < 60 {
             Some(date)
         } else {
             None
