@@ -7,6 +7,7 @@ ghost use Rattle.sms_tpdu.specs.UserData.{header_octets, FitsAlphabet, SpellsBod
 ghost use Rattle.sms_tpdu.specs.UserData.Lengths as lengths;
 ghost use Rattle.sms_tpdu.specs.UserData.Lent.{place_header, units_body, user_after, SeptetsHaveRoom, WideHaveRoom, HasRoom, IsReferenceInRange};
 ghost use Rattle.sms_tpdu.specs.declared.user_data.body.Body.TheVariants as body;
+ghost use Rattle.sms_text.specs.Bits.{AreSeptets};
 ghost use Rattle.sms_text.specs.Utf16.{octets_high_first};
 
 use crate::user_data::UserData;
@@ -72,6 +73,16 @@ fn put_header(out: &mut Vec<u8>, header: &Option<Header>) -> Result<(), AllocErr
     Ok(())
 }
 
+/// Adds septets after the octets of a header, with the fill bits between them.
+fn put_septets(out: &mut Vec<u8>, taken: usize, septets: &[u8]) -> Result<(), AllocError>
+    requires few { taken ≤ 256 }
+    requires septets { AreSeptets septets.now }
+    ensures { OnOk result ((packed : List ℕ) × SpellsBody taken (body.Septets septets.now) packed
+        × (out.new.items ≡ out.old.items ++ packed)) }
+{
+    pack_into(out, septets, fill_bits(taken))
+}
+
 /// Adds user data, with their length before them.
 pub fn put_user_data(out: &mut Vec<u8>, user: &UserData) -> Result<(), AllocError>
     requires { (alphabet : Alphabet) × FitsAlphabet alphabet user.now }
@@ -84,7 +95,7 @@ pub fn put_user_data(out: &mut Vec<u8>, user: &UserData) -> Result<(), AllocErro
             let septets = septets.as_slice();
             out.push(length_of_septets(taken, septets))?;
             put_header(out, &user.header)?;
-            pack_into(out, septets, fill_bits(taken))?;
+            put_septets(out, taken, septets)?;
         }
         Body::Octets(octets) => {
             let octets = octets.as_slice();
@@ -134,7 +145,7 @@ fn write_septets(
     let mut out = Vec::with_capacity(alloc, 1 + taken + count - count / 8 + 1)?;
     out.push(length_of_septets(taken, septets))?;
     put_place(&mut out, place)?;
-    pack_into(&mut out, septets, fill_bits(taken))?;
+    put_septets(&mut out, taken, septets)?;
     Ok(out)
 }
 
