@@ -28,18 +28,41 @@ fn octets_of(alloc: Global, word: &str) -> Result<Vec<u8>, Fault> {
     })
 }
 
+/// The lines of what octets are shown as.
+fn put_kind<W: Write>(
+    alloc: Global,
+    kind: Kind,
+    octets: &[u8],
+    lines: &mut Lines<W>,
+) -> Result<(), Fault> {
+    match kind {
+        Kind::Unit(kind) => show_unit(alloc, kind, octets, lines),
+        Kind::Rp => show_rp(alloc, octets, lines),
+        Kind::Cp => show_cp(alloc, octets, lines),
+    }
+}
+
+/// The lines of octets, with those of the address of a service centre where it comes first.
+fn put_shown<W: Write>(
+    alloc: Global,
+    shown: &Shown<'_>,
+    octets: &[u8],
+    lines: &mut Lines<W>,
+) -> Result<(), Fault> {
+    let unit = if shown.has_centre {
+        show_centre(alloc, octets, lines)?
+    } else {
+        octets
+    };
+    put_kind(alloc, shown.kind, unit, lines)
+}
+
 fn show<W: Write>(alloc: Global, shown: Shown<'_>, output: &mut W) -> Result<(), Fault> {
     let octets = octets_of(alloc, shown.octets)?;
     let mut lines = Lines::new(output);
-    let mut unit = octets.as_slice();
-    if shown.has_centre {
-        unit = show_centre(alloc, unit, &mut lines)?;
-    }
-    match shown.kind {
-        Kind::Unit(kind) => show_unit(alloc, kind, unit, &mut lines),
-        Kind::Rp => show_rp(alloc, unit, &mut lines),
-        Kind::Cp => show_cp(alloc, unit, &mut lines),
-    }
+    let answered = put_shown(alloc, &shown, &octets, &mut lines);
+    lines.finish()?;
+    answered
 }
 
 fn answer<R: Read, W: Write>(

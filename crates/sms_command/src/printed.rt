@@ -14,6 +14,16 @@ impl fmt::Display for Answer {
     }
 }
 
+/// An octet in upper case hexadecimal.
+#[derive(Clone, Copy)]
+pub struct Octet(pub u8);
+
+impl fmt::Display for Octet {
+    fn fmt<W: fmt::Write>(&self, f: &mut fmt::Formatter<W>) -> fmt::Result {
+        write!(f, "{:02X}", self.0)
+    }
+}
+
 /// Octets in upper case hexadecimal, none as `-`.
 #[derive(Clone, Copy)]
 pub struct Hexadecimal<'a>(pub &'a [u8]);
@@ -37,16 +47,26 @@ pub struct Escaped<'a>(pub &'a str);
 impl fmt::Display for Escaped<'_> {
     fn fmt<W: fmt::Write>(&self, f: &mut fmt::Formatter<W>) -> fmt::Result {
         for character in self.0.chars() {
-            match character {
-                '\\' => write!(f, "\\\\")?,
-                '\n' => write!(f, "\\n")?,
-                '\r' => write!(f, "\\r")?,
-                '\u{c}' => write!(f, "\\f")?,
-                '\0'..='\u{1f}' | '\u{7f}' => write!(f, "\\x{:02x}", character as u32)?,
-                _ => write!(f, "{character}")?,
-            }
+            write!(f, "{}", EscapedCharacter(character))?;
         }
         Ok(())
+    }
+}
+
+/// A character of a text in one line.
+#[derive(Clone, Copy)]
+struct EscapedCharacter(char);
+
+impl fmt::Display for EscapedCharacter {
+    fn fmt<W: fmt::Write>(&self, f: &mut fmt::Formatter<W>) -> fmt::Result {
+        match self.0 {
+            '\\' => write!(f, "\\\\"),
+            '\n' => write!(f, "\\n"),
+            '\r' => write!(f, "\\r"),
+            '\u{c}' => write!(f, "\\f"),
+            '\0'..='\u{1f}' | '\u{7f}' => write!(f, "\\x{:02x}", self.0 as u32),
+            character => write!(f, "{character}"),
+        }
     }
 }
 
@@ -79,23 +99,32 @@ pub struct StampText(pub Stamp);
 impl fmt::Display for StampText {
     fn fmt<W: fmt::Write>(&self, f: &mut fmt::Formatter<W>) -> fmt::Result {
         match self.0.date() {
-            Some(date) => write!(f, "{}", DateText(date)),
+            Some(date) => write!(f, "{} {}", DateText(date), ZoneText(date.quarters)),
             None => write!(f, "raw {}", Hexadecimal(&self.0.octets())),
         }
     }
 }
 
-/// The date, the time of day and the zone of a stamp.
+/// The date and the time of day of a stamp.
 #[derive(Clone, Copy)]
 struct DateText(StampDate);
 
 impl fmt::Display for DateText {
     fn fmt<W: fmt::Write>(&self, f: &mut fmt::Formatter<W>) -> fmt::Result {
         let date = self.0;
-        let sign = if date.quarters < 0 { '-' } else { '+' };
-        let quarters = date.quarters.unsigned_abs();
         write!(f, "{:04}-{:02}-{:02} ", date.year, date.month, date.day)?;
-        write!(f, "{:02}:{:02}:{:02} ", date.hour, date.minute, date.second)?;
+        write!(f, "{:02}:{:02}:{:02}", date.hour, date.minute, date.second)
+    }
+}
+
+/// A zone, of which the quarters of an hour east of UTC are given.
+#[derive(Clone, Copy)]
+struct ZoneText(i8);
+
+impl fmt::Display for ZoneText {
+    fn fmt<W: fmt::Write>(&self, f: &mut fmt::Formatter<W>) -> fmt::Result {
+        let sign = if self.0 < 0 { '-' } else { '+' };
+        let quarters = self.0.unsigned_abs();
         write!(f, "{sign}{:02}:{:02}", quarters / 4, quarters % 4 * 15)
     }
 }

@@ -2,7 +2,7 @@
 
 use crate::fault::Fault;
 use crate::lines::Lines;
-use crate::printed::{Hexadecimal, TransactionText};
+use crate::printed::{Octet, TransactionText};
 use crate::show::{put_centre, show_unit};
 use crate::words::UnitKind;
 use sms_relay::{CpBodyView, CpView, RpBodyView, RpView, Side};
@@ -50,20 +50,20 @@ fn put_body<W: Write>(
     body: &RpBodyView<'_>,
 ) -> Result<(), Fault> {
     match body {
-        RpBodyView::Transfer { address, .. } => put_centre(alloc, lines, "address", address),
-        RpBodyView::Ack { .. } => Ok(()),
+        RpBodyView::Transfer { address, .. } => put_centre(alloc, lines, "address", address)?,
+        RpBodyView::Ack { .. } => {}
         RpBodyView::Fail {
             cause,
             diagnostic,
             ..
         } => {
-            lines.put("cause", *cause)?;
-            match diagnostic {
-                Some(octet) => lines.put("diagnostic", *octet),
-                None => Ok(()),
+            lines.put("cause", *cause);
+            if let Some(octet) = diagnostic {
+                lines.put("diagnostic", *octet);
             }
         }
     }
+    Ok(())
 }
 
 /// The lines of a relay message without the unit that it carries.
@@ -72,20 +72,20 @@ fn put_front<W: Write>(
     lines: &mut Lines<W>,
     message: &RpView<'_>,
 ) -> Result<(), Fault> {
-    lines.put("rp", relay_name(message))?;
-    lines.put("reference", Hexadecimal(&[message.reference]))?;
+    lines.put("rp", relay_name(message));
+    lines.put("reference", Octet(message.reference));
     put_body(alloc, lines, &message.body)?;
-    match unit_inside(&message.body) {
-        Some(_) => Ok(()),
-        None => lines.put("user", "none"),
+    if unit_inside(&message.body).is_none() {
+        lines.put("user", "none");
     }
+    Ok(())
 }
 
 /// Writes the fields of an RP message, and those of the unit that it carries.
 pub fn show_rp<W: Write>(alloc: Global, octets: &[u8], lines: &mut Lines<W>) -> Result<(), Fault> {
     let (message, used) = RpView::read(octets)?;
     put_front(alloc, lines, &message)?;
-    lines.put_rest(&octets[used..])?;
+    lines.put_rest(octets.len() - used);
     match unit_inside(&message.body) {
         Some(unit) => show_unit(alloc, kind_inside(&message), unit, lines),
         None => Ok(()),
@@ -102,24 +102,23 @@ fn connection_name(body: &CpBodyView<'_>) -> &'static str {
 }
 
 /// The lines of a connection message without the relay message that it carries.
-fn put_connection<W: Write>(lines: &mut Lines<W>, message: &CpView<'_>) -> Result<(), Fault> {
+fn put_connection<W: Write>(lines: &mut Lines<W>, message: &CpView<'_>) {
     let transaction = TransactionText {
         flag: message.flag,
         value: message.value,
     };
-    lines.put("cp", connection_name(&message.body))?;
-    lines.put("transaction", transaction)?;
-    match &message.body {
-        CpBodyView::Fail(cause) => lines.put("cause", *cause),
-        CpBodyView::Transfer(_) | CpBodyView::Ack => Ok(()),
+    lines.put("cp", connection_name(&message.body));
+    lines.put("transaction", transaction);
+    if let CpBodyView::Fail(cause) = &message.body {
+        lines.put("cause", *cause);
     }
 }
 
 /// Writes the fields of a CP message, and those of the RP message that it carries.
 pub fn show_cp<W: Write>(alloc: Global, octets: &[u8], lines: &mut Lines<W>) -> Result<(), Fault> {
     let (message, used) = CpView::read(octets)?;
-    put_connection(lines, &message)?;
-    lines.put_rest(&octets[used..])?;
+    put_connection(lines, &message);
+    lines.put_rest(octets.len() - used);
     match &message.body {
         CpBodyView::Transfer(relayed) => show_rp(alloc, relayed.as_slice(), lines),
         CpBodyView::Ack | CpBodyView::Fail(_) => Ok(()),

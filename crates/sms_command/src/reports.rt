@@ -2,7 +2,7 @@
 
 use crate::fault::Fault;
 use crate::lines::Lines;
-use crate::printed::{Answer, Hexadecimal, StampText};
+use crate::printed::{Answer, Hexadecimal, Octet, StampText};
 use sms_tpdu::{DeliverAckView, DeliverErrorView, ReportDataView, SubmitAckView, SubmitErrorView};
 use std::io::Write;
 
@@ -12,56 +12,59 @@ fn put_parts<W: Write>(
     pid: Option<u8>,
     dcs: Option<u8>,
     user: &Option<ReportDataView<'_>>,
-) -> Result<(), Fault> {
+) {
     if let Some(pid) = pid {
-        lines.put("pid", Hexadecimal(&[pid]))?;
+        lines.put("pid", Octet(pid));
     }
     if let Some(dcs) = dcs {
-        lines.put("dcs", Hexadecimal(&[dcs]))?;
+        lines.put("dcs", Octet(dcs));
     }
     if let Some(user) = user {
-        lines.put("length", user.length)?;
-        lines.put("user", Hexadecimal(user.octets))?;
+        lines.put("length", user.length);
+        lines.put("user", Hexadecimal(user.octets));
     }
-    Ok(())
 }
 
 /// Writes the fields of an SMS-SUBMIT-REPORT under an acknowledgement.
 pub fn show_submit_ack<W: Write>(octets: &[u8], lines: &mut Lines<W>) -> Result<(), Fault> {
     let (report, used) = SubmitAckView::read(octets)?;
-    lines.put("type", "submit-ack")?;
-    lines.put("header", Answer(report.has_header))?;
-    lines.put("stamp", StampText(report.stamp))?;
-    put_parts(lines, report.pid, report.dcs, &report.user)?;
-    lines.put_rest(&octets[used..])
+    lines.put("type", "submit-ack");
+    lines.put("header", Answer(report.has_header));
+    lines.put("stamp", StampText(report.stamp));
+    put_parts(lines, report.pid, report.dcs, &report.user);
+    lines.put_rest(octets.len() - used);
+    Ok(())
 }
 
 /// Writes the fields of an SMS-SUBMIT-REPORT under an error.
 pub fn show_submit_error<W: Write>(octets: &[u8], lines: &mut Lines<W>) -> Result<(), Fault> {
     let (report, used) = SubmitErrorView::read(octets)?;
-    lines.put("type", "submit-error")?;
-    lines.put("header", Answer(report.has_header))?;
-    lines.put("cause", Hexadecimal(&[report.cause]))?;
-    lines.put("stamp", StampText(report.stamp))?;
-    put_parts(lines, report.pid, report.dcs, &report.user)?;
-    lines.put_rest(&octets[used..])
+    lines.put("type", "submit-error");
+    lines.put("header", Answer(report.has_header));
+    lines.put("cause", Octet(report.cause));
+    lines.put("stamp", StampText(report.stamp));
+    put_parts(lines, report.pid, report.dcs, &report.user);
+    lines.put_rest(octets.len() - used);
+    Ok(())
 }
 
 /// Writes the fields of an SMS-DELIVER-REPORT under an acknowledgement.
 pub fn show_deliver_ack<W: Write>(octets: &[u8], lines: &mut Lines<W>) -> Result<(), Fault> {
     let (report, used) = DeliverAckView::read(octets)?;
-    lines.put("type", "deliver-ack")?;
-    lines.put("header", Answer(report.has_header))?;
-    put_parts(lines, report.pid, report.dcs, &report.user)?;
-    lines.put_rest(&octets[used..])
+    lines.put("type", "deliver-ack");
+    lines.put("header", Answer(report.has_header));
+    put_parts(lines, report.pid, report.dcs, &report.user);
+    lines.put_rest(octets.len() - used);
+    Ok(())
 }
 
 /// Writes the fields of an SMS-DELIVER-REPORT under an error.
 pub fn show_deliver_error<W: Write>(octets: &[u8], lines: &mut Lines<W>) -> Result<(), Fault> {
     let (report, used) = DeliverErrorView::read(octets)?;
-    lines.put("type", "deliver-error")?;
-    lines.put("header", Answer(report.has_header))?;
-    lines.put("cause", Hexadecimal(&[report.cause]))?;
-    put_parts(lines, report.pid, report.dcs, &report.user)?;
-    lines.put_rest(&octets[used..])
+    lines.put("type", "deliver-error");
+    lines.put("header", Answer(report.has_header));
+    lines.put("cause", Octet(report.cause));
+    put_parts(lines, report.pid, report.dcs, &report.user);
+    lines.put_rest(octets.len() - used);
+    Ok(())
 }

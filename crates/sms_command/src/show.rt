@@ -3,7 +3,7 @@
 use crate::fault::Fault;
 use crate::lines::Lines;
 use crate::printed::{
-    Answer, ConcatText, Escaped, Hexadecimal, Numbering, StampText, ValidityText,
+    Answer, ConcatText, Escaped, Hexadecimal, Numbering, Octet, StampText, ValidityText,
 };
 use crate::reports::{show_deliver_ack, show_deliver_error, show_submit_ack, show_submit_error};
 use crate::words::UnitKind;
@@ -14,13 +14,12 @@ use std::alloc::Global;
 use std::io::Write;
 
 /// The lines of a header: its octets, and the concatenation that it tells.
-fn put_header<W: Write>(lines: &mut Lines<W>, header: &Header) -> Result<(), Fault> {
+fn put_header<W: Write>(lines: &mut Lines<W>, header: &Header) {
     if !header.as_slice().is_empty() {
-        lines.put("header", Hexadecimal(header.as_slice()))?;
+        lines.put("header", Hexadecimal(header.as_slice()));
     }
-    match header.concat() {
-        Some(concat) => lines.put("concat", ConcatText(concat)),
-        None => Ok(()),
+    if let Some(concat) = header.concat() {
+        lines.put("concat", ConcatText(concat));
     }
 }
 
@@ -34,15 +33,16 @@ fn put_body<W: Write>(
     match body {
         Body::Septets(septets) => {
             let text = text_of_gsm(alloc, septets.as_slice())?;
-            lines.put("text", Escaped(&text))
+            lines.put("text", Escaped(&text));
         }
         Body::Octets(octets) if alphabet == Alphabet::Ucs2 => {
             let units = units_of_octets(alloc, octets.as_slice())?;
             let text = text_of_ucs2(alloc, &units)?;
-            lines.put("text", Escaped(&text))
+            lines.put("text", Escaped(&text));
         }
         Body::Octets(octets) => lines.put("data", Hexadecimal(octets.as_slice())),
     }
+    Ok(())
 }
 
 /// The lines of user data.
@@ -53,9 +53,9 @@ fn put_user<W: Write>(
     view: &UserDataView<'_>,
 ) -> Result<(), Fault> {
     let user = view.to_value(alloc)?;
-    lines.put("length", view.length())?;
+    lines.put("length", view.length());
     if let Some(header) = &user.header {
-        put_header(lines, header)?;
+        put_header(lines, header);
     }
     put_body(alloc, lines, alphabet_of(dcs), &user.body)
 }
@@ -69,8 +69,9 @@ fn put_party<W: Write>(
 ) -> Result<(), Fault> {
     let address = view.to_value(alloc)?;
     let text = address.to_text(alloc)?;
-    lines.put(name, Escaped(&text))?;
-    lines.put("number", Numbering::of(&address))
+    lines.put(name, Escaped(&text));
+    lines.put("number", Numbering::of(&address));
+    Ok(())
 }
 
 /// Why octets do not begin with the address of a service centre.
@@ -91,10 +92,11 @@ pub fn put_centre<W: Write>(
     match RpAddressView::some_to_value(alloc, centre)? {
         Some(address) => {
             let text = address.to_text(alloc)?;
-            lines.put(name, Escaped(&text))
+            lines.put(name, Escaped(&text));
         }
         None => lines.put(name, "none"),
     }
+    Ok(())
 }
 
 /// Writes the address of a service centre, and gives the octets after it.
@@ -109,48 +111,47 @@ pub fn show_centre<'a, W: Write>(
 }
 
 /// The lines of what an SMS-DELIVER has before its address.
-fn put_deliver_front<W: Write>(
-    lines: &mut Lines<W>,
-    deliver: &DeliverView<'_>,
-) -> Result<(), Fault> {
-    lines.put("type", "deliver")?;
-    lines.put("more", Answer(deliver.more))?;
-    lines.put("loop", Answer(deliver.looped))?;
-    lines.put("report", Answer(deliver.report))?;
-    lines.put("reply", Answer(deliver.reply))
+fn put_deliver_front<W: Write>(lines: &mut Lines<W>, deliver: &DeliverView<'_>) {
+    lines.put("type", "deliver");
+    lines.put("more", Answer(deliver.more));
+    lines.put("loop", Answer(deliver.looped));
+    lines.put("report", Answer(deliver.report));
+    lines.put("reply", Answer(deliver.reply));
 }
 
 /// Writes the fields of an SMS-DELIVER.
 fn show_deliver<W: Write>(alloc: Global, octets: &[u8], lines: &mut Lines<W>) -> Result<(), Fault> {
     let (deliver, used) = DeliverView::read(octets)?;
-    put_deliver_front(lines, &deliver)?;
+    put_deliver_front(lines, &deliver);
     put_party(alloc, lines, "from", &deliver.origin)?;
-    lines.put("pid", Hexadecimal(&[deliver.pid]))?;
-    lines.put("dcs", Hexadecimal(&[deliver.dcs]))?;
-    lines.put("stamp", StampText(deliver.stamp))?;
+    lines.put("pid", Octet(deliver.pid));
+    lines.put("dcs", Octet(deliver.dcs));
+    lines.put("stamp", StampText(deliver.stamp));
     put_user(alloc, lines, deliver.dcs, &deliver.user)?;
-    lines.put_rest(&octets[used..])
+    lines.put_rest(octets.len() - used);
+    Ok(())
 }
 
 /// The lines of what an SMS-SUBMIT has before its address.
-fn put_submit_front<W: Write>(lines: &mut Lines<W>, submit: &SubmitView<'_>) -> Result<(), Fault> {
-    lines.put("type", "submit")?;
-    lines.put("reject", Answer(submit.reject))?;
-    lines.put("report", Answer(submit.report))?;
-    lines.put("reply", Answer(submit.reply))?;
-    lines.put("reference", Hexadecimal(&[submit.reference]))
+fn put_submit_front<W: Write>(lines: &mut Lines<W>, submit: &SubmitView<'_>) {
+    lines.put("type", "submit");
+    lines.put("reject", Answer(submit.reject));
+    lines.put("report", Answer(submit.report));
+    lines.put("reply", Answer(submit.reply));
+    lines.put("reference", Octet(submit.reference));
 }
 
 /// Writes the fields of an SMS-SUBMIT.
 fn show_submit<W: Write>(alloc: Global, octets: &[u8], lines: &mut Lines<W>) -> Result<(), Fault> {
     let (submit, used) = SubmitView::read(octets)?;
-    put_submit_front(lines, &submit)?;
+    put_submit_front(lines, &submit);
     put_party(alloc, lines, "to", &submit.target)?;
-    lines.put("pid", Hexadecimal(&[submit.pid]))?;
-    lines.put("dcs", Hexadecimal(&[submit.dcs]))?;
-    lines.put("validity", ValidityText(submit.validity))?;
+    lines.put("pid", Octet(submit.pid));
+    lines.put("dcs", Octet(submit.dcs));
+    lines.put("validity", ValidityText(submit.validity));
     put_user(alloc, lines, submit.dcs, &submit.user)?;
-    lines.put_rest(&octets[used..])
+    lines.put_rest(octets.len() - used);
+    Ok(())
 }
 
 /// Writes the fields of a unit.
