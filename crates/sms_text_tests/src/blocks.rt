@@ -49,10 +49,12 @@ fn are_few(rt: &impl Abort, septets: &[u8])
     assert!(rt; septets.len() <= 40);
 }
 
-/// As many letters.
-fn letters(count: usize) -> Result<&'static str, Fail> {
+/// The septets of as many letters.
+fn letters(alloc: Global, count: usize) -> Result<Vec<u8>, Fail>
+    ensures { IfOk result (λ septets. AreSeptets septets.items) }
+{
     match LETTERS.get(..count) {
-        Some(letters) => Ok(letters),
+        Some(letters) => septets_of(alloc, letters),
         None => Err("too few letters".into()),
     }
 }
@@ -73,6 +75,14 @@ fn pack_alike(rt: &impl Abort, alloc: Global, fill: u8, septets: &[u8]) -> Resul
         Some(octets.as_slice()),
     );
     Ok(())
+}
+
+/// The same for as many letters.
+fn letters_alike(rt: &impl Abort, alloc: Global, fill: u8, count: usize) -> Result<(), Fail>
+    requires { fill < 7 }
+{
+    let septets = letters(alloc, count)?;
+    pack_alike(rt, alloc, fill, &septets)
 }
 
 /// As many septets after the fill bits of the noise.
@@ -101,20 +111,12 @@ fn unpack_alike(rt: &impl Abort, alloc: Global, fill: u8, count: usize) -> Resul
     Ok(())
 }
 
-/// Blocks and single bits give the same octets and the same septets.
-fn agrees(rt: &impl Abort, alloc: Global, fill: u8, count: usize) -> Result<(), Fail>
-    requires fill { fill < 7 }
-    requires few { count ≤ 40 }
-{
-    let septets = septets_of(alloc, letters(count)?)?;
-    pack_alike(rt, alloc, fill, &septets)?;
-    unpack_alike(rt, alloc, fill, count)
-}
-
 #[test]
 fn blocks_are_bits(rt: HostRuntime) -> Result<(), Fail> {
     for place in 0..7 * 41 {
-        agrees(&rt, rt.alloc(), (place % 7) as u8, place / 7)?;
+        let (fill, count) = ((place % 7) as u8, place / 7);
+        letters_alike(&rt, rt.alloc(), fill, count)?;
+        unpack_alike(&rt, rt.alloc(), fill, count)?;
     }
     Ok(())
 }

@@ -1,7 +1,5 @@
 //! Reports whose octets are known from the standard's tables.
 
-ghost use Rattle.std.specs.Prelude.{[]};
-
 use crate::again::rewritten;
 use crate::found::{are, holds, same};
 use sms_tpdu::{
@@ -245,7 +243,7 @@ static ROWS: [Row; 14] = [
     },
 ];
 
-/// What a report says, how many octets it takes, and how it is written.
+/// What a report says, how many octets it takes, and how it is written when it has been read again.
 #[derive(Drop)]
 struct Read {
     said: Said,
@@ -256,7 +254,7 @@ struct Read {
 /// What octets say as the report on a submission that was taken.
 fn submit_ack(alloc: Global, octets: &[u8]) -> Result<Read, Refusal<UnitFault>> {
     let (report, used) = SubmitAck::read(alloc, octets)?;
-    let written = report.write(alloc)?;
+    let written = rewritten(alloc, &report)?;
     let said = Said {
         has_header: report.has_header,
         cause: 0,
@@ -275,7 +273,7 @@ fn submit_ack(alloc: Global, octets: &[u8]) -> Result<Read, Refusal<UnitFault>> 
 /// The same where it was not.
 fn submit_error(alloc: Global, octets: &[u8]) -> Result<Read, Refusal<UnitFault>> {
     let (report, used) = SubmitError::read(alloc, octets)?;
-    let written = report.write(alloc)?;
+    let written = rewritten(alloc, &report)?;
     let said = Said {
         has_header: report.has_header,
         cause: report.cause,
@@ -294,7 +292,7 @@ fn submit_error(alloc: Global, octets: &[u8]) -> Result<Read, Refusal<UnitFault>
 /// What octets say as the report on a delivery that was taken.
 fn deliver_ack(alloc: Global, octets: &[u8]) -> Result<Read, Refusal<UnitFault>> {
     let (report, used) = DeliverAck::read(alloc, octets)?;
-    let written = report.write(alloc)?;
+    let written = rewritten(alloc, &report)?;
     let said = Said {
         has_header: report.has_header,
         cause: 0,
@@ -313,7 +311,7 @@ fn deliver_ack(alloc: Global, octets: &[u8]) -> Result<Read, Refusal<UnitFault>>
 /// The same where it was not.
 fn deliver_error(alloc: Global, octets: &[u8]) -> Result<Read, Refusal<UnitFault>> {
     let (report, used) = DeliverError::read(alloc, octets)?;
-    let written = report.write(alloc)?;
+    let written = rewritten(alloc, &report)?;
     let said = Said {
         has_header: report.has_header,
         cause: report.cause,
@@ -494,33 +492,11 @@ fn longest(alloc: Global) -> Result<Vec<u8>, Fail> {
     Ok(octets)
 }
 
-/// What is read of the octets is read again, and then written so. Says how many octets were read.
-fn rereads<U: Unit>(
-    rt: &impl Abort,
-    alloc: Global,
-    octets: &[u8],
-    wanted: &[u8],
-) -> Result<usize, Refusal<U::Why>>
-    requires { (report : U) → U.may_follow report [] }
-{
-    let (report, used) = U::read(alloc, octets)?;
-    let written = rewritten(alloc, &report)?;
-    are(rt, &octets, &written, wanted);
-    Ok(used)
-}
-
 #[test]
-fn rereads_reports(rt: HostRuntime) -> Result<(), Fail> {
-    rereads::<SubmitAck>(&rt, rt.alloc(), ROWS[1].octets, ROWS[1].written)?;
-    rereads::<SubmitError>(&rt, rt.alloc(), ROWS[5].octets, ROWS[5].written)?;
-    rereads::<DeliverError>(&rt, rt.alloc(), ROWS[11].octets, ROWS[11].written)?;
-    Ok(())
-}
-
-#[test]
-fn rereads_the_longest_report(rt: HostRuntime) -> Result<(), Fail> {
+fn reads_and_writes_the_longest_report(rt: HostRuntime) -> Result<(), Fail> {
     let octets = longest(rt.alloc())?;
-    let used = rereads::<DeliverAck>(&rt, rt.alloc(), &octets, &octets)?;
-    same(&rt, &"octets", &used, &162);
+    let read = deliver_ack(rt.alloc(), &octets)?;
+    same(&rt, &"octets", &read.used, &162);
+    are(&rt, &"written", &read.written, &octets);
     Ok(())
 }

@@ -1,7 +1,7 @@
 //! A delivery where it lies.
 
 use crate::found::{holds, same};
-use sms_tpdu::{BodyView, DeliverView, HeaderElement, HeaderView, SeptetsView, View};
+use sms_tpdu::{BodyView, Deliver, DeliverView, HeaderElement, HeaderView, SeptetsView, View};
 use std::process::Abort;
 use std::test::Fail;
 
@@ -60,13 +60,18 @@ fn is_seen(rt: &impl Abort, view: &DeliverView) {
     has_two_septets(rt, view.user.body());
 }
 
+/// Its value has the same TP-PID and the same type of number.
+fn is_valued(rt: &impl Abort, deliver: &Deliver) {
+    same(rt, &"TP-PID", &deliver.pid, &0);
+    same(rt, &"type of number", &deliver.origin.type_of_number, &1);
+}
+
 #[test]
 fn a_delivery_where_it_lies(rt: HostRuntime) -> Result<(), Fail> {
     let (view, used) = DeliverView::read(&INPUT)?;
     same(&rt, &"octets", &used, &23);
     is_seen(&rt, &view);
     let deliver = view.to_value(rt.alloc())?;
-    same(&rt, &"TP-PID", &deliver.pid, &0);
-    same(&rt, &"type of number", &deliver.origin.type_of_number, &1);
+    is_valued(&rt, &deliver);
     Ok(())
 }
