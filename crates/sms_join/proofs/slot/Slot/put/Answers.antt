@@ -1,4 +1,4 @@
-use Rattle.std.proofs.Common.{◌≡◌, ◌-◌, ◌≤◌, false, List, length, Option, ap, ◌∙◌, arith}
+use Rattle.std.proofs.Common.{◌≡◌, ◌-◌, ◌≤◌, false, List, length, Option, ap, ◌∙◌, arith, rules}
 use Rattle.sms_join.specs.declared.units.Units.{Units}
 use Rattle.sms_join.specs.OpenSet.{is_in}
 use Rattle.sms_join.specs.Slots.{SlotValue, filled, filled_from}
@@ -25,3 +25,6 @@ invariant_of-self c =
     let more = filled_more 1 c.args.sequence ps (c.from.result - 1) c.args.units (omega arith) (omega arith) missing in
     let own = c.self.invariant in
     omega (arith, more, own)
+
+pub returns : goal.returns
+returns c = search rules
