@@ -44,4 +44,5 @@ symbols_octets (Name septets) = name_octets septets
 
 -- how an address is written: Address-Length, Type-of-Address with bit 7 set, Address-Value
 unfoldable pub address_octets : AddressValue → List ℕ
-address_octets n = symbols_length n.symbols ∷ (128 + 16 * n.kind + n.plan) ∷ symbols_octets n.symbols
+address_octets n =
+    symbols_length n.symbols ∷ (128 + 16 * n.kind + n.plan) ∷ symbols_octets n.symbols

@@ -7,7 +7,8 @@ use Rattle.sms_field.specs.declared.symbols.Symbols.TheVariants.{Digits, Name}
 
 -- a digit, two an octet, the first in the low half
 abbrev pub digit_in : List ℕ → ℕ → ℕ
-digit_in octets n = if n % 2 == 0 then slice_index octets (n / 2) % 16 else slice_index octets (n / 2) / 16
+digit_in octets n =
+    if n % 2 == 0 then slice_index octets (n / 2) % 16 else slice_index octets (n / 2) / 16
 
 -- the first digits, as many as are counted
 unfoldable pub digits_in : ℕ → List ℕ → List ℕ
@@ -25,7 +26,8 @@ symbols_seen kind count octets = symbols_in (kind == alphanumeric) count octets
 
 -- the address of a type of number, a plan, and semi-octets, as many as are counted
 abbrev pub address_in : ℕ → ℕ → ℕ → List ℕ → AddressValue
-address_in kind plan count octets = record { kind = kind; plan = plan; symbols = symbols_in (kind == alphanumeric) count octets }
+address_in kind plan count octets =
+    record { kind = kind; plan = plan; symbols = symbols_in (kind == alphanumeric) count octets }
 
 pub record IsAddressIn (kind plan count : ℕ) (octets : List ℕ) : Type 0 where
   pub few : count ≤ 20

@@ -40,18 +40,24 @@ telephone_of kind (Err why) = Err why
 -- a name of up to 11 septets, in plan 0 (unknown)
 abbrev pub name_of : Option (List ℕ) → Result AddressValue AddressFault
 name_of None = Err BadDigit
-name_of (Some septets) = if nat_le (length septets) 11 then Ok (record { kind = alphanumeric; plan = 0; symbols = Name septets }) else Err AddressTooLong
+name_of (Some septets) =
+    if nat_le (length septets) 11
+    then Ok (record { kind = alphanumeric; plan = 0; symbols = Name septets })
+    else Err AddressTooLong
 
 -- a telephone number of unknown type, 0; a text with another character than digits is a name
-abbrev pub telephone_or_name : Result (List ℕ) AddressFault → Result AddressValue AddressFault → Result AddressValue AddressFault
+abbrev pub telephone_or_name : Result (List ℕ) AddressFault → Result AddressValue AddressFault
+    → Result AddressValue AddressFault
 telephone_or_name (Ok digits) named = Ok (telephone 0 digits)
 telephone_or_name (Err BadDigit) named = named
 telephone_or_name (Err why) named = Err why
 
 abbrev pub without_plus : List ℕ → Result AddressValue AddressFault
-without_plus text = telephone_or_name (few_digits (digits_of_text text)) (name_of (septets_of_text text))
+without_plus text =
+    telephone_or_name (few_digits (digits_of_text text)) (name_of (septets_of_text text))
 
 -- the address that a text says: after + an international telephone number, 1, else one of unknown type or a name
 unfoldable pub address_of_text : List ℕ → Result AddressValue AddressFault
 address_of_text [] = without_plus []
-address_of_text (c ∷ text) = if c == plus then telephone_of 1 (few_digits (digits_of_text text)) else without_plus (c ∷ text)
+address_of_text (c ∷ text) =
+    if c == plus then telephone_of 1 (few_digits (digits_of_text text)) else without_plus (c ∷ text)

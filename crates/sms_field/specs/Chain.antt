@@ -3,7 +3,8 @@ use Rattle.std.specs.Prelude.{◌≡◌, ℕ, ◌⊎◌, List, ◌++◌}
 use Rattle.sms_field.specs.LawfulField.{Outcome, found, refused, Field, HasReading}
 
 -- a front is read by the first field, and what is left by the second
-pub record ReadsBoth {A B W : Type 0} (first : Field A W) (second : A → Field B W) (value : B) (octets rest : List ℕ) : Type 0 where
+pub record ReadsBoth {A B W : Type 0} (first : Field A W) (second : A → Field B W) (value : B)
+    (octets rest : List ℕ) : Type 0 where
   pub choice : A
   pub front : List ℕ
   pub back : List ℕ
@@ -13,11 +14,13 @@ pub record ReadsBoth {A B W : Type 0} (first : Field A W) (second : A → Field 
 
 -- The reason is that of the field in which the octet stands:
 -- the second, where the front already has a reading of the first, else the first.
-pub record ReasonInSecond {A B W : Type 0} (first : Field A W) (second : A → Field B W) (front : List ℕ) (octet : ℕ) (why : W) : Type 0 where
+pub record ReasonInSecond {A B W : Type 0} (first : Field A W) (second : A → Field B W)
+    (front : List ℕ) (octet : ℕ) (why : W) : Type 0 where
   pub reading : HasReading first front
   pub reason : (second reading.value).reason reading.rest octet why
 
-pub record ReasonInFirst {A W : Type 0} (first : Field A W) (front : List ℕ) (octet : ℕ) (why : W) : Type 0 where
+pub record ReasonInFirst {A W : Type 0} (first : Field A W) (front : List ℕ) (octet : ℕ)
+    (why : W) : Type 0 where
   pub none : ¬ HasReading first front
   pub reason : first.reason front octet why
 
@@ -29,6 +32,8 @@ infixl 10 ◌>>=◌
 abbrev pub ◌>>=◌ : {A B W : Type 0} → Field A W → (A → Field B W) → Field B W
 first >>= second = record {
   reads = ReadsBoth first second;
-  reason = λ front octet why. ReasonInFirst first front octet why ⊎ ReasonInSecond first second front octet why;
+  reason =
+      λ front octet why. ReasonInFirst first front octet why
+      ⊎ ReasonInSecond first second front octet why;
   read = λ at input. read_then (first.read at input) second;
 }

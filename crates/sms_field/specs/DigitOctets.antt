@@ -11,7 +11,10 @@ low_digit octet = if nat_lt (octet % 16) 15 then Ok (octet % 16) else Err bad_di
 
 -- the digits in both halves, the low half first
 abbrev pub both_digits : ℕ → Result (ℕ × ℕ) FieldFault
-both_digits octet = if nat_lt (octet % 16) 15 && nat_lt (octet / 16) 15 then Ok (octet % 16, octet / 16) else Err bad_digit
+both_digits octet =
+    if nat_lt (octet % 16) 15 && nat_lt (octet / 16) 15
+    then Ok (octet % 16, octet / 16)
+    else Err bad_digit
 
 -- digits, as many as are counted, two an octet; after an odd last one the high half is not used
 unfoldable pub digits : ℕ → Field (List ℕ) FieldFault

@@ -30,22 +30,26 @@ pub record CanContinue {V W : Type 0} (f : Field V W) (front : List ℕ) : Type 
   pub reading : HasReading f (front ++ more)
 
 -- the value is read from the input, which leaves the rest, and nothing else is
-pub record IsReading {V W : Type 0} (f : Field V W) (at : ℕ) (input : List ℕ) (value : V) (after : ℕ) (rest : List ℕ) : Type 0 where
+pub record IsReading {V W : Type 0} (f : Field V W) (at : ℕ) (input : List ℕ) (value : V)
+    (after : ℕ) (rest : List ℕ) : Type 0 where
   pub octets : List ℕ
   pub parts : input ≡ octets ++ rest
   pub after_is : after ≡ at + length octets
   pub read : f.reads value octets rest
-  pub only : (other : V) (others left : List ℕ) → input ≡ others ++ left → f.reads other others left → (other ≡ value) × (others ≡ octets)
+  pub only : (other : V) (others left : List ℕ) → input ≡ others ++ left → f.reads other others left
+      → (other ≡ value) × (others ≡ octets)
 
 -- no reading yet, and one further on
-pub record IsShort {V W : Type 0} (short : W) (f : Field V W) (at : ℕ) (input : List ℕ) (place : ℕ) (why : W) : Type 0 where
+pub record IsShort {V W : Type 0} (short : W) (f : Field V W) (at : ℕ) (input : List ℕ) (place : ℕ)
+    (why : W) : Type 0 where
   pub why_is : why ≡ short
   pub place_is : place ≡ at + length input
   pub none : ¬ HasReading f input
   pub some : CanContinue f input
 
 -- the first octet after which no continuation has a reading
-pub record IsFault {V W : Type 0} (f : Field V W) (at : ℕ) (input : List ℕ) (place : ℕ) (why : W) : Type 0 where
+pub record IsFault {V W : Type 0} (f : Field V W) (at : ℕ) (input : List ℕ) (place : ℕ)
+    (why : W) : Type 0 where
   pub front : List ℕ
   pub octet : ℕ
   pub rest : List ℕ
@@ -58,15 +62,19 @@ pub record IsFault {V W : Type 0} (f : Field V W) (at : ℕ) (input : List ℕ) 
 -- what the plain reader may answer: the reading, or the place and the reason of a refusal
 abbrev pub IsAnswer : {V W : Type 0} → W → Field V W → ℕ → List ℕ → Outcome V W → Type 0
 IsAnswer short f at input (found value after rest) = IsReading f at input value after rest
-IsAnswer short f at input (refused place why) = IsShort short f at input place why ⊎ IsFault f at input place why
+IsAnswer short f at input (refused place why) =
+    IsShort short f at input place why ⊎ IsFault f at input place why
 
 -- whether octets are read does not depend on what follows them
 abbrev pub IsSelfContained : {V W : Type 0} → Field V W → Type 0
-IsSelfContained {V} f = (value : V) (octets rest other : List ℕ) → f.reads value octets rest → f.reads value octets other
+IsSelfContained {V} f =
+    (value : V) (octets rest other : List ℕ) → f.reads value octets rest
+    → f.reads value octets other
 
 -- the plain reader answers as the readings say
 pub record IsLawful {V W : Type 0} (short : W) (f : Field V W) : Type 0 where
   pub starts : CanContinue f []
-  pub answers : (at : ℕ) (input : List ℕ) → IsOctets input → IsAnswer short f at input (f.read at input)
+  pub answers : (at : ℕ) (input : List ℕ) → IsOctets input
+      → IsAnswer short f at input (f.read at input)
   -- a fault is never called short
   pub never_short : (front : List ℕ) (octet : ℕ) → f.reason front octet short → ⊥

@@ -24,7 +24,8 @@ octets_from (suc count) rest = from_bits (take 8 rest) ∷ octets_from count (dr
 
 -- how a name is written: its bits, and then 0 to the end of the last octet
 unfoldable pub name_octets : List ℕ → List ℕ
-name_octets septets = octets_from ((7 * length septets + 7) / 8) (septet_bits septets ++ replicate 7 0)
+name_octets septets =
+    octets_from ((7 * length septets + 7) / 8) (septet_bits septets ++ replicate 7 0)
 
 -- the semi-octets that it needs
 abbrev pub name_length : List ℕ → ℕ

@@ -9,4 +9,6 @@ NamesArePacked = (septets : List ℕ) → PackedPlain 0 septets (name_octets sep
 
 -- no other octets are
 abbrev pub OnlyNamesArePacked : Type 0
-OnlyNamesArePacked = (septets octets : List ℕ) → IsOctets octets → PackedPlain 0 septets octets → octets ≡ name_octets septets
+OnlyNamesArePacked =
+    (septets octets : List ℕ) → IsOctets octets → PackedPlain 0 septets octets
+    → octets ≡ name_octets septets

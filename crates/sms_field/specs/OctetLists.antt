@@ -16,4 +16,6 @@ octets_front [] ys p = tt
 octets_front (x ∷ xs) ys p = (p.0, octets_front xs ys p.1)
 
 pub octets_are : (input : List ℕ) → ((i : ℕ) → get_or input i 0 < 256) → IsOctets input
-octets_are input h = recursion_from_All (λ octet. octet < 256) input (All-from_get_or (λ octet. octet < 256) input 0 (λ i lt. h i))
+octets_are input h =
+    recursion_from_All (λ octet. octet < 256) input
+    (All-from_get_or (λ octet. octet < 256) input 0 (λ i lt. h i))

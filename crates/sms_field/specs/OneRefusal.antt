@@ -5,18 +5,24 @@ use Rattle.sms_field.specs.Field.{Field}
 use Rattle.sms_field.specs.Reading.{IsRefused}
 use Rattle.sms_field.specs.declared.refusal.Refusal.TheVariants.{At}
 
-abbrev pub HasOneRefusal : {V W : Type 0} → (V → List ℕ → ℕ → Type 0) → (List ℕ → ℕ → W → Type 0) → W → Type 0
+abbrev pub HasOneRefusal : {V W : Type 0} → (V → List ℕ → ℕ → Type 0) → (List ℕ → ℕ → W → Type 0)
+    → W → Type 0
 HasOneRefusal {V} {W} reads reason short =
-    (input : List ℕ) (place other : ℕ) (why because : W) → IsOctets input → IsRefused reads reason short input (At place why)
+    (input : List ℕ) (place other : ℕ) (why because : W) → IsOctets input
+    → IsRefused reads reason short input (At place why)
     → IsRefused reads reason short input (At other because) → (other ≡ place) × (because ≡ why)
 
 -- of an octet that cannot stand there is one reason
 abbrev pub HasOneReason : {V W : Type 0} → Field V W → Type 0
-HasOneReason {V} {W} f = (front : List ℕ) (octet : ℕ) (why because : W) → f.reason front octet why → f.reason front octet because → because ≡ why
+HasOneReason {V} {W} f =
+    (front : List ℕ) (octet : ℕ) (why because : W) → f.reason front octet why
+    → f.reason front octet because → because ≡ why
 
 -- a list is read in one way, whatever numbers it has
 abbrev pub ReadsOneWay : {V W : Type 0} → Field V W → Type 0
-ReadsOneWay {V} f = (v w : V) (xs ys rest left : List ℕ) → f.reads v xs rest → f.reads w ys left → xs ++ rest ≡ ys ++ left → (w ≡ v) × (ys ≡ xs)
+ReadsOneWay {V} f =
+    (v w : V) (xs ys rest left : List ℕ) → f.reads v xs rest → f.reads w ys left
+    → xs ++ rest ≡ ys ++ left → (w ≡ v) × (ys ≡ xs)
 
 -- whether a reason is this one is known
 abbrev pub IsKnown : {W : Type 0} → W → Type 0

@@ -9,7 +9,8 @@ LacksTag tag (octet ∷ rest) = octet ≢ tag
 
 abbrev pub ReadsTagged : {V W : Type 0} → ℕ → Field V W → Option V → List ℕ → List ℕ → Type 0
 ReadsTagged tag part None octets rest = (octets ≡ []) × LacksTag tag rest
-ReadsTagged tag part (Some value) octets rest = (others : List ℕ) × (octets ≡ tag ∷ others) × part.reads value others rest
+ReadsTagged tag part (Some value) octets rest =
+    (others : List ℕ) × (octets ≡ tag ∷ others) × part.reads value others rest
 
 abbrev pub some_found : {V W : Type 0} → Outcome V W → Outcome (Option V) W
 some_found (found value after rest) = found (Some value) after rest
@@ -17,7 +18,8 @@ some_found (refused place why) = refused place why
 
 abbrev pub tagged_at : {V W : Type 0} → ℕ → Field V W → ℕ → List ℕ → Outcome (Option V) W
 tagged_at tag part at [] = found None at []
-tagged_at tag part at (octet ∷ rest) = if octet == tag then some_found (part.read (at + 1) rest) else found None at (octet ∷ rest)
+tagged_at tag part at (octet ∷ rest) =
+    if octet == tag then some_found (part.read (at + 1) rest) else found None at (octet ∷ rest)
 
 abbrev pub after_tag : {V W : Type 0} → ℕ → Field V W → List ℕ → ℕ → W → Type 0
 after_tag tag part [] octet why = ⊥

@@ -7,10 +7,12 @@ use Rattle.sms_field.specs.declared.refusal.Refusal.TheVariants.{At}
 
 -- an input of octets is readable, or it is not
 abbrev pub IsDecided : {V W : Type 0} → Field V W → Type 0
-IsDecided f = (input : List ℕ) → IsOctets input → IsReadable (Reads f) input ⊎ ¬ IsReadable (Reads f) input
+IsDecided f =
+    (input : List ℕ) → IsOctets input → IsReadable (Reads f) input ⊎ ¬ IsReadable (Reads f) input
 
 -- what is refused at a place is not readable
-abbrev pub IsUnread : {V W : Type 0} → (V → List ℕ → ℕ → Type 0) → (List ℕ → ℕ → W → Type 0) → W → Type 0
+abbrev pub IsUnread : {V W : Type 0} → (V → List ℕ → ℕ → Type 0) → (List ℕ → ℕ → W → Type 0) → W
+    → Type 0
 IsUnread {V} {W} reads reason short =
     (input : List ℕ) (place : ℕ) (why : W) → IsOctets input
     → IsRefused reads reason short input (At place why) → ¬ IsReadable reads input

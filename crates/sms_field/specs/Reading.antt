@@ -6,7 +6,8 @@ use Rattle.sms_text.specs.Octets.{IsOctets}
 use Rattle.sms_field.specs.Field.{Field}
 
 -- the relation of a field
-pub record Reads {V W : Type 0} (field : Field V W) (value : V) (input : List ℕ) (used : ℕ) : Type 0 where
+pub record Reads {V W : Type 0} (field : Field V W) (value : V) (input : List ℕ)
+    (used : ℕ) : Type 0 where
   pub octets : List ℕ
   pub rest : List ℕ
   pub parts : input ≡ octets ++ rest
@@ -27,19 +28,24 @@ pub record IsViable {V : Type 0} (reads : V → List ℕ → ℕ → Type 0) (fr
   pub readable : IsReadable reads (front ++ more)
 
 -- octets are missing at the end
-pub record EndsTooSoon {V : Type 0} (reads : V → List ℕ → ℕ → Type 0) (input : List ℕ) (place : ℕ) : Type 0 where
+pub record EndsTooSoon {V : Type 0} (reads : V → List ℕ → ℕ → Type 0) (input : List ℕ)
+    (place : ℕ) : Type 0 where
   pub place_is : place ≡ length input
   pub unread : ¬ IsReadable reads input
   pub viable : IsViable reads input
 
 -- the octet at the place is the first with which no continuation has a reading
-pub record BreaksAt {V W : Type 0} (reads : V → List ℕ → ℕ → Type 0) (reason : List ℕ → ℕ → W → Type 0) (input : List ℕ) (place : ℕ) (why : W) : Type 0 where
+pub record BreaksAt {V W : Type 0} (reads : V → List ℕ → ℕ → Type 0)
+    (reason : List ℕ → ℕ → W → Type 0) (input : List ℕ) (place : ℕ) (why : W) : Type 0 where
   pub inside : place < length input
   pub before : IsViable reads (take place input)
   pub none_after : ¬ IsViable reads (take (place + 1) input)
   pub because : reason (take place input) (slice_index input place) why
 
 -- want of memory; or short, where octets are missing; or the reason at the place
-abbrev pub IsRefused : {V W : Type 0} → (V → List ℕ → ℕ → Type 0) → (List ℕ → ℕ → W → Type 0) → W → List ℕ → Refusal W → Type 0
+abbrev pub IsRefused : {V W : Type 0} → (V → List ℕ → ℕ → Type 0) → (List ℕ → ℕ → W → Type 0) → W
+    → List ℕ → Refusal W → Type 0
 IsRefused reads reason short input Memory = Unit {0}
-IsRefused reads reason short input (At place why) = (why ≡ short → EndsTooSoon reads input place) × ((why ≡ short → ⊥) → BreaksAt reads reason input place why)
+IsRefused reads reason short input (At place why) =
+    (why ≡ short → EndsTooSoon reads input place)
+    × ((why ≡ short → ⊥) → BreaksAt reads reason input place why)

@@ -8,7 +8,8 @@ Never why f = (front : List ℕ) (octet : ℕ) → f.reason front octet why → 
 
 -- what neither of two fields is refused for, their chain is not
 abbrev pub ChainNever : {A B W : Type 0} → Field A W → (A → Field B W) → Type 0
-ChainNever {A} {B} {W} first second = (why : W) → Never why first → ((a : A) → Never why (second a)) → Never why (first >>= second)
+ChainNever {A} {B} {W} first second =
+    (why : W) → Never why first → ((a : A) → Never why (second a)) → Never why (first >>= second)
 
 -- the first octet is refused for this reason
 abbrev pub StartsAs : {V W : Type 0} → (ℕ → Result V W) → W → List ℕ → Type 0

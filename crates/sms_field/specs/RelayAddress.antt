@@ -9,7 +9,10 @@ use Rattle.sms_field.specs.AddressFaults.{too_long, bad_digit}
 
 -- the digits in the last octet: a high half of 15 marks an odd number
 abbrev pub last_digits : ℕ → Result (List ℕ) FieldFault
-last_digits octet = if nat_lt (octet % 16) 15 then Ok (if nat_lt (octet / 16) 15 then octet % 16 ∷ octet / 16 ∷ [] else octet % 16 ∷ []) else Err bad_digit
+last_digits octet =
+    if nat_lt (octet % 16) 15
+    then Ok (if nat_lt (octet / 16) 15 then octet % 16 ∷ octet / 16 ∷ [] else octet % 16 ∷ [])
+    else Err bad_digit
 
 -- the digits in octets, as many as are counted
 unfoldable pub relay_digits : ℕ → Field (List ℕ) FieldFault
@@ -39,7 +42,8 @@ relay_address = do
 
 -- how an address is written: the Length, the type of number and the plan with bit 7 set, the Number digits
 unfoldable pub relay_address_octets : RelayAddressValue → List ℕ
-relay_address_octets a = ((length a.digits + 1) / 2 + 1) ∷ (128 + 16 * a.kind + a.plan) ∷ digit_octets a.digits
+relay_address_octets a =
+    ((length a.digits + 1) / 2 + 1) ∷ (128 + 16 * a.kind + a.plan) ∷ digit_octets a.digits
 
 abbrev pub optional_address_octets : Option RelayAddressValue → List ℕ
 optional_address_octets None = 0 ∷ []

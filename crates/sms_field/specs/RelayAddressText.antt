@@ -9,11 +9,15 @@ unfoldable pub relay_address_text : RelayAddressValue → List ℕ
 relay_address_text a = prefix a.kind ++ text_of_digits a.digits
 
 -- digits of this type of number, in plan 1, that of telephone numbers
-abbrev pub relay_telephone_of : ℕ → Result (List ℕ) AddressFault → Result RelayAddressValue AddressFault
+abbrev pub relay_telephone_of : ℕ → Result (List ℕ) AddressFault
+    → Result RelayAddressValue AddressFault
 relay_telephone_of kind (Ok digits) = Ok (record { kind = kind; plan = 1; digits = digits })
 relay_telephone_of kind (Err why) = Err why
 
 -- the address that a text says: after + an international telephone number, 1, else one of unknown type, 0
 unfoldable pub relay_address_of_text : List ℕ → Result RelayAddressValue AddressFault
 relay_address_of_text [] = relay_telephone_of 0 (few_digits (digits_of_text []))
-relay_address_of_text (c ∷ text) = if c == plus then relay_telephone_of 1 (few_digits (digits_of_text text)) else relay_telephone_of 0 (few_digits (digits_of_text (c ∷ text)))
+relay_address_of_text (c ∷ text) =
+    if c == plus
+    then relay_telephone_of 1 (few_digits (digits_of_text text))
+    else relay_telephone_of 0 (few_digits (digits_of_text (c ∷ text)))

@@ -30,4 +30,6 @@ abbrev pub SameIsSymmetric : Type 0
 SameIsSymmetric = (a b : AddressValue) → same_address a b ≡ same_address b a
 
 abbrev pub SameIsTransitive : Type 0
-SameIsTransitive = (a b c : AddressValue) → same_address a b ≡ true → same_address b c ≡ true → same_address a c ≡ true
+SameIsTransitive =
+    (a b c : AddressValue) → same_address a b ≡ true → same_address b c ≡ true
+    → same_address a c ≡ true

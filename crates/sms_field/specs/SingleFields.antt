@@ -43,7 +43,11 @@ abbrev pub octets_of : {W : Type 0} → W → ℕ → Field (List ℕ) W
 octets_of short n = record {
   reads = λ value octets rest. (octets ≡ value) × (length value ≡ n);
   reason = λ front octet why. ⊥;
-  read = λ at input. (if nat_lt (length input) n then refused (at + length input) short else found (take n input) (at + n) (drop n input));
+  read =
+      λ at input.
+      (if nat_lt (length input) n
+      then refused (at + length input) short
+      else found (take n input) (at + n) (drop n input));
 }
 
 abbrev pub map_reason_outcome : {V W X : Type 0} → (W → X) → Outcome V W → Outcome V X

@@ -14,7 +14,8 @@ number_in octet = octet % 16 * 10 + octet / 16
 
 -- the local time's distance from UTC in quarters of an hour: bit 3 is the sign, set to the west, and bits 0 to 2 are the tens
 abbrev pub quarters_in : ℕ → ℤ
-quarters_in zone = if bit 3 zone then neg_ℤ (pos (zone % 8 * 10 + zone / 16)) else pos (zone % 8 * 10 + zone / 16)
+quarters_in zone =
+    if bit 3 zone then neg_ℤ (pos (zone % 8 * 10 + zone / 16)) else pos (zone % 8 * 10 + zone / 16)
 
 -- what the seven octets say; the year is one of 2000 to 2099
 abbrev pub date_in : List ℕ → StampDate

@@ -60,7 +60,9 @@ abbrev pub has_two_digits : ℕ → Bool
 has_two_digits octet = nat_lt (octet % 16) 10 && nat_lt (octet / 16) 10
 
 abbrev pub is_day : StampDate → Bool
-is_day d = nat_le 1 d.month && (nat_le d.month 12 && (nat_le 1 d.day && nat_le d.day (days_in_month (pos d.year) d.month)))
+is_day d =
+    nat_le 1 d.month
+    && (nat_le d.month 12 && (nat_le 1 d.day && nat_le d.day (days_in_month (pos d.year) d.month)))
 
 abbrev pub is_time : StampDate → Bool
 is_time d = nat_lt d.hour 24 && (nat_lt d.minute 60 && nat_lt d.second 60)
@@ -68,9 +70,11 @@ is_time d = nat_lt d.hour 24 && (nat_lt d.minute 60 && nat_lt d.second 60)
 -- every digit is one, the day exists, and so does the time of day
 abbrev pub is_date : List ℕ → Bool
 is_date stamp =
-    has_two_digits (slice_index stamp 0) && (has_two_digits (slice_index stamp 1) && (has_two_digits (slice_index stamp 2)
-    && (has_two_digits (slice_index stamp 3) && (has_two_digits (slice_index stamp 4) && (has_two_digits (slice_index stamp 5)
-    && (nat_lt (slice_index stamp 6 / 16) 10 && (is_day (date_in stamp) && is_time (date_in stamp))))))))
+    has_two_digits (slice_index stamp 0) && (has_two_digits (slice_index stamp 1)
+    && (has_two_digits (slice_index stamp 2) && (has_two_digits (slice_index stamp 3)
+    && (has_two_digits (slice_index stamp 4) && (has_two_digits (slice_index stamp 5)
+    && (nat_lt (slice_index stamp 6 / 16) 10
+    && (is_day (date_in stamp) && is_time (date_in stamp))))))))
 
 abbrev pub not_negative : ℤ → Option ℕ
 not_negative (pos n) = Some n
@@ -78,7 +82,10 @@ not_negative (negsuc n) = None
 
 -- the moment of a stamp, where it is a date that does not lie before 2000 in UTC
 unfoldable pub moment_of : List ℕ → Option ℕ
-moment_of stamp = if is_date stamp then not_negative (pos (local_seconds (date_in stamp)) -ℤ pos 900 *ℤ (date_in stamp).quarters) else None
+moment_of stamp =
+    if is_date stamp
+    then not_negative (pos (local_seconds (date_in stamp)) -ℤ pos 900 *ℤ (date_in stamp).quarters)
+    else None
 
 -- ---- the end of a validity period
 
@@ -97,15 +104,20 @@ end_of (Absolute stamp) accepted = end_at (moment_of stamp)
 
 -- a stamp of a moment in zone 0 is the one that is computed
 abbrev pub StampIsOne : Type 0
-StampIsOne = (moment : ℕ) (stamp : List ℕ) → IsStamp stamp → IsStampAt moment (pos 0) stamp → stamp ≡ stamp_octets moment
+StampIsOne =
+    (moment : ℕ) (stamp : List ℕ) → IsStamp stamp → IsStampAt moment (pos 0) stamp
+    → stamp ≡ stamp_octets moment
 
 -- and what is computed is a stamp of that moment
 abbrev pub StampIsThere : Type 0
-StampIsThere = (moment : ℕ) → moment < end_of_2099 → IsStamp (stamp_octets moment) × IsStampAt moment (pos 0) (stamp_octets moment)
+StampIsThere =
+    (moment : ℕ) → moment < end_of_2099
+    → IsStamp (stamp_octets moment) × IsStampAt moment (pos 0) (stamp_octets moment)
 
 -- the moment of a stamp is the one that is computed
 abbrev pub MomentIsOne : Type 0
-MomentIsOne = (stamp : List ℕ) (moment : Option ℕ) → MomentIs stamp moment → moment ≡ moment_of stamp
+MomentIsOne =
+    (stamp : List ℕ) (moment : Option ℕ) → MomentIs stamp moment → moment ≡ moment_of stamp
 
 -- and what is computed is the moment of the stamp
 abbrev pub MomentIsThere : Type 0
@@ -113,13 +125,18 @@ MomentIsThere = (stamp : List ℕ) → MomentIs stamp (moment_of stamp)
 
 -- the end of a period is the one that is computed
 abbrev pub EndIsOne : Type 0
-EndIsOne = (period : Validity) (accepted : ℕ) (end : Result ℕ ValidityFault) → EndIs period accepted end → end ≡ end_of period accepted
+EndIsOne =
+    (period : Validity) (accepted : ℕ) (end : Result ℕ ValidityFault) → EndIs period accepted end
+    → end ≡ end_of period accepted
 
 -- ---- there and back
 
 -- the moment of the stamp of a moment is that moment, in whatever zone the stamp is
 abbrev pub MomentComesBack : Type 0
-MomentComesBack = (moment : ℕ) (quarters : ℤ) (stamp : List ℕ) → IsStampAt moment quarters stamp → moment_of stamp ≡ Some moment
+MomentComesBack =
+    (moment : ℕ) (quarters : ℤ) (stamp : List ℕ) → IsStampAt moment quarters stamp
+    → moment_of stamp ≡ Some moment
 
 abbrev pub MomentComesBackOfZone0 : Type 0
-MomentComesBackOfZone0 = (moment : ℕ) → moment < end_of_2099 → moment_of (stamp_octets moment) ≡ Some moment
+MomentComesBackOfZone0 =
+    (moment : ℕ) → moment < end_of_2099 → moment_of (stamp_octets moment) ≡ Some moment

@@ -20,10 +20,12 @@ ReadsExactly {V} field input result =
 
 -- refused as the field says
 abbrev pub IsFaultOf : {V W : Type 0} → Field V W → W → List ℕ → Fault W → Type 0
-IsFaultOf field short input fault = IsRefused (Reads field) field.reason short input (At fault.place fault.why)
+IsFaultOf field short input fault =
+    IsRefused (Reads field) field.reason short input (At fault.place fault.why)
 
 -- an input that has a reading is read as it
-abbrev pub SeesExactly : {X V W : Type 0} → (X → V) → Field V W → List ℕ → Result (X × ℕ) (Fault W) → Type 0
+abbrev pub SeesExactly : {X V W : Type 0} → (X → V) → Field V W → List ℕ → Result (X × ℕ) (Fault W)
+    → Type 0
 SeesExactly {X} {V} view field input result =
     (v : V) (n : ℕ) → Reads field v input n
     → MatchResult result (λ x. (view x.0 ≡ v) × (x.1 ≡ n)) (λ _. ⊥)

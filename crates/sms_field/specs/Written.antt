@@ -13,4 +13,5 @@ AreAtMost {V} limit is octets_of = (value : V) → is value → length (octets_o
 
 -- and they are read back, whatever follows
 abbrev pub AreReadBack : {V W : Type 0} → Field V W → (V → Type 0) → (V → List ℕ) → Type 0
-AreReadBack {V} field is octets_of = (value : V) (rest : List ℕ) → is value → field.reads value (octets_of value) rest
+AreReadBack {V} field is octets_of =
+    (value : V) (rest : List ℕ) → is value → field.reads value (octets_of value) rest

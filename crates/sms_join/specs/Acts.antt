@@ -24,4 +24,5 @@ acted open_max remembered j (Ages now) = aged now j
 -- The joiner after pieces that were offered and agings.
 abbrev pub acted_all : ℕ → ℕ → Joiner → List (Act Piece) → Joiner
 acted_all open_max remembered j [] = j
-acted_all open_max remembered j (act ∷ acts) = acted open_max remembered (acted_all open_max remembered j acts) act
+acted_all open_max remembered j (act ∷ acts) =
+    acted open_max remembered (acted_all open_max remembered j acts) act

@@ -67,12 +67,15 @@ has_text (a ∷ past) t = a.text == t || has_text past t
 abbrev pub open_texts : (ℕ → ℕ) → List Arrival → List Arrival → List ℕ
 open_texts size all [] = []
 open_texts size all (a ∷ past) =
-    if has_text past a.text || is_done size all a.text then open_texts size all past else a.text ∷ open_texts size all past
+    if has_text past a.text || is_done size all a.text
+    then open_texts size all past
+    else a.text ∷ open_texts size all past
 
 -- No two open texts have one key.
 abbrev pub OpenApart : (ℕ → Key) → (ℕ → ℕ) → List Arrival → Type 0
 OpenApart key size past =
-    (t u : ℕ) → has_text past t ≡ true → has_text past u ≡ true → is_done size past t ≡ false → is_done size past u ≡ false
+    (t u : ℕ) → has_text past t ≡ true → has_text past u ≡ true → is_done size past t ≡ false
+    → is_done size past u ≡ false
     → key t ≡ key u → t ≡ u
 
 -- Of the second list, the arrivals that still count: those of texts that the first list does not complete and whose set
@@ -80,7 +83,9 @@ OpenApart key size past =
 abbrev pub remaining : (ℕ → ℕ) → (Key → Bool) → List Arrival → List Arrival → List Arrival
 remaining size old all [] = []
 remaining size old all (a ∷ past) =
-    if not (is_done size all a.text) && old a.piece.key then remaining size old all past else a ∷ remaining size old all past
+    if not (is_done size all a.text) && old a.piece.key
+    then remaining size old all past
+    else a ∷ remaining size old all past
 
 abbrev pub is_listed : List ℕ → ℕ → Bool
 is_listed [] t = false

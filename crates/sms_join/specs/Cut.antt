@@ -19,14 +19,16 @@ room_beside Sixteen Default = 152
 room_beside Sixteen Wide = 66
 
 -- A text is cut by a room, where `own` gives the units of a character.
-pub record IsCutBy (own : ℕ → List ℕ) (room : ℕ) (text : List ℕ) (pieces : List (List ℕ)) : Type 0 where
+pub record IsCutBy (own : ℕ → List ℕ) (room : ℕ) (text : List ℕ)
+    (pieces : List (List ℕ)) : Type 0 where
   -- joined, the pieces are the units of the text
   pub joined : concat pieces ≡ flat_map own text
   pub none_empty : AllByRecursion (λ piece. 0 < length piece) pieces
   pub none_over_room : AllByRecursion (λ piece. length piece ≤ room) pieces
   -- none ends inside a character: up to its end stand the units of whole characters
   pub at_characters : (front back : List (List ℕ)) → front ++ back ≡ pieces
-      → (before : List ℕ) × (after : List ℕ) × (before ++ after ≡ text) × (concat front ≡ flat_map own before)
+      → (before : List ℕ) × (after : List ℕ) × (before ++ after ≡ text)
+      × (concat front ≡ flat_map own before)
   -- a piece that ends before another character has no room for it
   pub full : (front back : List (List ℕ)) (piece before after : List ℕ) (next : ℕ)
       → front ++ piece ∷ back ≡ pieces
@@ -42,11 +44,13 @@ pub record IsParted (room : ℕ) (text : List ℕ) (pieces : List Units) : Type 
 
 -- The pieces in which a text is sent: one where there is room for all its units, else those by the room beside a header.
 pub record IsCut (width : Width) (text : List ℕ) (pieces : List Units) : Type 0 where
-  pub alone : length (numbers (units_of_text text)) ≤ room_alone (alphabet_of text) → pieces ≡ units_of_text text ∷ []
+  pub alone : length (numbers (units_of_text text)) ≤ room_alone (alphabet_of text)
+      → pieces ≡ units_of_text text ∷ []
   pub parted : room_alone (alphabet_of text) < length (numbers (units_of_text text))
       → IsParted (room_beside width (alphabet_of text)) text pieces
 
 -- Each text has a cut, and no other.
 abbrev pub HasOneCut : Type 0
 HasOneCut = (width : Width) (text : List ℕ) → IsText text
-    → (pieces : List Units) × IsCut width text pieces × ((others : List Units) → IsCut width text others → others ≡ pieces)
+    → (pieces : List Units) × IsCut width text pieces
+    × ((others : List Units) → IsCut width text others → others ≡ pieces)

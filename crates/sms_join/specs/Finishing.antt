@@ -22,7 +22,8 @@ is_finished TooManyOpen = false
 
 -- A piece that would finish its set is answered so, and no other one is.
 abbrev pub AnswerFinishes : Type 0
-AnswerFinishes = (open_max : ℕ) (j : Joiner) (p : Piece) → is_finished (answer open_max j p) ≡ would_finish j p
+AnswerFinishes =
+    (open_max : ℕ) (j : Joiner) (p : Piece) → is_finished (answer open_max j p) ≡ would_finish j p
 
 -- Each joiner holds the same as itself; where one holds the same as another, so does the other; and so on along a chain.
 abbrev pub SameIsEquivalence : Type 0

@@ -13,7 +13,8 @@ use Rattle.sms_join.specs.Acts.{Act, Brings, Ages, acted_all}
 abbrev pub history : ℕ → ℕ → List (Act Piece) → List (Act (Piece × Answer))
 history open_max remembered [] = []
 history open_max remembered (Brings p ∷ acts) =
-    Brings (p, answer open_max (acted_all open_max remembered new_joiner acts) p) ∷ history open_max remembered acts
+    Brings (p, answer open_max (acted_all open_max remembered new_joiner acts) p)
+    ∷ history open_max remembered acts
 history open_max remembered (Ages now ∷ acts) = Ages now ∷ history open_max remembered acts
 
 abbrev pub since : Answer → Piece → List Piece → List Piece
@@ -25,7 +26,8 @@ since TooManyOpen p ps = ps
 -- The pieces under the key that were kept since it last finished or was dropped.
 abbrev pub kept_since : List (Act (Piece × Answer)) → Key → List Piece
 kept_since [] k = []
-kept_since (Brings e ∷ h) k = if same_key e.0.key k then since e.1 e.0 (kept_since h k) else kept_since h k
+kept_since (Brings e ∷ h) k =
+    if same_key e.0.key k then since e.1 e.0 (kept_since h k) else kept_since h k
 kept_since (Ages now ∷ h) k = if is_old now (kept_since h k) k then [] else kept_since h k
 
 abbrev pub after_finish : Answer → Key → List Key → List Key

@@ -51,7 +51,8 @@ decided false false false units = TooManyOpen
 
 unfoldable pub answer : ℕ → Joiner → Piece → Answer
 answer open_max j p =
-    decided (is_repeat j p) (is_whole j p) (has_room open_max j p) (units_upto (p ∷ j.kept) p.key p.maximum)
+    decided (is_repeat j p) (is_whole j p) (has_room open_max j p)
+    (units_upto (p ∷ j.kept) p.key p.maximum)
 
 -- After a repeat and after too many open sets it is as it was. A piece that is kept is added. A set that is whole goes,
 -- and its key is remembered in place of the oldest, where as many are remembered as can be.

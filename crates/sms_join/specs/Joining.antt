@@ -30,10 +30,13 @@ pub record HoldsOpen (remembered : ℕ) (x : Texts) (past : List Arrival) (j : J
   pub finished : j.finished ≡ map x.key (take remembered (completed x.size past))
 
 -- The arrival completes its text, and finishes with the whole of it; or it completes none, and finishes nothing.
-pub data Delivers (open_max : ℕ) (x : Texts) (past : List Arrival) (a : Arrival) (j : Joiner) : Type 0 where
-  Whole : answer open_max j a.piece ≡ Finished (whole_text x a.text) → completed x.size (a ∷ past) ≡ a.text ∷ completed x.size past
+pub data Delivers (open_max : ℕ) (x : Texts) (past : List Arrival) (a : Arrival)
+    (j : Joiner) : Type 0 where
+  Whole : answer open_max j a.piece ≡ Finished (whole_text x a.text)
+      → completed x.size (a ∷ past) ≡ a.text ∷ completed x.size past
       → Delivers open_max x past a j
-  Nothing : finished_now (answer open_max j a.piece) ≡ [] → completed x.size (a ∷ past) ≡ completed x.size past
+  Nothing : finished_now (answer open_max j a.piece) ≡ []
+      → completed x.size (a ∷ past) ≡ completed x.size past
       → Delivers open_max x past a j
 
 -- One arrival in order, at a joiner that holds just what has arrived of the open texts: it then still does, and it
@@ -47,12 +50,14 @@ JoinsOne =
     → is_clear remembered x.size past past a ≡ true
     → is_recent remembered x.size past a ≡ true
     → answer open_max j a.piece ≢ TooManyOpen
-    → HoldsOpen remembered x (a ∷ past) (offered open_max remembered j a.piece) × Delivers open_max x past a j
+    → HoldsOpen remembered x (a ∷ past) (offered open_max remembered j a.piece)
+    × Delivers open_max x past a j
 
 -- The joiner after these arrivals and agings.
 abbrev pub joined : ℕ → ℕ → List (Act Arrival) → Joiner
 joined open_max remembered [] = new_joiner
-joined open_max remembered (Brings a ∷ acts) = offered open_max remembered (joined open_max remembered acts) a.piece
+joined open_max remembered (Brings a ∷ acts) =
+    offered open_max remembered (joined open_max remembered acts) a.piece
 joined open_max remembered (Ages now ∷ acts) = aged now (joined open_max remembered acts)
 
 -- The arrivals that count: an aging takes away those of the open texts whose set it drops.
@@ -60,17 +65,20 @@ abbrev pub counting : ℕ → ℕ → (ℕ → ℕ) → List (Act Arrival) → L
 counting open_max remembered size [] = []
 counting open_max remembered size (Brings a ∷ acts) = a ∷ counting open_max remembered size acts
 counting open_max remembered size (Ages now ∷ acts) =
-    remaining size (is_old now (joined open_max remembered acts).kept) (counting open_max remembered size acts)
+    remaining size (is_old now (joined open_max remembered acts).kept)
+    (counting open_max remembered size acts)
     (counting open_max remembered size acts)
 
 -- What it finished, the last first.
 abbrev pub delivered : ℕ → ℕ → List (Act Arrival) → List (List Units)
 delivered open_max remembered [] = []
 delivered open_max remembered (Brings a ∷ acts) =
-    finished_now (answer open_max (joined open_max remembered acts) a.piece) ++ delivered open_max remembered acts
+    finished_now (answer open_max (joined open_max remembered acts) a.piece)
+    ++ delivered open_max remembered acts
 delivered open_max remembered (Ages now ∷ acts) = delivered open_max remembered acts
 
-pub record InOrder (open_max remembered : ℕ) (x : Texts) (a : Arrival) (past : List Arrival) (j : Joiner) : Type 0 where
+pub record InOrder (open_max remembered : ℕ) (x : Texts) (a : Arrival) (past : List Arrival)
+    (j : Joiner) : Type 0 where
   pub is_of : IsOf x a
   pub clear : is_clear remembered x.size past past a ≡ true
   pub recent : is_recent remembered x.size past a ≡ true
@@ -79,7 +87,8 @@ pub record InOrder (open_max remembered : ℕ) (x : Texts) (a : Arrival) (past :
 abbrev pub AllInOrder : ℕ → ℕ → Texts → List (Act Arrival) → Type 0
 AllInOrder open_max remembered x [] = Unit {0}
 AllInOrder open_max remembered x (Brings a ∷ acts) =
-    InOrder open_max remembered x a (counting open_max remembered x.size acts) (joined open_max remembered acts)
+    InOrder open_max remembered x a (counting open_max remembered x.size acts)
+    (joined open_max remembered acts)
     × AllInOrder open_max remembered x acts
 AllInOrder open_max remembered x (Ages now ∷ acts) = AllInOrder open_max remembered x acts
 
@@ -90,5 +99,7 @@ abbrev pub JoinsInOrder : Type 0
 JoinsInOrder =
     (open_max remembered : ℕ) (x : Texts) (acts : List (Act Arrival))
     → AllInOrder open_max remembered x acts
-    → HoldsOpen remembered x (counting open_max remembered x.size acts) (joined open_max remembered acts)
-    × (delivered open_max remembered acts ≡ map (whole_text x) (completed x.size (counting open_max remembered x.size acts)))
+    → HoldsOpen remembered x (counting open_max remembered x.size acts)
+    (joined open_max remembered acts)
+    × (delivered open_max remembered acts
+    ≡ map (whole_text x) (completed x.size (counting open_max remembered x.size acts)))

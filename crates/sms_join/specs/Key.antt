@@ -17,7 +17,8 @@ same_width Sixteen Eight = false
 -- of the reference, the whole reference and the maximum are the same. No message in one piece is one in segments.
 unfoldable pub same_key : Key → Key → Bool
 same_key (Single a s) (Single b t) = same_address a b && bytes_eq s t
-same_key (Segmented a w r m) (Segmented b v q n) = same_address a b && (same_width w v && (r == q && m == n))
+same_key (Segmented a w r m) (Segmented b v q n) =
+    same_address a b && (same_width w v && (r == q && m == n))
 same_key (Single a s) (Segmented b v q n) = false
 same_key (Segmented a w r m) (Single b t) = false
 

@@ -22,7 +22,8 @@ abbrev pub SaysAnswer : Answer → (first : Bool) → Result Offer OfferFault �
 SaysAnswer Repeat first (Ok offers.Repeat) = Unit {0}
 SaysAnswer Kept first (Ok offers.Kept) = Unit {0}
 SaysAnswer Kept first (Err faults.Memory) = first ≡ true
-SaysAnswer (Finished units) first (Ok (offers.Finished text)) = chars (string_bytes text) ≡ text_of_segments units
+SaysAnswer (Finished units) first (Ok (offers.Finished text)) =
+    chars (string_bytes text) ≡ text_of_segments units
 SaysAnswer (Finished units) first (Err faults.Memory) = Unit {0}
 SaysAnswer TooManyOpen first (Err faults.TooManyOpen) = Unit {0}
 SaysAnswer _ _ _ = ⊥

@@ -33,7 +33,8 @@ abbrev pub pieces_with : Key → ℕ → List ℕ → List Units → List Piece
 pieces_with k opened [] us = []
 pieces_with k opened (n ∷ ns) [] = []
 pieces_with k opened (n ∷ ns) (u ∷ us) =
-    record { key = k; maximum = maximum_of k; sequence = n; units = u; moment = opened } ∷ pieces_with k opened ns us
+    record { key = k; maximum = maximum_of k; sequence = n; units = u; moment = opened }
+    ∷ pieces_with k opened ns us
 
 abbrev pub pieces_in : SetValue → List Piece
 pieces_in s = pieces_with s.key s.opened s.sequences s.units

@@ -16,19 +16,24 @@ OpenSetsAreOpenTexts =
 abbrev pub StayApart : Type 0
 StayApart =
     (remembered : ℕ) (x : Texts) (a : Arrival) (past : List Arrival) → AllOf x past → IsOf x a
-    → is_clear remembered x.size past past a ≡ true → OpenApart x.key x.size past → OpenApart x.key x.size (a ∷ past)
+    → is_clear remembered x.size past past a ≡ true → OpenApart x.key x.size past
+    → OpenApart x.key x.size (a ∷ past)
 
 -- After an aging the joiner holds just what has arrived of the open texts that remain; the completed texts are those of
 -- before, and still no two open texts have one key.
-pub record StaysRight (remembered now : ℕ) (x : Texts) (past : List Arrival) (j : Joiner) : Type 0 where
+pub record StaysRight (remembered now : ℕ) (x : Texts) (past : List Arrival)
+    (j : Joiner) : Type 0 where
   pub holds : HoldsOpen remembered x (remaining x.size (is_old now j.kept) past past) (aged now j)
-  pub completed : completed x.size (remaining x.size (is_old now j.kept) past past) ≡ completed x.size past
-  pub apart : OpenApart x.key x.size past → OpenApart x.key x.size (remaining x.size (is_old now j.kept) past past)
+  pub completed : completed x.size (remaining x.size (is_old now j.kept) past past)
+      ≡ completed x.size past
+  pub apart : OpenApart x.key x.size past
+      → OpenApart x.key x.size (remaining x.size (is_old now j.kept) past past)
 
 -- One aging, at a joiner that holds just what has arrived of the open texts.
 abbrev pub AgesOne : Type 0
 AgesOne =
-    (now remembered : ℕ) (x : Texts) (past : List Arrival) (j : Joiner) → AllOf x past → HoldsOpen remembered x past j
+    (now remembered : ℕ) (x : Texts) (past : List Arrival) (j : Joiner) → AllOf x past
+    → HoldsOpen remembered x past j
     → StaysRight remembered now x past j
 
 -- The piece is of a text that is not complete, and makes its set whole just where it completes the text.
@@ -46,7 +51,8 @@ NewIsFresh =
     → is_repeat j a.piece ≡ false → IsFresh x past a j
 
 -- As many texts are open as may be, none of its pieces has arrived, and it does not complete its text.
-pub record IsTurnedAway (open_max : ℕ) (x : Texts) (past : List Arrival) (a : Arrival) : Type 0 where
+pub record IsTurnedAway (open_max : ℕ) (x : Texts) (past : List Arrival)
+    (a : Arrival) : Type 0 where
   pub full : open_max ≤ length (open_texts x.size past past)
   pub none_taken : has_text past a.text ≡ false
   pub incomplete : is_done x.size (a ∷ past) a.text ≡ false

@@ -41,7 +41,8 @@ abbrev pub finishes : ℕ → ℕ → Joiner → Key → List (Act Piece) → Li
 finishes open_max remembered j k [] = []
 finishes open_max remembered j k (Brings p ∷ acts) =
     if same_key p.key k
-    then finished_now (answer open_max (acted_all open_max remembered j acts) p) ++ finishes open_max remembered j k acts
+    then finished_now (answer open_max (acted_all open_max remembered j acts) p)
+    ++ finishes open_max remembered j k acts
     else finishes open_max remembered j k acts
 finishes open_max remembered j k (Ages now ∷ acts) = finishes open_max remembered j k acts
 
@@ -53,13 +54,15 @@ others_finished open_max remembered j k (Brings p ∷ acts) =
     then others_finished open_max remembered j k acts
     else length (finished_now (answer open_max (acted_all open_max remembered j acts) p))
     + others_finished open_max remembered j k acts
-others_finished open_max remembered j k (Ages now ∷ acts) = others_finished open_max remembered j k acts
+others_finished open_max remembered j k (Ages now ∷ acts) =
+    others_finished open_max remembered j k acts
 
 -- No offer under the key was answered by too many open sets.
 abbrev pub NoneRefused : ℕ → ℕ → Joiner → Key → List (Act Piece) → Type 0
 NoneRefused open_max remembered j k [] = Unit {0}
 NoneRefused open_max remembered j k (Brings p ∷ acts) =
-    (same_key p.key k ≡ true → answer open_max (acted_all open_max remembered j acts) p ≢ TooManyOpen)
+    (same_key p.key k ≡ true
+    → answer open_max (acted_all open_max remembered j acts) p ≢ TooManyOpen)
     × NoneRefused open_max remembered j k acts
 NoneRefused open_max remembered j k (Ages now ∷ acts) = NoneRefused open_max remembered j k acts
 
@@ -89,12 +92,15 @@ pub record ComeAll (open_max remembered : ℕ) (j : Joiner) (k : Key) (pieces : 
   pub missing : has_all (brought before) k (length pieces) ≡ false
   pub all : has_all (p ∷ brought before) k (length pieces) ≡ true
   -- after it fewer other keys finish than can be remembered
-  pub few : others_finished open_max remembered (acted_all open_max remembered j (Brings p ∷ before)) k after < remembered
+  pub few : others_finished open_max remembered
+      (acted_all open_max remembered j (Brings p ∷ before)) k after
+      < remembered
 
 -- That offer finishes the set with the pieces in order, and no other offer under the key finishes it.
 abbrev pub FinishesOnce : Type 0
 FinishesOnce =
-    (open_max remembered : ℕ) (j : Joiner) (k : Key) (pieces : List Units) (after : List (Act Piece)) (p : Piece) (before : List (Act Piece))
+    (open_max remembered : ℕ) (j : Joiner) (k : Key) (pieces : List Units)
+    (after : List (Act Piece)) (p : Piece) (before : List (Act Piece))
     → ComeAll open_max remembered j k pieces after p before
     → (answer open_max (acted_all open_max remembered j before) p ≡ Finished pieces)
     × (finishes open_max remembered j k (after ++ Brings p ∷ before) ≡ pieces ∷ [])
@@ -102,7 +108,8 @@ FinishesOnce =
 -- Where they are the pieces of a text, what is finished is read as the text.
 abbrev pub FinishesText : Type 0
 FinishesText =
-    (open_max remembered : ℕ) (j : Joiner) (k : Key) (pieces : List Units) (after : List (Act Piece)) (p : Piece) (before : List (Act Piece))
+    (open_max remembered : ℕ) (j : Joiner) (k : Key) (pieces : List Units)
+    (after : List (Act Piece)) (p : Piece) (before : List (Act Piece))
     (width : Width) (text : List ℕ) (units : List Units)
     → ComeAll open_max remembered j k pieces after p before
     → IsText text

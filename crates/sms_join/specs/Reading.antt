@@ -35,4 +35,6 @@ text_of_segments segments =
 
 -- The segments of a text, in order, are read as the text.
 abbrev pub CutIsReadAsText : Type 0
-CutIsReadAsText = (width : Width) (text : List ℕ) (pieces : List Units) → IsText text → IsCut width text pieces → text_of_segments pieces ≡ text
+CutIsReadAsText =
+    (width : Width) (text : List ℕ) (pieces : List Units) → IsText text → IsCut width text pieces
+    → text_of_segments pieces ≡ text

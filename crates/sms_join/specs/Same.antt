@@ -19,4 +19,5 @@ pub record IsSame (i j : Joiner) : Type 0 where
 abbrev pub AnswersAlike : Type 0
 AnswersAlike =
     (open_max remembered : ℕ) (i j : Joiner) (p : Piece) → IsSame i j
-    → (answer open_max i p ≡ answer open_max j p) × IsSame (offered open_max remembered i p) (offered open_max remembered j p)
+    → (answer open_max i p ≡ answer open_max j p)
+    × IsSame (offered open_max remembered i p) (offered open_max remembered j p)

@@ -19,8 +19,10 @@ use Rattle.sms_join.specs.Cut.{room_alone, room_beside}
 
 -- There is room for the units, and the sequence is 1 to the maximum.
 pub record IsSendable (width : Width) (segment : Segment) : Type 0 where
-  pub alone : segment.maximum ≡ 1 → length (numbers segment.units) ≤ room_alone (alphabet_in segment.units)
-  pub beside : 1 < segment.maximum → length (numbers segment.units) ≤ room_beside width (alphabet_in segment.units)
+  pub alone : segment.maximum ≡ 1
+      → length (numbers segment.units) ≤ room_alone (alphabet_in segment.units)
+  pub beside : 1 < segment.maximum
+      → length (numbers segment.units) ≤ room_beside width (alphabet_in segment.units)
   pub first : 1 ≤ segment.sequence
   pub last : segment.sequence ≤ segment.maximum
 
@@ -36,17 +38,28 @@ body_of (Ucs2 units) = body.Octets (octets_high_first units)
 -- the place of a segment, where there are others
 abbrev pub header_of : Width → ℕ → ℕ → ℕ → Option (List ℕ)
 header_of width reference maximum sequence =
-    if maximum == 1 then None else Some (element_octets (element_for width reference maximum sequence))
+    if maximum == 1
+    then None
+    else Some (element_octets (element_for width reference maximum sequence))
 
 abbrev pub user_of : Width → ℕ → Segment → UserData
 user_of width reference segment =
-    record { header = header_of width reference segment.maximum segment.sequence; body = body_of segment.units }
+    record {
+      header = header_of width reference segment.maximum segment.sequence;
+      body = body_of segment.units;
+    }
 
 -- the header tells the place of the segment, where there are others
 abbrev pub TellsPlace : Width → ℕ → ℕ → ℕ → Option (List ℕ) → Type 0
 TellsPlace width reference maximum sequence None = maximum ≡ 1
 TellsPlace width reference maximum sequence (Some header) =
-    IsConcatOf header (Some (record { width = width; reference = reference; maximum = maximum; sequence = sequence }))
+    IsConcatOf header
+    (Some (record {
+      width = width;
+      reference = reference;
+      maximum = maximum;
+      sequence = sequence;
+    }))
 
 -- septets, or octets
 abbrev pub HasRange : Body → Type 0

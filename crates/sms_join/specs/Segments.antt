@@ -14,4 +14,5 @@ pub record AreNumbered (pieces : List Units) (segments : List Segment) : Type 0 
 
 -- The segments are the pieces of the text, numbered.
 abbrev pub AreSegments : Width → List ℕ → List Segment → Type 0
-AreSegments width text segments = (pieces : List Units) × IsCut width text pieces × AreNumbered pieces segments
+AreSegments width text segments =
+    (pieces : List Units) × IsCut width text pieces × AreNumbered pieces segments

@@ -39,7 +39,8 @@ pieces_at units start (end ∷ ends) = part_of units start end ∷ pieces_at uni
 abbrev pub segments_from : Units → ℕ → ℕ → ℕ → List ℕ → List Segment
 segments_from units maximum sequence start [] = []
 segments_from units maximum sequence start (end ∷ ends) =
-    record { units = part_of units start end; maximum = maximum; sequence = sequence } ∷ segments_from units maximum (sequence + 1) end ends
+    record { units = part_of units start end; maximum = maximum; sequence = sequence }
+    ∷ segments_from units maximum (sequence + 1) end ends
 
 abbrev pub segments_at : Units → List ℕ → List Segment
 segments_at units ends = segments_from units (length ends) 1 0 ends

@@ -39,7 +39,13 @@ first_places maximum n u = set (replicate maximum None) (n - 1) (Some u)
 
 -- the pieces of a set that have come, in order of sequence
 abbrev pub set_of : Key × SlotValue → SetValue
-set_of e = record { key = e.0; opened = e.1.opened; sequences = filled_from 1 e.1.places; units = filled e.1.places }
+set_of e =
+    record {
+      key = e.0;
+      opened = e.1.opened;
+      sequences = filled_from 1 e.1.places;
+      units = filled e.1.places;
+    }
 
 abbrev pub sets_of : List (Key × SlotValue) → List SetValue
 sets_of [] = []

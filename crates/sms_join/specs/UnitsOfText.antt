@@ -52,4 +52,5 @@ alphabet_in (Ucs2 units) = Wide
 
 -- the units of the characters, one after another
 abbrev pub units_of_text : List ℕ → Units
-units_of_text text = units_in (alphabet_of text) (flat_map (units_of_character (alphabet_of text)) text)
+units_of_text text =
+    units_in (alphabet_of text) (flat_map (units_of_character (alphabet_of text)) text)

@@ -29,7 +29,11 @@ notes s = record { answer = Ok Noted; put = []; after = s }
 -- An RP-ERROR with this cause, and a report with this failure cause, if there is one.
 abbrev pub refuses_with : {S : Type 0} → S → Side → Tag → ℕ → Option ℕ → Option Report → Does S
 refuses_with s side tag cause failure report =
-    record { answer = Ok (Refused cause failure); put = answers side tag (Some cause) report; after = s }
+    record {
+      answer = Ok (Refused cause failure);
+      put = answers side tag (Some cause) report;
+      after = s;
+    }
 
 -- ---- a call of the code
 
@@ -50,6 +54,7 @@ Puts outcome messages (Err why) = why ≡ dropped.Memory
 -- The call did this in a state: it answered so, its packets carry what was put out, and the value stands for the state
 -- afterwards. Or memory ran out, and the value stands for the state that was. Or it dropped what came, for this reason.
 abbrev pub Answered : {S : Type 0} → (S → Type 0) → S → Does S → Result Step Dropped → Type 0
-Answered Stands s d (Ok step) = (d.answer ≡ Ok step.outcome) × CarriesEach (packets_of step) d.put × Stands d.after
+Answered Stands s d (Ok step) =
+    (d.answer ≡ Ok step.outcome) × CarriesEach (packets_of step) d.put × Stands d.after
 Answered Stands s d (Err dropped.Memory) = Stands s
 Answered Stands s d (Err why) = (d.answer ≡ Err why) × Stands d.after

@@ -22,12 +22,17 @@ pub record AreFewTo (place : Place) (put : List Sent) : Type 0 where
 
 -- Two packets at most are put out: by a sender, to the centre; by the centre; and by a receiver.
 pub record FewArePutOut : Type 0 where
-  pub when_typed : (x : SenderState) (phone : ℕ) (target : AddressValue) (characters : List ℕ) (pieces : List Units)
+  pub when_typed : (x : SenderState) (phone : ℕ) (target : AddressValue) (characters : List ℕ)
+      (pieces : List Units)
       → AreFewTo (Centre phone) (composes x phone target characters pieces).put
   pub when_late : (x : SenderState) (phone : ℕ) → AreFewTo (Centre phone) (times_out x phone).put
-  pub when_heard : (x : SenderState) (phone : ℕ) (message : Message) → AreFewTo (Centre phone) (sender_takes x phone message).put
-  pub by_centre : (limit : ℕ) (phones : List AddressValue) (c : CentreState) (now phone : ℕ) (message : Message) (origin : Option Origin)
+  pub when_heard : (x : SenderState) (phone : ℕ) (message : Message)
+      → AreFewTo (Centre phone) (sender_takes x phone message).put
+  pub by_centre : (limit : ℕ) (phones : List AddressValue) (c : CentreState) (now phone : ℕ)
+      (message : Message) (origin : Option Origin)
       → length (centre_receives limit phones c now phone message origin).put ≤ 2
-  pub when_pushed : (phones : List AddressValue) (c : CentreState) (now phone : ℕ) → length (centre_pushes phones c now phone).put ≤ 2
-  pub by_receiver : (limits : ReceiverLimits) (s : ReceiverState) (now : ℕ) (message : Message) (origin : Option Origin)
+  pub when_pushed : (phones : List AddressValue) (c : CentreState) (now phone : ℕ)
+      → length (centre_pushes phones c now phone).put ≤ 2
+  pub by_receiver : (limits : ReceiverLimits) (s : ReceiverState) (now : ℕ) (message : Message)
+      (origin : Option Origin)
       → length (receiver_receives limits s now message origin).put ≤ 2

@@ -27,13 +27,16 @@ is_answer (Data flag tag relay) = flag
 -- One of the two takes the message, and the other one stays as it is.
 abbrev pub TakesBy : Bool → ℕ → Message → PhoneValue → Result Step Dropped → PhoneValue → Type 0
 TakesBy true now message old result new =
-    sender.Steps (λ x phone. sender_takes x phone message) old.sender result new.sender × (new.receiver ≡ old.receiver)
+    sender.Steps (λ x phone. sender_takes x phone message) old.sender result new.sender
+    × (new.receiver ≡ old.receiver)
 TakesBy false now message old result new =
-    receiver.Steps (λ limits s origin. receiver_receives limits s now message origin) old.receiver result new.receiver
+    receiver.Steps (λ limits s origin. receiver_receives limits s now message origin) old.receiver
+    result new.receiver
     × (new.sender ≡ old.sender)
 
 -- Octets come: they are read as a message, and one of the two takes it. Or memory ran out, and nothing has changed.
 abbrev pub PhoneReceives : ℕ → List ℕ → PhoneValue → Result Step Dropped → PhoneValue → Type 0
 PhoneReceives now octets old (Err dropped.Memory) new = new ≡ old
 PhoneReceives now octets old result new =
-    (message : Message) × ReadsAs octets message × TakesBy (is_answer message) now message old result new
+    (message : Message) × ReadsAs octets message
+    × TakesBy (is_answer message) now message old result new

@@ -71,11 +71,19 @@ deliver = do
   })
 
 abbrev pub flags_in : Delivery → DeliverFlags
-flags_in d = record { more = d.more; looped = d.looped; report = d.report; header = has_header d.user; reply = d.reply }
+flags_in d =
+    record {
+      more = d.more;
+      looped = d.looped;
+      report = d.report;
+      header = has_header d.user;
+      reply = d.reply;
+    }
 
 -- how a delivery is written
 pub record SpellsDeliver (d : Delivery) (octets : List ℕ) : Type 0 where
   pub deliverable : IsDeliverable d
   pub written : List ℕ
   pub user : SpellsUserData d.user written
-  pub parts : octets ≡ deliver_octet (flags_in d) ∷ (address_octets d.origin ++ (d.pid ∷ d.dcs ∷ (d.stamp ++ written)))
+  pub parts : octets ≡ deliver_octet (flags_in d)
+      ∷ (address_octets d.origin ++ (d.pid ∷ d.dcs ∷ (d.stamp ++ written)))

@@ -11,16 +11,21 @@ use Rattle.sms_tpdu.specs.declared.fault.UnitFault.TheVariants.{Short, WrongType
 
 -- the octets are refused at a place, for a reason
 abbrev pub IsUnitRefused : {V : Type 0} → Field V UnitFault → List ℕ → ℕ → UnitFault → Type 0
-IsUnitRefused field octets place why = IsRefused (Reads field) field.reason Short octets (At place why)
+IsUnitRefused field octets place why =
+    IsRefused (Reads field) field.reason Short octets (At place why)
 
-pub record TellsOtherTypes {V F : Type 0} (field : Field V UnitFault) (first : ℕ → Result F UnitFault) : Type 0 where
+pub record TellsOtherTypes {V F : Type 0} (field : Field V UnitFault)
+    (first : ℕ → Result F UnitFault) : Type 0 where
   -- what is refused as another type begins with the octet of one
-  pub other : (octets : List ℕ) (place : ℕ) → IsUnitRefused field octets place WrongType → StartsAs first WrongType octets
+  pub other : (octets : List ℕ) (place : ℕ) → IsUnitRefused field octets place WrongType
+      → StartsAs first WrongType octets
   -- what is refused for another reason does not, and is not readable
-  pub bad : (octets : List ℕ) (place : ℕ) (why : UnitFault) → IsOctets octets → (why ≡ WrongType → ⊥) → IsUnitRefused field octets place why
+  pub bad : (octets : List ℕ) (place : ℕ) (why : UnitFault) → IsOctets octets
+      → (why ≡ WrongType → ⊥) → IsUnitRefused field octets place why
       → (¬ IsReadable (Reads field) octets) × (¬ StartsAs first WrongType octets)
   -- what begins with the octet of another type is not readable
-  pub unread : (octets : List ℕ) → StartsAs first WrongType octets → ¬ IsReadable (Reads field) octets
+  pub unread : (octets : List ℕ) → StartsAs first WrongType octets
+      → ¬ IsReadable (Reads field) octets
 
 -- an input is refused at one place and for one reason
 abbrev pub IsRefusedOnce : {V : Type 0} → Field V UnitFault → Type 0

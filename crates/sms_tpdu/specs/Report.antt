@@ -27,7 +27,8 @@ use Rattle.sms_tpdu.specs.UserData.Lengths.{octets_of_length}
 
 -- a length of at most 159 octets
 abbrev pub report_length : Alphabet → ℕ → Result ℕ UnitFault
-report_length alphabet count = if nat_le (octets_of_length alphabet count) 159 then Ok count else Err DataTooLong
+report_length alphabet count =
+    if nat_le (octets_of_length alphabet count) 159 then Ok count else Err DataTooLong
 
 unfoldable pub report_data : Alphabet → Field ReportData UnitFault
 report_data alphabet = do
@@ -80,7 +81,8 @@ parts there = do
 -- ---- as they are written
 
 abbrev pub indicator_of : Parts → Indicator
-indicator_of those = record { pid = is_some those.pid; dcs = is_some those.dcs; user = is_some those.user }
+indicator_of those =
+    record { pid = is_some those.pid; dcs = is_some those.dcs; user = is_some those.user }
 
 -- what has a spelling
 pub record AreParts (those : Parts) : Type 0 where

@@ -7,7 +7,8 @@ greatest_size = 172
 
 -- what is written has at most this number of octets
 abbrev pub IsWithin : {V : Type 0} → ℕ → (V → List ℕ → Type 0) → Type 0
-IsWithin {V} limit spells = (value : V) (octets : List ℕ) → spells value octets → length octets ≤ limit
+IsWithin {V} limit spells =
+    (value : V) (octets : List ℕ) → spells value octets → length octets ≤ limit
 
 -- each value of these has a spelling
 abbrev pub HasEachSpelling : {V : Type 0} → (V → Type 0) → (V → List ℕ → Type 0) → Type 0

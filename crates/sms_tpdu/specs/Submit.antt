@@ -76,7 +76,14 @@ submit = do
   })
 
 abbrev pub flags_in : Submission → SubmitFlags
-flags_in s = record { reject = s.reject; format = format_of s.validity; report = s.report; header = has_header s.user; reply = s.reply }
+flags_in s =
+    record {
+      reject = s.reject;
+      format = format_of s.validity;
+      report = s.report;
+      header = has_header s.user;
+      reply = s.reply;
+    }
 
 -- how a submission is written
 pub record SpellsSubmit (s : Submission) (octets : List ℕ) : Type 0 where

@@ -31,28 +31,36 @@ header_octets (Some header) = length header ∷ header
 -- ---- the user data go with a coding scheme: septets exactly under the 7-bit alphabet, and header and body not too long
 
 abbrev pub BodyFits : Alphabet → ℕ → Body → Type 0
-BodyFits Gsm7 taken (body.Septets septets) = (length_of_header Gsm7 taken + length septets ≤ 160) × AreSeptets septets
+BodyFits Gsm7 taken (body.Septets septets) =
+    (length_of_header Gsm7 taken + length septets ≤ 160) × AreSeptets septets
 BodyFits Gsm7 taken (body.Octets octets) = ⊥
 BodyFits _ taken (body.Septets septets) = ⊥
 BodyFits _ taken (body.Octets octets) = (taken + length octets ≤ 140) × IsOctets octets
 
 abbrev pub FitsAlphabet : Alphabet → UserData → Type 0
-FitsAlphabet alphabet user = IsOctets (header_octets user.header) × BodyFits alphabet (length (header_octets user.header)) user.body
+FitsAlphabet alphabet user =
+    IsOctets (header_octets user.header)
+    × BodyFits alphabet (length (header_octets user.header)) user.body
 
 -- ---- as they are read
 
 -- the body after the octets of a header: fill bits and spare bits are left out
 abbrev pub body_of : Alphabet → ℕ → ℕ → List ℕ → Body
-body_of Gsm7 taken count octets = body.Septets (unpacked (fill_bits taken) (count - length_of_header Gsm7 taken) octets)
+body_of Gsm7 taken count octets =
+    body.Septets (unpacked (fill_bits taken) (count - length_of_header Gsm7 taken) octets)
 body_of _ taken count octets = body.Octets octets
 
 -- a length that has room for the shortest header
 abbrev pub length_with_header : Alphabet → ℕ → Result ℕ UnitFault
-length_with_header alphabet count = if nat_le count (greatest_length alphabet) then (if nat_le (length_of_header alphabet 1) count then Ok count else Err HeaderTooLong) else Err DataTooLong
+length_with_header alphabet count =
+    if nat_le count (greatest_length alphabet)
+    then (if nat_le (length_of_header alphabet 1) count then Ok count else Err HeaderTooLong)
+    else Err DataTooLong
 
 -- a header's length that the data have room for
 abbrev pub header_length : Alphabet → ℕ → ℕ → Result ℕ UnitFault
-header_length alphabet count size = if nat_le (length_of_header alphabet (size + 1)) count then Ok size else Err HeaderTooLong
+header_length alphabet count size =
+    if nat_le (length_of_header alphabet (size + 1)) count then Ok size else Err HeaderTooLong
 
 -- without a header, and with one
 unfoldable pub user_data : Bool → Alphabet → Field UserData UnitFault
@@ -89,11 +97,13 @@ length_in user = data_length (length (header_octets user.header)) user.body
 
 -- the septets packed, fill bits and spare bits 0; or the octets as they are
 abbrev pub SpellsBody : ℕ → Body → List ℕ → Type 0
-SpellsBody taken (body.Septets septets) packed = PackedPlain (fill_bits taken) septets packed × IsOctets packed
+SpellsBody taken (body.Septets septets) packed =
+    PackedPlain (fill_bits taken) septets packed × IsOctets packed
 SpellsBody taken (body.Octets octets) written = written ≡ octets
 
 -- the length, the header, the body
 pub record SpellsUserData (user : UserData) (octets : List ℕ) : Type 0 where
   pub written : List ℕ
   pub spells_body : SpellsBody (length (header_octets user.header)) user.body written
-  pub parts : octets ≡ data_length (length (header_octets user.header)) user.body ∷ (header_octets user.header ++ written)
+  pub parts : octets ≡ data_length (length (header_octets user.header)) user.body
+      ∷ (header_octets user.header ++ written)

@@ -31,4 +31,5 @@ AcceptedIsAccepted =
     → RunWith IsHonest (start limits phones) past m
     → (phone n : ℕ) → Contains (m.senders.sender phone).ended (n, true)
     → (s : ℕ) → 0 < s → s ≤ size_in m.senders.texts n
-    → (a : Acceptance) × Contains m.centre.accepted a × (a.origin ≡ Some (record { text = n; segment = s }))
+    → (a : Acceptance) × Contains m.centre.accepted a
+    × (a.origin ≡ Some (record { text = n; segment = s }))

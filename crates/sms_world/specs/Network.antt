@@ -43,4 +43,9 @@ StepsInWords old event words new =
 
 abbrev pub conduct : Conduct WorldValue
 conduct =
-    record { Begins = Begins; Steps = StepsInWords; put_out = λ world. world.packets; ends = ends_of }
+    record {
+      Begins = Begins;
+      Steps = StepsInWords;
+      put_out = λ world. world.packets;
+      ends = ends_of;
+    }

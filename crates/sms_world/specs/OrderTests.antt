@@ -37,18 +37,21 @@ abbrev pub has_key : List AddressValue → Option Text → Delivery → Concat �
 has_key phones None d c = false
 has_key phones (Some t) d c =
     same_address (address_of phones t.phone) d.origin
-    && (same_width t.width c.width && (t.set_reference == c.reference && length t.pieces == c.maximum))
+    && (same_width t.width c.width
+    && (t.set_reference == c.reference && length t.pieces == c.maximum))
 
 -- the text is neither open at the phone nor among the last that finished there
 abbrev pub is_past : Machine → ℕ → ℕ → Bool
 is_past m phone n =
-    is_done (size_in m.senders.texts) (m.receiver phone).taken n && not (is_listed (take m.limits.remembered (finished m phone)) n)
+    is_done (size_in m.senders.texts) (m.receiver phone).taken n
+    && not (is_listed (take m.limits.remembered (finished m phone)) n)
 
 -- of the texts of these arrivals, each other one with the key is past
 abbrev pub key_is_free : Machine → ℕ → Delivery → Concat → ℕ → List Arrival → Bool
 key_is_free m phone d c n [] = true
 key_is_free m phone d c n (a ∷ past) =
-    (not (has_key m.phones (nth m.senders.texts a.text) d c) || (a.text == n || is_past m phone a.text))
+    (not (has_key m.phones (nth m.senders.texts a.text) d c)
+    || (a.text == n || is_past m phone a.text))
     && key_is_free m phone d c n past
 
 abbrev pub place_is_free : Machine → ℕ → Delivery → ℕ → Option Concat → Bool
@@ -57,11 +60,13 @@ place_is_free m phone d n (Some c) = key_is_free m phone d c n (m.receiver phone
 
 abbrev pub is_remembered : Machine → ℕ → ℕ → Bool
 is_remembered m phone n =
-    not (is_listed (finished m phone) n) || is_listed (take m.limits.remembered (finished m phone)) n
+    not (is_listed (finished m phone) n)
+    || is_listed (take m.limits.remembered (finished m phone)) n
 
 -- an SMS-SUBMIT comes to the centre
 abbrev pub submission_in_order : Machine → TransferUnit → Place → Option Origin → Bool
-submission_in_order m (Submit s) (Centre phone) (Some o) = may_come_again m.centre.accepted m.clock s.reject o
+submission_in_order m (Submit s) (Centre phone) (Some o) =
+    may_come_again m.centre.accepted m.clock s.reject o
 submission_in_order m (Submit s) (Centre phone) None = true
 submission_in_order m (Submit s) (Phone phone) origin = true
 submission_in_order m (Deliver d) to origin = true
@@ -107,4 +112,5 @@ in_order m (Tick seconds) = true
 -- The test holds just where the four conditions do.
 abbrev pub OrderIsTested : Type 0
 OrderIsTested =
-    (m : Machine) (event : Event) → (in_order m event ≡ true → IsOrderly m event) × (IsOrderly m event → in_order m event ≡ true)
+    (m : Machine) (event : Event)
+    → (in_order m event ≡ true → IsOrderly m event) × (IsOrderly m event → in_order m event ≡ true)

@@ -52,7 +52,8 @@ abbrev pub IsTranscript : ScriptValue → List ℕ → Type 0
 IsTranscript script text =
     (happened : List Happened) × (world : WorldValue)
     × HappensAsRun script.settings script.events happened world
-    × (text ≡ transcript script.settings.is_brief script.settings.known.names happened (ends_of world))
+    × (text
+    ≡ transcript script.settings.is_brief script.settings.known.names happened (ends_of world))
 
 -- A source that had old left was read to its end, its script is without fault, and what the sink
 -- took is the script's transcript.

@@ -18,7 +18,8 @@ answers_after m (e ∷ es) = (next m e).answer ∷ answers_after (next m e).afte
 -- what comes keeps all rules
 abbrev pub all_orderly : Machine → List Act → Bool
 all_orderly m [] = true
-all_orderly m (Carries k ∷ es) = sent_in_order m (packet m k) && all_orderly (next m (Carries k)).after es
+all_orderly m (Carries k ∷ es) =
+    sent_in_order m (packet m k) && all_orderly (next m (Carries k)).after es
 all_orderly m (e ∷ es) = all_orderly (next m e).after es
 
 -- Each event is the act beside it, in the machine as it is when the event comes.

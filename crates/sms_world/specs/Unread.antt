@@ -17,7 +17,8 @@ use Rattle.sms_world.specs.Machine.Step.{Step}
 abbrev pub UnreadChangesNothing : Type 0
 UnreadChangesNothing =
     (m : Machine) (place : Place) (octets : List ℕ) → ReadsAs octets NotCp
-    → (told : Told) (put : List Sent) (n : Machine) → Step m (Inject place octets) told put n → (n ≡ m) × (put ≡ [])
+    → (told : Told) (put : List Sent) (n : Machine) → Step m (Inject place octets) told put n
+    → (n ≡ m) × (put ≡ [])
 
 -- the unit of an RP-DATA is none of those that are read
 abbrev pub is_no_unit : TransferUnit → Bool
@@ -48,5 +49,7 @@ pub record PartiesStay (m n : Machine) : Type 0 where
 -- Such octets change no party: they are answered or dropped.
 abbrev pub NothingSaidChangesNoParty : Type 0
 NothingSaidChangesNoParty =
-    (m : Machine) (place : Place) (octets : List ℕ) (message : Message) → ReadsAs octets message → says_nothing message ≡ true
-    → (told : Told) (put : List Sent) (n : Machine) → Step m (Inject place octets) told put n → PartiesStay m n
+    (m : Machine) (place : Place) (octets : List ℕ) (message : Message) → ReadsAs octets message
+    → says_nothing message ≡ true
+    → (told : Told) (put : List Sent) (n : Machine) → Step m (Inject place octets) told put n
+    → PartiesStay m n

@@ -43,11 +43,15 @@ check_recipient limit books s ends (Some recipient) = check_space limit books s 
 
 -- The enhanced format of TP-VP: C6, VPF not supported. An absolute one that has no moment, or one that is not after now:
 -- C7, VP not supported.
-abbrev pub check_validity : ℕ → List AddressValue → Books → ℕ → Submission → Result ℕ ValidityFault → Check
+abbrev pub check_validity : ℕ → List AddressValue → Books → ℕ → Submission → Result ℕ ValidityFault
+    → Check
 check_validity limit phones books now s (Err EnhancedValidity) = Refuse 21 0xC6
 check_validity limit phones books now s (Err NoMoment) = Refuse 21 0xC7
 check_validity limit phones books now s (Ok ends) =
-    if nat_lt now ends then check_recipient limit books s ends (phone_at phones s.target) else Refuse 21 0xC7
+    if nat_lt now ends
+    then check_recipient limit books s ends (phone_at phones s.target)
+    else Refuse 21 0xC7
 
 unfoldable pub checked_by : ℕ → List AddressValue → Books → ℕ → Submission → Check
-checked_by limit phones books now s = check_validity limit phones books now s (end_of s.validity now)
+checked_by limit phones books now s =
+    check_validity limit phones books now s (end_of s.validity now)

@@ -11,7 +11,8 @@ unended (a ∷ past) now = if nat_lt now a.ends then a ∷ unended past now else
 abbrev pub is_held : List Acceptance → ℕ → ℕ → ℕ → ℕ → Bool
 is_held [] phone reference recipient now = false
 is_held (a ∷ past) phone reference recipient now =
-    (nat_lt now a.ends && (a.phone == phone && (a.submission.reference == reference && a.recipient == recipient)))
+    (nat_lt now a.ends
+    && (a.phone == phone && (a.submission.reference == reference && a.recipient == recipient)))
     || is_held past phone reference recipient now
 
 -- The moment, or one second after the last stamp given to the recipient where that is later: no two messages to one
@@ -19,4 +20,6 @@ is_held (a ∷ past) phone reference recipient now =
 abbrev pub next_stamp : List Acceptance → ℕ → ℕ → ℕ
 next_stamp [] recipient now = now
 next_stamp (a ∷ past) recipient now =
-    if a.recipient == recipient then max (suc a.stamp) (next_stamp past recipient now) else next_stamp past recipient now
+    if a.recipient == recipient
+    then max (suc a.stamp) (next_stamp past recipient now)
+    else next_stamp past recipient now

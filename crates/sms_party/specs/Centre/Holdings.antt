@@ -10,7 +10,8 @@ ending_of recipient m = record { end = m.ends; recipient = recipient; stamp = m.
 
 pub record AreHeld (endings : List Ending) (lines : List LineValue) : Type 0 where
   -- each message that waits is held
-  pub waiting : (recipient : ℕ) (line : LineValue) → slice_get lines recipient ≡ Some line → All (λ m. Contains endings (ending_of recipient m)) line.queue
+  pub waiting : (recipient : ℕ) (line : LineValue) → slice_get lines recipient ≡ Some line
+      → All (λ m. Contains endings (ending_of recipient m)) line.queue
   -- the stamps of held messages are given to no other
   pub given : All (λ e. e.stamp < free_at lines e.recipient) endings
 
@@ -22,5 +23,8 @@ pub record LeavesSame (now : ℕ) (old new : HoldingsValue) : Type 0 where
 
 -- One message that has ended is forgotten, or there is none.
 abbrev pub ForgetsOne : ℕ → HoldingsValue → Bool → HoldingsValue → Type 0
-ForgetsOne now old true new = LeavesSame now old new × (length new.held.endings < length old.held.endings)
-ForgetsOne now old false new = (new ≡ old) × All (λ e. now < e.end) old.held.endings × (map (line_at now) old.lines ≡ old.lines)
+ForgetsOne now old true new =
+    LeavesSame now old new × (length new.held.endings < length old.held.endings)
+ForgetsOne now old false new =
+    (new ≡ old) × All (λ e. now < e.end) old.held.endings
+    × (map (line_at now) old.lines ≡ old.lines)

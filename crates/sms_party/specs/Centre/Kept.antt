@@ -10,7 +10,8 @@ use Rattle.sms_party.specs.declared.centre.check.Check.{Check}
 use Rattle.sms_party.specs.declared.centre.check.Check.TheVariants.{Refuse, Accept}
 
 abbrev pub key_of : ℕ → ℕ → ℕ → HeldKey
-key_of phone reference recipient = record { phone = phone; reference = reference; recipient = recipient }
+key_of phone reference recipient =
+    record { phone = phone; reference = reference; recipient = recipient }
 
 abbrev pub ends_after : ℕ → Option ℕ → Bool
 ends_after now None = false
@@ -28,13 +29,17 @@ pub record IsPutIn {X : Type 0} (x : X) (old new : List X) : Type 0 where
   pub is : new ≡ before ++ x ∷ after
 
 -- One message more is held, with this key and this ending.
-pub record HoldsAlso (old : HeldValue) (key : HeldKey) (ending : Ending) (new : HeldValue) : Type 0 where
+pub record HoldsAlso (old : HeldValue) (key : HeldKey) (ending : Ending)
+    (new : HeldValue) : Type 0 where
   pub endings : IsPutIn ending old.endings new.endings
-  pub kept : (other : HeldKey) (now : ℕ) → is_kept new.last other now ≡ ((nat_lt now ending.end && key_eq key other) || is_kept old.last other now)
+  pub kept : (other : HeldKey) (now : ℕ)
+      → is_kept new.last other now
+      ≡ ((nat_lt now ending.end && key_eq key other) || is_kept old.last other now)
 
 -- From a moment on the same duplicates are found.
 abbrev pub KeepsAfter : ℕ → HeldValue → HeldValue → Type 0
-KeepsAfter now old new = (key : HeldKey) (at : ℕ) → now ≤ at → is_kept new.last key at ≡ is_kept old.last key at
+KeepsAfter now old new =
+    (key : HeldKey) (at : ℕ) → now ≤ at → is_kept new.last key at ≡ is_kept old.last key at
 
 -- A key is left only where another message with it ends after the moment.
 abbrev pub IsLeftLater : ℕ → HeldKey → HeldValue → Type 0
@@ -47,7 +52,9 @@ ForgetsKey now old new = (key : HeldKey) × (old.keys ≡ key ∷ new.keys) × I
 -- The earliest of the endings is forgotten, if it has come.
 abbrev pub ForgetsFirst : ℕ → HeldValue → Option Ending → HeldValue → Type 0
 ForgetsFirst now old None new = All (λ e. now < e.end) old.endings × (new ≡ old)
-ForgetsFirst now old (Some ending) new = (ending.end ≤ now) × (old.endings ≡ ending ∷ new.endings) × KeepsAfter now old new × ForgetsKey now old new
+ForgetsFirst now old (Some ending) new =
+    (ending.end ≤ now) × (old.endings ≡ ending ∷ new.endings) × KeepsAfter now old new
+    × ForgetsKey now old new
 
 -- At a later moment those are left that end after it.
 pub record IsHeldLater (now : ℕ) (old new : HeldValue) : Type 0 where
@@ -70,4 +77,5 @@ books_in v now phone s =
 -- causes are those of an RP-ERROR, and what is accepted has a recipient and a stamp that is free
 abbrev pub IsLawfulCheck : CentreValue → Check → Type 0
 IsLawfulCheck v (Refuse cause failure) = cause < 128
-IsLawfulCheck v (Accept recipient ends stamp) = (recipient < length (phones_of v)) × (stamp < 3155760000) × (free_at v.lines recipient ≤ stamp)
+IsLawfulCheck v (Accept recipient ends stamp) =
+    (recipient < length (phones_of v)) × (stamp < 3155760000) × (free_at v.lines recipient ≤ stamp)

@@ -23,7 +23,8 @@ IsOnePiece a = concat_of_header a.submission.user.header ≡ None
 abbrev pub HasOwnKey : List AddressValue → Acceptance → List Acceptance → Type 0
 HasOwnKey phones a [] = Unit {0}
 HasOwnKey phones a (b ∷ past) =
-    (b.recipient ≡ a.recipient → IsOnePiece a → IsOnePiece b → same_key (key_in (delivery phones a false)) (key_in (delivery phones b false)) ≡ false)
+    (b.recipient ≡ a.recipient → IsOnePiece a → IsOnePiece b
+    → same_key (key_in (delivery phones a false)) (key_in (delivery phones b false)) ≡ false)
     × HasOwnKey phones a past
 
 abbrev pub HaveOwnKeys : List AddressValue → List Acceptance → Type 0
@@ -32,4 +33,6 @@ HaveOwnKeys phones (a ∷ past) = HasOwnKey phones a past × HaveOwnKeys phones 
 
 -- Of all that the centre has ever accepted, deliveries of different one-piece messages to one phone have different keys.
 abbrev pub DeliveriesHaveOwnKeys : Type 0
-DeliveriesHaveOwnKeys = (limit : ℕ) (phones : List AddressValue) (calls : List Call) → HaveOwnKeys phones (called_all limit phones calls).accepted
+DeliveriesHaveOwnKeys =
+    (limit : ℕ) (phones : List AddressValue) (calls : List Call)
+    → HaveOwnKeys phones (called_all limit phones calls).accepted

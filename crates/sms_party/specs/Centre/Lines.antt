@@ -36,7 +36,8 @@ delivery_of m more =
     }
 
 abbrev pub new_line : AddressValue → LineValue
-new_line address = record { address = address; queue = []; free = 0; value = 0; reference = 0; latest = None }
+new_line address =
+    record { address = address; queue = []; free = 0; value = 0; reference = 0; latest = None }
 
 -- ---- a push, at one line
 
@@ -49,15 +50,23 @@ pushed_line line m others =
       queue = others ++ m ∷ [];
       value = (line.value + 1) % 7;
       reference = (line.reference + 1) % 256;
-      latest = Some (record { value = line.value; reference = line.reference; stamp = m.stamp; ends = m.ends });
+      latest = Some (record {
+        value = line.value;
+        reference = line.reference;
+        stamp = m.stamp;
+        ends = m.ends;
+      });
     }
 
 abbrev pub PushesFrom : LineValue → List WaitingValue → Result Step Dropped → LineValue → Type 0
 PushesFrom line queue (Err why) new = (why ≡ dropped.Memory) × (new ≡ line)
-PushesFrom line [] (Ok step) new = (step.outcome ≡ NothingWaits) × (packets_of step ≡ []) × (new ≡ line)
+PushesFrom line [] (Ok step) new =
+    (step.outcome ≡ NothingWaits) × (packets_of step ≡ []) × (new ≡ line)
 PushesFrom line (m ∷ others) (Ok step) new =
     (step.outcome ≡ Pushed)
-    × CarriesEach (packets_of step) (Data false (tag_in line) (Transfer ToPhone (Deliver (delivery_of m (is_more others)))) ∷ [])
+    × CarriesEach (packets_of step)
+    (Data false (tag_in line) (Transfer ToPhone (Deliver (delivery_of m (is_more others))))
+    ∷ [])
     × (new ≡ pushed_line line m others)
 
 abbrev pub LinePushes : LineValue → Result Step Dropped → LineValue → Type 0
@@ -66,18 +75,21 @@ LinePushes line result new = PushesFrom line line.queue result new
 -- ---- the answer to a push, at one line
 
 abbrev pub left_waiting : List WaitingValue → ℕ → Option ℕ → List WaitingValue
-left_waiting queue stamp cause = if stays cause then queue else filter (λ m. not (m.stamp == stamp)) queue
+left_waiting queue stamp cause =
+    if stays cause then queue else filter (λ m. not (m.stamp == stamp)) queue
 
 abbrev pub is_awaited : ℕ → Tag → Push → Bool
 is_awaited now tag p = (tag.value == p.value && tag.reference == p.reference) && nat_lt now p.ends
 
-abbrev pub HearsFor : ℕ → Tag → Option ℕ → LineValue → Option Push → Result Step Dropped → LineValue → Type 0
+abbrev pub HearsFor : ℕ → Tag → Option ℕ → LineValue → Option Push → Result Step Dropped → LineValue
+    → Type 0
 HearsFor now tag cause line latest (Err dropped.Memory) new = new ≡ line
 HearsFor now tag cause line (Some p) (Ok step) new =
     (is_awaited now tag p ≡ true) × (step.outcome ≡ verdict cause)
     × CarriesEach (packets_of step) (Note false tag.value ∷ [])
     × (new ≡ record line { queue = left_waiting line.queue p.stamp cause; latest = None })
-HearsFor now tag cause line (Some p) (Err dropped.Unmatched) new = (is_awaited now tag p ≡ false) × (new ≡ line)
+HearsFor now tag cause line (Some p) (Err dropped.Unmatched) new =
+    (is_awaited now tag p ≡ false) × (new ≡ line)
 HearsFor now tag cause line None (Err dropped.Unmatched) new = new ≡ line
 HearsFor now tag cause line _ _ new = ⊥
 
@@ -87,7 +99,8 @@ LineHears now tag cause line result new = HearsFor now tag cause line line.lates
 -- ---- the lines of all phones
 
 -- the line of this phone became another one in this way, and the others stay
-pub record ChangesLine (phone : ℕ) (old new : List LineValue) (How : LineValue → LineValue → Type 0) : Type 0 where
+pub record ChangesLine (phone : ℕ) (old new : List LineValue)
+    (How : LineValue → LineValue → Type 0) : Type 0 where
   pub before : LineValue
   pub after : LineValue
   pub is_there : slice_get old phone ≡ Some before
@@ -98,7 +111,8 @@ pub record ChangesLine (phone : ℕ) (old new : List LineValue) (How : LineValue
 
 -- the message with this stamp is gone, if it has ended
 abbrev pub forgetting_line : ℕ → ℕ → LineValue → LineValue
-forgetting_line now stamp line = record line { queue = filter (λ m. not (m.stamp == stamp) || nat_lt now m.ends) line.queue }
+forgetting_line now stamp line =
+    record line { queue = filter (λ m. not (m.stamp == stamp) || nat_lt now m.ends) line.queue }
 
 -- ---- an acceptance, at one line
 

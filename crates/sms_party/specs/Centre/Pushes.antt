@@ -38,16 +38,27 @@ is_more (a ∷ others) = true
 -- the message goes to the end of the queue, and is the latest push
 abbrev pub after_push : Line → Acceptance → List Acceptance → Line
 after_push l a others =
-    record { queue = others ++ a ∷ []; pushes = suc l.pushes; latest = Some (record { tag = tag_of l.pushes; message = a }) }
+    record {
+      queue = others ++ a ∷ [];
+      pushes = suc l.pushes;
+      latest = Some (record { tag = tag_of l.pushes; message = a });
+    }
 
 -- The first of the messages that wait is put out, with the next tag of its phone, flag 0.
-unfoldable pub pushes_first : List AddressValue → CentreState → ℕ → List Acceptance → Does CentreState
+unfoldable pub pushes_first : List AddressValue → CentreState → ℕ → List Acceptance
+    → Does CentreState
 pushes_first phones c phone [] = record { answer = Ok NothingWaits; put = []; after = c }
 pushes_first phones c phone (a ∷ others) =
     record {
       answer = Ok Pushed;
-      put = Data false (tag_of (c.line phone).pushes) (Transfer ToPhone (Deliver (delivery phones a (is_more others)))) ∷ [];
-      after = record { accepted = c.accepted; line = changed c.line phone (after_push (c.line phone) a others) };
+      put =
+          Data false (tag_of (c.line phone).pushes)
+          (Transfer ToPhone (Deliver (delivery phones a (is_more others))))
+          ∷ [];
+      after = record {
+        accepted = c.accepted;
+        line = changed c.line phone (after_push (c.line phone) a others);
+      };
     }
 
 -- Those messages wait that are neither delivered nor abandoned, and whose validity has not ended.

@@ -12,7 +12,8 @@ pub data Call : Type 0 where
   Push : (now : ℕ) → (phone : ℕ) → Call
 
 abbrev pub called : ℕ → List AddressValue → CentreState → Call → CentreState
-called limit phones c (Receive now phone message origin) = (centre_receives limit phones c now phone message origin).after
+called limit phones c (Receive now phone message origin) =
+    (centre_receives limit phones c now phone message origin).after
 called limit phones c (Push now phone) = (centre_pushes phones c now phone).after
 
 -- the centre after a list of calls, the last first
@@ -23,7 +24,8 @@ called_all limit phones (call ∷ past) = called limit phones (called_all limit 
 -- those of the list to this recipient have lower stamps
 abbrev pub AreBelow : List Acceptance → ℕ → ℕ → Type 0
 AreBelow [] recipient stamp = Unit {0}
-AreBelow (a ∷ past) recipient stamp = (a.recipient ≡ recipient → a.stamp < stamp) × AreBelow past recipient stamp
+AreBelow (a ∷ past) recipient stamp =
+    (a.recipient ≡ recipient → a.stamp < stamp) × AreBelow past recipient stamp
 
 -- the stamps given to one recipient rise
 abbrev pub IsRising : List Acceptance → Type 0
@@ -31,4 +33,6 @@ IsRising [] = Unit {0}
 IsRising (a ∷ past) = AreBelow past a.recipient a.stamp × IsRising past
 
 abbrev pub StampsRise : Type 0
-StampsRise = (limit : ℕ) (phones : List AddressValue) (calls : List Call) → IsRising (called_all limit phones calls).accepted
+StampsRise =
+    (limit : ℕ) (phones : List AddressValue) (calls : List Call)
+    → IsRising (called_all limit phones calls).accepted

@@ -13,12 +13,20 @@ pub record HeldStands (clock : ℕ) (accepted : List Acceptance) (v : HeldValue)
   -- none that has ended
   pub left : All (λ e. clock < e.end) v.endings
   -- as many as have not ended, at each moment
-  pub count : (now : ℕ) → clock ≤ now → length (endings_after now v.endings) ≡ length (unended accepted now)
+  pub count : (now : ℕ) → clock ≤ now
+      → length (endings_after now v.endings) ≡ length (unended accepted now)
   pub kept : (phone reference recipient now : ℕ) → clock ≤ now
-      → is_kept v.last (key_of phone reference recipient) now ≡ is_held accepted phone reference recipient now
+      → is_kept v.last (key_of phone reference recipient) now
+      ≡ is_held accepted phone reference recipient now
 
 abbrev pub waiting_of : List AddressValue → Acceptance → WaitingValue
-waiting_of phones a = record { origin = address_of phones a.phone; submission = a.submission; stamp = a.stamp; ends = a.ends }
+waiting_of phones a =
+    record {
+      origin = address_of phones a.phone;
+      submission = a.submission;
+      stamp = a.stamp;
+      ends = a.ends;
+    }
 
 abbrev pub waiting_in : List AddressValue → List Acceptance → List WaitingValue
 waiting_in phones [] = []
@@ -26,9 +34,16 @@ waiting_in phones (a ∷ queue) = waiting_of phones a ∷ waiting_in phones queu
 
 abbrev pub push_of : Option Pushing → Option Push
 push_of None = None
-push_of (Some p) = Some (record { value = p.tag.value; reference = p.tag.reference; stamp = p.message.stamp; ends = p.message.ends })
+push_of (Some p) =
+    Some (record {
+      value = p.tag.value;
+      reference = p.tag.reference;
+      stamp = p.message.stamp;
+      ends = p.message.ends;
+    })
 
-pub record LineStands (phones : List AddressValue) (clock : ℕ) (accepted : List Acceptance) (recipient : ℕ) (v : LineValue) (l : Line) : Type 0 where
+pub record LineStands (phones : List AddressValue) (clock : ℕ) (accepted : List Acceptance)
+    (recipient : ℕ) (v : LineValue) (l : Line) : Type 0 where
   pub queue : v.queue ≡ waiting_in phones (unended l.queue clock)
   pub free : (now : ℕ) → next_stamp accepted recipient now ≡ max v.free now
   pub value : v.value ≡ l.pushes % 7
@@ -37,8 +52,10 @@ pub record LineStands (phones : List AddressValue) (clock : ℕ) (accepted : Lis
 
 -- The centre stands for a state at a moment: its limit and phones are these, it holds the messages that have not ended
 -- then, and each line stands for that of its phone.
-pub record StandsFor (limit : ℕ) (phones : List AddressValue) (clock : ℕ) (v : CentreValue) (c : CentreState) : Type 0 where
+pub record StandsFor (limit : ℕ) (phones : List AddressValue) (clock : ℕ) (v : CentreValue)
+    (c : CentreState) : Type 0 where
   pub limit_is : v.limit ≡ limit
   pub phones_are : phones_of v ≡ phones
   pub held_stand : HeldStands clock c.accepted v.held
-  pub lines_stand : (r : ℕ) (line : LineValue) → slice_get v.lines r ≡ Some line → LineStands phones clock c.accepted r line (c.line r)
+  pub lines_stand : (r : ℕ) (line : LineValue) → slice_get v.lines r ≡ Some line
+      → LineStands phones clock c.accepted r line (c.line r)

@@ -17,18 +17,24 @@ use Rattle.sms_party.specs.declared.outcome.Outcome.TheVariants.{Held}
 
 -- an RP-ERROR with an SMS-SUBMIT-REPORT, whose stamp is that of now
 abbrev pub refuses : CentreState → ℕ → Tag → ℕ → ℕ → Does CentreState
-refuses c now tag cause failure = refuses_with c ToPhone tag cause (Some failure) (Some (submit_error_of failure now))
+refuses c now tag cause failure =
+    refuses_with c ToPhone tag cause (Some failure) (Some (submit_error_of failure now))
 
 -- the message goes to the end of its recipient's queue
 abbrev pub after_acceptance : Line → Acceptance → Line
 after_acceptance l a = record { queue = l.queue ++ a ∷ []; pushes = l.pushes; latest = l.latest }
 
 abbrev pub accept : CentreState → Acceptance → CentreState
-accept c a = record { accepted = a ∷ c.accepted; line = changed c.line a.recipient (after_acceptance (c.line a.recipient) a) }
+accept c a =
+    record {
+      accepted = a ∷ c.accepted;
+      line = changed c.line a.recipient (after_acceptance (c.line a.recipient) a);
+    }
 
 -- A submission is answered as it was checked. What is accepted is held from now on to the end of its validity; its report
 -- has the stamp that it was given.
-unfoldable pub checked : CentreState → ℕ → ℕ → Tag → Submission → Option Origin → Check → Does CentreState
+unfoldable pub checked : CentreState → ℕ → ℕ → Tag → Submission → Option Origin → Check
+    → Does CentreState
 checked c now phone tag s origin (Refuse cause failure) = refuses c now tag cause failure
 checked c now phone tag s origin (Accept recipient ends stamp) =
     record {
@@ -45,8 +51,10 @@ checked c now phone tag s origin (Accept recipient ends stamp) =
     }
 
 -- An SMS-SUBMIT is checked. Another type of unit: B0, TPDU not supported. A unit with another fault: FF, unspecified.
-unfoldable pub centre_takes : ℕ → List AddressValue → CentreState → ℕ → ℕ → Tag → TransferUnit → Option Origin → Does CentreState
+unfoldable pub centre_takes : ℕ → List AddressValue → CentreState → ℕ → ℕ → Tag → TransferUnit
+    → Option Origin → Does CentreState
 centre_takes limit phones c now phone tag (Submit s) origin =
-    checked c now phone tag s origin (checked_by limit phones (books_of c.accepted now phone s) now s)
+    checked c now phone tag s origin
+    (checked_by limit phones (books_of c.accepted now phone s) now s)
 centre_takes limit phones c now phone tag BadUnit origin = refuses c now tag 21 0xFF
 centre_takes limit phones c now phone tag _ origin = refuses c now tag 21 0xB0

@@ -12,7 +12,8 @@ use Rattle.sms_party.specs.declared.outcome.Dropped.TheVariants as dropped
 -- the messages of the queue but those with this stamp
 abbrev pub unqueued : List Acceptance → ℕ → List Acceptance
 unqueued [] stamp = []
-unqueued (a ∷ queue) stamp = if a.stamp == stamp then unqueued queue stamp else a ∷ unqueued queue stamp
+unqueued (a ∷ queue) stamp =
+    if a.stamp == stamp then unqueued queue stamp else a ∷ unqueued queue stamp
 
 -- With cause 22, memory capacity exceeded, the message waits on.
 abbrev pub stays : Option ℕ → Bool
@@ -28,7 +29,8 @@ verdict None = Delivered
 verdict (Some cause) = if cause == 22 then Returned else Abandoned
 
 abbrev pub after_answer : Line → Acceptance → Option ℕ → Line
-after_answer l a cause = record { queue = left_in l.queue a.stamp cause; pushes = l.pushes; latest = None }
+after_answer l a cause =
+    record { queue = left_in l.queue a.stamp cause; pushes = l.pushes; latest = None }
 
 -- The push of this message is answered: the centre puts out a CP-ACK.
 unfoldable pub settled : CentreState → ℕ → Tag → Acceptance → Option ℕ → Does CentreState
@@ -36,12 +38,18 @@ settled c phone tag a cause =
     record {
       answer = Ok (verdict cause);
       put = Note false tag.value ∷ [];
-      after = record { accepted = c.accepted; line = changed c.line phone (after_answer (c.line phone) a cause) };
+      after = record {
+        accepted = c.accepted;
+        line = changed c.line phone (after_answer (c.line phone) a cause);
+      };
     }
 
 -- An answer counts where it has the tag of the latest push to the phone, which was not answered yet and whose message is
 -- still held.
-unfoldable pub centre_hears : CentreState → ℕ → ℕ → Tag → Option ℕ → Option Pushing → Does CentreState
+unfoldable pub centre_hears : CentreState → ℕ → ℕ → Tag → Option ℕ → Option Pushing
+    → Does CentreState
 centre_hears c now phone tag cause None = drops c dropped.Unmatched
 centre_hears c now phone tag cause (Some p) =
-    if same_tag tag p.tag && nat_lt now p.message.ends then settled c phone tag p.message cause else drops c dropped.Unmatched
+    if same_tag tag p.tag && nat_lt now p.message.ends
+    then settled c phone tag p.message cause
+    else drops c dropped.Unmatched

@@ -17,7 +17,13 @@ answers side tag cause report = Note true tag.value ∷ Data true tag (Answer si
 -- Reports have no optional field and no header. The failure cause is TP-FCS, the stamp TP-SCTS, in zone 0.
 abbrev pub submit_ack_of : ℕ → Report
 submit_ack_of moment =
-    SubmitAck (record { has_header = false; stamp = stamp_octets moment; pid = None; dcs = None; user = None })
+    SubmitAck (record {
+      has_header = false;
+      stamp = stamp_octets moment;
+      pid = None;
+      dcs = None;
+      user = None;
+    })
 
 abbrev pub submit_error_of : ℕ → ℕ → Report
 submit_error_of failure moment =
@@ -35,4 +41,10 @@ plain_ack = DeliverAck (record { has_header = false; pid = None; dcs = None; use
 
 abbrev pub deliver_error_of : ℕ → Report
 deliver_error_of failure =
-    DeliverError (record { has_header = false; cause = failure; pid = None; dcs = None; user = None })
+    DeliverError (record {
+      has_header = false;
+      cause = failure;
+      pid = None;
+      dcs = None;
+      user = None;
+    })

@@ -34,7 +34,8 @@ SpellsReport side cause None None = Unit {0}
 SpellsReport ToPhone None (Some (SubmitAck r)) (Some octets) = SpellsSubmitAck r octets
 SpellsReport ToPhone (Some cause) (Some (SubmitError r)) (Some octets) = SpellsSubmitError r octets
 SpellsReport FromPhone None (Some (DeliverAck r)) (Some octets) = SpellsDeliverAck r octets
-SpellsReport FromPhone (Some cause) (Some (DeliverError r)) (Some octets) = SpellsDeliverError r octets
+SpellsReport FromPhone (Some cause) (Some (DeliverError r)) (Some octets) =
+    SpellsDeliverError r octets
 SpellsReport _ _ _ _ = ⊥
 
 -- A CP-ACK carries an acknowledgement. A CP-DATA carries a transfer with the centre's address and a unit, or the answer
@@ -43,7 +44,8 @@ abbrev pub Carries : List ℕ → Message → Type 0
 Carries packet (Note flag value) = carried.Carries flag value carried.acknowledgement packet
 Carries packet (Data flag tag (Transfer side unit)) =
     (octets : List ℕ) × SpellsUnit side unit octets
-    × carried.Carries flag tag.value (carried.transfer side tag.reference (Some centre_address) octets) packet
+    × carried.Carries flag tag.value
+    (carried.transfer side tag.reference (Some centre_address) octets) packet
 Carries packet (Data flag tag (Answer side cause report)) =
     (octets : Option (List ℕ)) × SpellsReport side cause report octets
     × carried.Carries flag tag.value (carried.answer side tag.reference cause octets) packet

@@ -21,11 +21,13 @@ use Rattle.sms_party.specs.declared.outcome.Outcome.TheVariants as outcome
 
 -- an RP-ERROR with an SMS-DELIVER-REPORT
 abbrev pub refuses : ReceiverState → Tag → ℕ → ℕ → Does ReceiverState
-refuses s tag cause failure = refuses_with s FromPhone tag cause (Some failure) (Some (deliver_error_of failure))
+refuses s tag cause failure =
+    refuses_with s FromPhone tag cause (Some failure) (Some (deliver_error_of failure))
 
 -- an RP-ACK with an SMS-DELIVER-REPORT
 abbrev pub accepts : Tag → Outcome → ReceiverState → Does ReceiverState
-accepts tag word after = record { answer = Ok word; put = answers FromPhone tag None (Some plain_ack); after = after }
+accepts tag word after =
+    record { answer = Ok word; put = answers FromPhone tag None (Some plain_ack); after = after }
 
 -- the taken pieces with one more, where it is of a typed text
 abbrev pub takes : List Arrival → Option Origin → Piece → List Arrival
@@ -33,13 +35,19 @@ takes taken None p = taken
 takes taken (Some origin) p = record { text = origin.text; piece = p } ∷ taken
 
 -- the phone when its joiner has answered the piece so, and its store is this
-abbrev pub after_piece : ReceiverLimits → ReceiverState → Piece → Option Origin → Answer → List Entry → ReceiverState
+abbrev pub after_piece : ReceiverLimits → ReceiverState → Piece → Option Origin → Answer
+    → List Entry → ReceiverState
 after_piece limits s p origin given store =
-    record { joiner = answered limits.remembered s.joiner p given; store = store; taken = takes s.taken origin p }
+    record {
+      joiner = answered limits.remembered s.joiner p given;
+      store = store;
+      taken = takes s.taken origin p;
+    }
 
 -- The joiner answers a piece from this address. A repeat and a piece that is kept are acknowledged; a message that is
 -- whole goes to the store as its text. Too many open sets: D3, memory capacity exceeded, with RP-Cause 22.
-unfoldable pub settles : ReceiverLimits → ReceiverState → Tag → AddressValue → Piece → Option Origin → Answer → Does ReceiverState
+unfoldable pub settles : ReceiverLimits → ReceiverState → Tag → AddressValue → Piece → Option Origin
+    → Answer → Does ReceiverState
 settles limits s tag from p origin joiner.Repeat =
     accepts tag outcome.Repeat (after_piece limits s p origin joiner.Repeat s.store)
 settles limits s tag from p origin joiner.Kept =
@@ -54,13 +62,16 @@ abbrev pub is_full_for : ReceiverLimits → ReceiverState → Piece → Bool
 is_full_for limits s p = nat_le limits.store (length s.store) && would_finish s.joiner p
 
 -- The store is asked before the joiner is.
-unfoldable pub receiver_offers : ReceiverLimits → ReceiverState → Tag → AddressValue → Piece → Option Origin → Does ReceiverState
+unfoldable pub receiver_offers : ReceiverLimits → ReceiverState → Tag → AddressValue → Piece
+    → Option Origin → Does ReceiverState
 receiver_offers limits s tag from p origin =
     if is_full_for limits s p
     then refuses s tag 22 0xD3
     else settles limits s tag from p origin (answer limits.open_max s.joiner p)
 
 -- A body that is no text's: 90, data coding scheme (alphabet) not supported.
-abbrev pub offers_units : ReceiverLimits → ReceiverState → ℕ → Tag → Delivery → Option Origin → Option Units → Does ReceiverState
+abbrev pub offers_units : ReceiverLimits → ReceiverState → ℕ → Tag → Delivery → Option Origin
+    → Option Units → Does ReceiverState
 offers_units limits s now tag d origin None = refuses s tag 111 0x90
-offers_units limits s now tag d origin (Some us) = receiver_offers limits s tag d.origin (piece_in now d us) origin
+offers_units limits s now tag d origin (Some us) =
+    receiver_offers limits s tag d.origin (piece_in now d us) origin

@@ -22,7 +22,8 @@ pub record ReceiverValue : Type 0 where
 
 -- The phone stands for a state: its joiner holds the same, in whatever order, and its store is the state's, in the other
 -- order.
-pub record StandsFor (limits : ReceiverLimits) (v : ReceiverValue) (s : ReceiverState) : Type 0 where
+pub record StandsFor (limits : ReceiverLimits) (v : ReceiverValue)
+    (s : ReceiverState) : Type 0 where
   pub limit_is : v.limit ≡ limits.store
   pub open_max_is : v.joiner.open_max ≡ limits.open_max
   pub remembered_is : v.joiner.remembered ≡ limits.remembered
@@ -30,11 +31,13 @@ pub record StandsFor (limits : ReceiverLimits) (v : ReceiverValue) (s : Receiver
   pub store_is : v.store ≡ reverse s.store
 
 -- In a state the phone did this: what is said of each party (Does), where the value stands for the state.
-abbrev pub ReceiverAnswers : ReceiverLimits → ReceiverState → Does ReceiverState → Result Step Dropped → ReceiverValue → Type 0
+abbrev pub ReceiverAnswers : ReceiverLimits → ReceiverState → Does ReceiverState
+    → Result Step Dropped → ReceiverValue → Type 0
 ReceiverAnswers limits s d result v = Answered (λ after. StandsFor limits v after) s d result
 
 -- From each state that the old value stands for there is a step to a state that the new one stands for.
-abbrev pub Steps : (ReceiverLimits → ReceiverState → Option Origin → Does ReceiverState) → ReceiverValue → Result Step Dropped → ReceiverValue → Type 0
+abbrev pub Steps : (ReceiverLimits → ReceiverState → Option Origin → Does ReceiverState)
+    → ReceiverValue → Result Step Dropped → ReceiverValue → Type 0
 Steps does old result new =
     (limits : ReceiverLimits) (s : ReceiverState) (origin : Option Origin) → StandsFor limits old s
     → ReceiverAnswers limits s (does limits s origin) result new
@@ -47,7 +50,8 @@ IsNew limits v = StandsFor limits v new_receiver
 -- whatever number of segments each text has.
 abbrev pub AgesTo : ℕ → ReceiverValue → ReceiverValue → Type 0
 AgesTo now old new =
-    (limits : ReceiverLimits) (s : ReceiverState) (size : ℕ → ℕ) → StandsFor limits old s → StandsFor limits new (ages size now s)
+    (limits : ReceiverLimits) (s : ReceiverState) (size : ℕ → ℕ) → StandsFor limits old s
+    → StandsFor limits new (ages size now s)
 
 -- Octets come: they are read as a message, and the phone does what the message makes it do, whatever segment the message
 -- is of. If memory runs out, it stands for the state that was.

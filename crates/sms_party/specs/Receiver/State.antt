@@ -16,7 +16,8 @@ pub record ReceiverLimits : Type 0 where
   pub store : ℕ
 
 abbrev pub limits_of : ℕ → ℕ → ℕ → ReceiverLimits
-limits_of open_max remembered store = record { open_max = open_max; remembered = remembered; store = store }
+limits_of open_max remembered store =
+    record { open_max = open_max; remembered = remembered; store = store }
 
 pub record ReceiverState : Type 0 where
   -- the pieces of messages that are not whole, and the keys of those that finished last

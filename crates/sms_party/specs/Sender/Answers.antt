@@ -36,28 +36,39 @@ accepts None report = true
 accepts (Some cause) report = is_duplicate (failure_of report)
 
 unfoldable pub advanced : Sender → Sender
-advanced s = record { pending = s.pending; accepted = suc s.accepted; tries = 0; outs = s.outs; ended = s.ended }
+advanced s =
+    record {
+      pending = s.pending;
+      accepted = suc s.accepted;
+      tries = 0;
+      outs = s.outs;
+      ended = s.ended;
+    }
 
 -- a CP-ACK
 abbrev pub noted : ℕ → Tag → List Sent
 noted phone tag = bare (Centre phone) (Note false tag.value) ∷ []
 
 -- the waiting segment of text n is answered: it is accepted, or not, and others of the text follow, or none
-unfoldable pub hears : SenderState → ℕ → Tag → Sender → ℕ → List ℕ → (good more : Bool) → Outcome → Sends SenderState
+unfoldable pub hears : SenderState → ℕ → Tag → Sender → ℕ → List ℕ → (good more : Bool) → Outcome
+    → Sends SenderState
 hears x phone tag s n later true true failed =
     does x phone (Segment (number_of (nth x.texts n)) (suc s.accepted)) (noted phone tag)
     (puts x.texts phone (advanced s) x.reject)
 hears x phone tag s n later true false failed =
-    does x phone (Accepted (number_of (nth x.texts n))) (noted phone tag) (puts x.texts phone (ends s n later true) x.reject)
+    does x phone (Accepted (number_of (nth x.texts n))) (noted phone tag)
+    (puts x.texts phone (ends s n later true) x.reject)
 hears x phone tag s n later false more failed =
     does x phone failed (noted phone tag) (puts x.texts phone (ends s n later false) x.reject)
 
 -- An answer counts where a segment waits, and where it has the tag of the latest putting out.
-unfoldable pub matches : SenderState → ℕ → Tag → Sender → List ℕ → Option ℕ → Option Report → Sends SenderState
+unfoldable pub matches : SenderState → ℕ → Tag → Sender → List ℕ → Option ℕ → Option Report
+    → Sends SenderState
 matches x phone tag s [] cause report = sender_drops x dropped.Unmatched
 matches x phone tag s (n ∷ later) cause report =
     if same_tag tag (tag_of (s.outs - 1))
-    then hears x phone tag s n later (accepts cause report) (nat_lt (suc s.accepted) (size_of (nth x.texts n)))
+    then hears x phone tag s n later (accepts cause report)
+    (nat_lt (suc s.accepted) (size_of (nth x.texts n)))
     (Failed (number_of (nth x.texts n)) (unwrap_or cause 0) (failure_of report))
     else sender_drops x dropped.Unmatched
 

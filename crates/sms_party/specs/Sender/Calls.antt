@@ -9,12 +9,20 @@ use Rattle.sms_party.specs.Sender.Texts.{Text, Sender, SenderState, new_text, nu
 use Rattle.sms_party.specs.Sender.Putting.{puts, sender_drops, does}
 
 unfoldable pub appended : Sender → ℕ → Sender
-appended s n = record { pending = s.pending ++ n ∷ []; accepted = s.accepted; tries = s.tries; outs = s.outs; ended = s.ended }
+appended s n =
+    record {
+      pending = s.pending ++ n ∷ [];
+      accepted = s.accepted;
+      tries = s.tries;
+      outs = s.outs;
+      ended = s.ended;
+    }
 
 -- a segment is put out only where no text waited
 unfoldable pub typed : SenderState → ℕ → Text → Sends SenderState
 typed x phone t =
-    does (record { wide = x.wide; reject = x.reject; texts = t ∷ x.texts; sender = x.sender }) phone (Typed t.number) []
+    does (record { wide = x.wide; reject = x.reject; texts = t ∷ x.texts; sender = x.sender }) phone
+    (Typed t.number) []
     (if length (x.sender phone).pending == 0
     then puts (t ∷ x.texts) phone (appended (x.sender phone) (length x.texts)) x.reject
     else record { sent = []; sender = appended (x.sender phone) (length x.texts) })
@@ -28,7 +36,8 @@ composes x phone target characters pieces =
 
 -- the first text has ended
 unfoldable pub ends : Sender → ℕ → List ℕ → Bool → Sender
-ends s n later good = record { pending = later; accepted = 0; tries = 0; outs = s.outs; ended = (n, good) ∷ s.ended }
+ends s n later good =
+    record { pending = later; accepted = 0; tries = 0; outs = s.outs; ended = (n, good) ∷ s.ended }
 
 -- put out fewer than four times: once more, duplicates to be rejected; else the text has failed
 unfoldable pub repeats : SenderState → ℕ → Sender → List ℕ → Sends SenderState
@@ -36,7 +45,8 @@ repeats x phone s [] = record { answer = Ok Idle; put = []; after = x }
 repeats x phone s (n ∷ later) =
     if nat_lt s.tries 4
     then does x phone (Repeated (number_of (nth x.texts n))) [] (puts x.texts phone s true)
-    else does x phone (GaveUp (number_of (nth x.texts n))) [] (puts x.texts phone (ends s n later false) x.reject)
+    else does x phone (GaveUp (number_of (nth x.texts n))) []
+    (puts x.texts phone (ends s n later false) x.reject)
 
 unfoldable pub times_out : SenderState → ℕ → Sends SenderState
 times_out x phone = repeats x phone (x.sender phone) (x.sender phone).pending

@@ -10,12 +10,14 @@ use Rattle.sms_party.specs.Sender.Answers.{sender_takes}
 use Rattle.sms_party.specs.Sender.Stands.{status_if, status_of}
 
 pub data Call : Type 0 where
-  Compose : (phone : ℕ) → (target : AddressValue) → (characters : List ℕ) → (pieces : List Units) → Call
+  Compose : (phone : ℕ) → (target : AddressValue) → (characters : List ℕ) → (pieces : List Units)
+      → Call
   TimeOut : (phone : ℕ) → Call
   Take : (phone : ℕ) → Message → Call
 
 abbrev pub called : SenderState → Call → SenderState
-called x (Compose phone target characters pieces) = (composes x phone target characters pieces).after
+called x (Compose phone target characters pieces) =
+    (composes x phone target characters pieces).after
 called x (TimeOut phone) = (times_out x phone).after
 called x (Take phone message) = (sender_takes x phone message).after
 
@@ -27,9 +29,12 @@ called_all wide reject (call ∷ past) = called (called_all wide reject past) ca
 -- of these texts, and whether they were accepted, the status of each by its number at the phone is how it ended
 abbrev pub AreTold : SenderState → ℕ → List (ℕ × Bool) → Type 0
 AreTold x phone [] = Unit {0}
-AreTold x phone (e ∷ ended) = (status_of x phone (number_of (nth x.texts e.0)) ≡ Some (status_if e.1)) × AreTold x phone ended
+AreTold x phone (e ∷ ended) =
+    (status_of x phone (number_of (nth x.texts e.0)) ≡ Some (status_if e.1)) × AreTold x phone ended
 
 -- Whatever was typed and came to whichever phones, each text that has ended is told so.
 abbrev pub EndedAreTold : Type 0
 EndedAreTold =
-    (wide reject : Bool) (calls : List Call) (phone : ℕ) → AreTold (called_all wide reject calls) phone ((called_all wide reject calls).sender phone).ended
+    (wide reject : Bool) (calls : List Call) (phone : ℕ)
+    → AreTold (called_all wide reject calls) phone
+    ((called_all wide reject calls).sender phone).ended

@@ -13,6 +13,7 @@ use Rattle.sms_party.specs.Sender.Stands.{SenderStands}
 abbrev pub OthersLeaveSender : Type 0
 OthersLeaveSender =
     (phone other : ℕ) (v : SenderValue) (x : SenderState) → phone ≢ other → SenderStands phone v x
-    → ((target : AddressValue) (characters : List ℕ) (pieces : List Units) → SenderStands phone v (composes x other target characters pieces).after)
+    → ((target : AddressValue) (characters : List ℕ) (pieces : List Units)
+    → SenderStands phone v (composes x other target characters pieces).after)
     × SenderStands phone v (times_out x other).after
     × ((message : Message) → SenderStands phone v (sender_takes x other message).after)

@@ -22,12 +22,20 @@ puts_text phone s n reject None = record { sent = []; sender = s }
 puts_text phone s n reject (Some t) =
     record {
       sent = record {
-        message = Data false (tag_of s.outs) (Transfer FromPhone (Submit (submission_of t (suc s.accepted) reject)));
+        message =
+            Data false (tag_of s.outs)
+            (Transfer FromPhone (Submit (submission_of t (suc s.accepted) reject)));
         to = Centre phone;
         origin = Some (record { text = n; segment = suc s.accepted });
         about = Some s.outs;
       } ∷ [];
-      sender = record { pending = s.pending; accepted = s.accepted; tries = suc s.tries; outs = suc s.outs; ended = s.ended };
+      sender = record {
+        pending = s.pending;
+        accepted = s.accepted;
+        tries = suc s.tries;
+        outs = suc s.outs;
+        ended = s.ended;
+      };
     }
 
 unfoldable pub puts_first : List Text → ℕ → Sender → Bool → List ℕ → Puts
@@ -41,11 +49,13 @@ puts texts phone s reject = puts_first texts phone s reject s.pending
 -- ---- what a sender does
 
 unfoldable pub with_sender : SenderState → ℕ → Sender → SenderState
-with_sender x phone s = record { wide = x.wide; reject = x.reject; texts = x.texts; sender = changed x.sender phone s }
+with_sender x phone s =
+    record { wide = x.wide; reject = x.reject; texts = x.texts; sender = changed x.sender phone s }
 
 unfoldable pub sender_drops : SenderState → Dropped → Sends SenderState
 sender_drops x why = record { answer = Err why; put = []; after = x }
 
 -- the outcome, and what is put out before the segment
 unfoldable pub does : SenderState → ℕ → Outcome → List Sent → Puts → Sends SenderState
-does x phone outcome first p = record { answer = Ok outcome; put = first ++ p.sent; after = with_sender x phone p.sender }
+does x phone outcome first p =
+    record { answer = Ok outcome; put = first ++ p.sent; after = with_sender x phone p.sender }

@@ -28,5 +28,7 @@ submission_of t s reject =
       target = t.target;
       pid = 0;
       dcs = dcs_of (piece_of t s);
-      user = user_of t.width t.set_reference (record { units = piece_of t s; maximum = length t.pieces; sequence = s });
+      user =
+          user_of t.width t.set_reference
+          (record { units = piece_of t s; maximum = length t.pieces; sequence = s });
     }

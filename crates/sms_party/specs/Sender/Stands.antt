@@ -36,7 +36,8 @@ pub record TextIs (phone number : ℕ) (texts : List Text) (v : TextValue) (n : 
 -- the texts that have not ended; the number says how many have
 abbrev pub ArePending : ℕ → ℕ → List Text → List TextValue → List ℕ → Type 0
 ArePending phone ended texts [] [] = Unit {0}
-ArePending phone ended texts (v ∷ vs) (n ∷ ns) = TextIs phone (suc ended) texts v n × ArePending phone (suc ended) texts vs ns
+ArePending phone ended texts (v ∷ vs) (n ∷ ns) =
+    TextIs phone (suc ended) texts v n × ArePending phone (suc ended) texts vs ns
 ArePending phone ended texts _ _ = ⊥
 
 -- a segment of the first text waits; where there is no text, none was accepted
@@ -53,7 +54,8 @@ statuses_of [] = []
 statuses_of (e ∷ ended) = statuses_of ended ++ status_if e.1 ∷ []
 
 -- the value keeps what is known of the sender, but for how often the waiting segment was put out
-pub record Keeps (phone : ℕ) (wide reject : Bool) (texts : List Text) (v : SenderValue) (s : Sender) : Type 0 where
+pub record Keeps (phone : ℕ) (wide reject : Bool) (texts : List Text) (v : SenderValue)
+    (s : Sender) : Type 0 where
   pub width_is : v.width ≡ width_of wide
   pub reject_is : v.reject ≡ reject
   pub pending_are : ArePending phone (length v.ended) texts v.pending s.pending
@@ -81,7 +83,8 @@ abbrev pub in_messages : Sends SenderState → Does SenderState
 in_messages d = record { answer = d.answer; put = messages_of d.put; after = d.after }
 
 -- From each state that the old value stands for, as whichever phone, there is a step to one that the new value stands for.
-abbrev pub Steps : (SenderState → ℕ → Sends SenderState) → SenderValue → Result Step Dropped → SenderValue → Type 0
+abbrev pub Steps : (SenderState → ℕ → Sends SenderState) → SenderValue → Result Step Dropped
+    → SenderValue → Type 0
 Steps does old result new =
     (phone : ℕ) (x : SenderState) → SenderStands phone old x
     → Answered (SenderStands phone new) x (in_messages (does x phone)) result
@@ -90,25 +93,32 @@ Steps does old result new =
 abbrev pub Receives : List ℕ → SenderValue → Result Step Dropped → SenderValue → Type 0
 Receives octets old (Err dropped.Memory) new = new ≡ old
 Receives octets old result new =
-    (message : Message) × ReadsAs octets message × Steps (λ x phone. sender_takes x phone message) old result new
+    (message : Message) × ReadsAs octets message
+    × Steps (λ x phone. sender_takes x phone message) old result new
 
 -- A text is typed: it has a cut, and the sender takes its pieces. Where too many texts wait, whatever its pieces are. Or
 -- memory ran out, and nothing has changed.
 abbrev pub Types : AddressValue → List ℕ → SenderValue → Result Step Dropped → SenderValue → Type 0
 Types target text old (Err dropped.Memory) new = new ≡ old
 Types target text old (Err dropped.Busy) new =
-    (pieces : List Units) → Steps (λ x phone. composes x phone target text pieces) old (Err dropped.Busy) new
+    (pieces : List Units)
+    → Steps (λ x phone. composes x phone target text pieces) old (Err dropped.Busy) new
 Types target text old result new =
-    (pieces : List Units) × IsCut old.width text pieces × Steps (λ x phone. composes x phone target text pieces) old result new
+    (pieces : List Units) × IsCut old.width text pieces
+    × Steps (λ x phone. composes x phone target text pieces) old result new
 
 -- Texts end in the order in which they were typed.
 abbrev pub status_of : SenderState → ℕ → ℕ → Option Status
-status_of x phone number = status_among (statuses_of (x.sender phone).ended ++ all_waiting (x.sender phone).pending) number
+status_of x phone number =
+    status_among (statuses_of (x.sender phone).ended ++ all_waiting (x.sender phone).pending) number
 
 -- the answer of `status`, in each state that the value stands for
 abbrev pub TellsStatus : SenderValue → ℕ → Option Status → Type 0
-TellsStatus v number told = (phone : ℕ) (x : SenderState) → SenderStands phone v x → told ≡ status_of x phone number
+TellsStatus v number told =
+    (phone : ℕ) (x : SenderState) → SenderStands phone v x → told ≡ status_of x phone number
 
 -- the value stands for the phone before any text was typed, whichever phone it is
 abbrev pub IsNewSender : Width → Bool → SenderValue → Type 0
-IsNewSender width reject v = (phone : ℕ) (wide : Bool) → width ≡ width_of wide → SenderStands phone v (new_senders wide reject)
+IsNewSender width reject v =
+    (phone : ℕ) (wide : Bool) → width ≡ width_of wide
+    → SenderStands phone v (new_senders wide reject)

@@ -47,7 +47,8 @@ new_sender = record { pending = []; accepted = 0; tries = 0; outs = 0; ended = [
 
 -- before any text was typed
 abbrev pub new_senders : Bool → Bool → SenderState
-new_senders wide reject = record { wide = wide; reject = reject; texts = []; sender = λ _. new_sender }
+new_senders wide reject =
+    record { wide = wide; reject = reject; texts = []; sender = λ _. new_sender }
 
 -- ---- a text is typed: its numbers
 
@@ -60,13 +61,16 @@ texts_of_phone (t ∷ texts) phone =
 -- how many segments these have
 abbrev pub segments_of : List Text → ℕ → ℕ
 segments_of [] phone = 0
-segments_of (t ∷ texts) phone = if t.phone == phone then length t.pieces + segments_of texts phone else segments_of texts phone
+segments_of (t ∷ texts) phone =
+    if t.phone == phone then length t.pieces + segments_of texts phone else segments_of texts phone
 
 -- how many of them have more than one segment
 abbrev pub sets_of : List Text → ℕ → ℕ
 sets_of [] phone = 0
 sets_of (t ∷ texts) phone =
-    if t.phone == phone && nat_lt 1 (length t.pieces) then suc (sets_of texts phone) else sets_of texts phone
+    if t.phone == phone && nat_lt 1 (length t.pieces)
+    then suc (sets_of texts phone)
+    else sets_of texts phone
 
 abbrev pub width_of : Bool → Width
 width_of wide = if wide then Sixteen else Eight

@@ -90,7 +90,8 @@ submission_in t place segment reject =
 
 abbrev pub segment_put : Tag → Bool → TextValue → ℕ → Option Segment → List Message
 segment_put tag reject t place None = []
-segment_put tag reject t place (Some segment) = Data false tag (Transfer FromPhone (Submit (submission_in t place segment reject))) ∷ []
+segment_put tag reject t place (Some segment) =
+    Data false tag (Transfer FromPhone (Submit (submission_in t place segment reject))) ∷ []
 
 -- the segment at a place, if there is one
 abbrev pub text_put : Tag → Bool → ℕ → Option TextValue → List Message
@@ -157,11 +158,16 @@ first_put v t = if length v.pending == 0 then text_put v.next v.reject v.accepte
 
 abbrev pub enters : SenderValue → TextValue → Does SenderValue
 enters v t =
-    record { answer = Ok (outcome.Typed (number_in v)); put = first_put v t; after = counted (entered v t) (first_put v t) }
+    record {
+      answer = Ok (outcome.Typed (number_in v));
+      put = first_put v t;
+      after = counted (entered v t) (first_put v t);
+    }
 
 -- the first text has ended, and these are left
 abbrev pub ended_with : SenderValue → List TextValue → Status → SenderValue
-ended_with v later status = record v { pending = later; accepted = 0; repeats = 0; ended = v.ended ++ status ∷ [] }
+ended_with v later status =
+    record v { pending = later; accepted = 0; repeats = 0; ended = v.ended ++ status ∷ [] }
 
 abbrev pub repeated : SenderValue → SenderValue
 repeated v = record v { repeats = v.repeats + 1 }
@@ -176,17 +182,22 @@ waits_no_more v (t ∷ later) =
 abbrev pub stepped : SenderValue → SenderValue
 stepped v = record v { accepted = v.accepted + 1; repeats = 0 }
 
-abbrev pub settles : SenderValue → List TextValue → (good more : Bool) → Outcome → List Message → Does SenderValue
-settles v later true true failed note = puts_out (stepped v) v.reject (outcome.Segment (length v.ended + 1) (v.accepted + 1)) note
-settles v later true false failed note = puts_out (ended_with v later Accepted) v.reject (outcome.Accepted (length v.ended + 1)) note
+abbrev pub settles : SenderValue → List TextValue → (good more : Bool) → Outcome → List Message
+    → Does SenderValue
+settles v later true true failed note =
+    puts_out (stepped v) v.reject (outcome.Segment (length v.ended + 1) (v.accepted + 1)) note
+settles v later true false failed note =
+    puts_out (ended_with v later Accepted) v.reject (outcome.Accepted (length v.ended + 1)) note
 settles v later false more failed note = puts_out (ended_with v later Failed) v.reject failed note
 
-abbrev pub hears_at : SenderValue → Tag → Option ℕ → Option Report → List TextValue → Does SenderValue
+abbrev pub hears_at : SenderValue → Tag → Option ℕ → Option Report → List TextValue
+    → Does SenderValue
 hears_at v tag cause report [] = record { answer = Err dropped.Unmatched; put = []; after = v }
 hears_at v tag cause report (t ∷ later) =
     if same_tag tag v.latest
     then settles v later (accepts cause report) (nat_lt (v.accepted + 1) (length t.segments))
-    (outcome.Failed (length v.ended + 1) (unwrap_or cause 0) (failure_of report)) (Note false tag.value ∷ [])
+    (outcome.Failed (length v.ended + 1) (unwrap_or cause 0) (failure_of report))
+    (Note false tag.value ∷ [])
     else record { answer = Err dropped.Unmatched; put = []; after = v }
 
 -- ---- the parts of a call
@@ -197,7 +208,8 @@ puts_again v = puts_out (repeated v) true (outcome.Repeated (length v.ended + 1)
 
 -- the next segment of the first text is put out, after a note
 abbrev pub puts_next : SenderValue → List Message → Does SenderValue
-puts_next v note = puts_out (stepped v) v.reject (outcome.Segment (length v.ended + 1) (v.accepted + 1)) note
+puts_next v note =
+    puts_out (stepped v) v.reject (outcome.Segment (length v.ended + 1) (v.accepted + 1)) note
 
 -- the first text ends, and the first segment of the next one is put out, after a note
 abbrev pub ends_first : SenderValue → Outcome → Status → List Message → Does SenderValue

@@ -37,7 +37,9 @@ deliver_ack = do
 
 -- how it is written
 abbrev pub deliver_ack_octets : DeliverAckValue → List ℕ
-deliver_ack_octets r = deliver_report_octet r.has_header ∷ indicator_octet (indicator_of (parts_in r)) ∷ parts_octets (parts_in r)
+deliver_ack_octets r =
+    deliver_report_octet r.has_header ∷ indicator_octet (indicator_of (parts_in r))
+    ∷ parts_octets (parts_in r)
 
 abbrev pub SpellsDeliverAck : DeliverAckValue → List ℕ → Type 0
 SpellsDeliverAck r octets = IsDeliverAck r × (octets ≡ deliver_ack_octets r)

@@ -38,11 +38,19 @@ deliver_error = do
   there ← indicator
   -- TP-PID, TP-DCS, TP-UDL and TP-UD, where they are there
   those ← parts there
-  always (record { has_header = header; cause = cause; pid = those.pid; dcs = those.dcs; user = those.user })
+  always (record {
+    has_header = header;
+    cause = cause;
+    pid = those.pid;
+    dcs = those.dcs;
+    user = those.user;
+  })
 
 -- how it is written
 abbrev pub deliver_error_octets : DeliverErrorValue → List ℕ
-deliver_error_octets r = deliver_report_octet r.has_header ∷ r.cause ∷ indicator_octet (indicator_of (parts_in r)) ∷ parts_octets (parts_in r)
+deliver_error_octets r =
+    deliver_report_octet r.has_header ∷ r.cause ∷ indicator_octet (indicator_of (parts_in r))
+    ∷ parts_octets (parts_in r)
 
 abbrev pub SpellsDeliverError : DeliverErrorValue → List ℕ → Type 0
 SpellsDeliverError r octets = IsDeliverError r × (octets ≡ deliver_error_octets r)

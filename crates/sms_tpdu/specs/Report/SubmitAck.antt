@@ -40,11 +40,19 @@ submit_ack = do
   stamp ← time.stamp Short
   -- TP-PID, TP-DCS, TP-UDL and TP-UD, where they are there
   those ← parts there
-  always (record { has_header = header; stamp = stamp; pid = those.pid; dcs = those.dcs; user = those.user })
+  always (record {
+    has_header = header;
+    stamp = stamp;
+    pid = those.pid;
+    dcs = those.dcs;
+    user = those.user;
+  })
 
 -- how it is written
 abbrev pub submit_ack_octets : SubmitAckValue → List ℕ
-submit_ack_octets r = submit_report_octet r.has_header ∷ indicator_octet (indicator_of (parts_in r)) ∷ (r.stamp ++ parts_octets (parts_in r))
+submit_ack_octets r =
+    submit_report_octet r.has_header ∷ indicator_octet (indicator_of (parts_in r))
+    ∷ (r.stamp ++ parts_octets (parts_in r))
 
 abbrev pub SpellsSubmitAck : SubmitAckValue → List ℕ → Type 0
 SpellsSubmitAck r octets = IsSubmitAck r × (octets ≡ submit_ack_octets r)

@@ -45,11 +45,20 @@ submit_error = do
   stamp ← time.stamp Short
   -- TP-PID, TP-DCS, TP-UDL and TP-UD, where they are there
   those ← parts there
-  always (record { has_header = header; cause = cause; stamp = stamp; pid = those.pid; dcs = those.dcs; user = those.user })
+  always (record {
+    has_header = header;
+    cause = cause;
+    stamp = stamp;
+    pid = those.pid;
+    dcs = those.dcs;
+    user = those.user;
+  })
 
 -- how it is written
 abbrev pub submit_error_octets : SubmitErrorValue → List ℕ
-submit_error_octets r = submit_report_octet r.has_header ∷ r.cause ∷ indicator_octet (indicator_of (parts_in r)) ∷ (r.stamp ++ parts_octets (parts_in r))
+submit_error_octets r =
+    submit_report_octet r.has_header ∷ r.cause ∷ indicator_octet (indicator_of (parts_in r))
+    ∷ (r.stamp ++ parts_octets (parts_in r))
 
 abbrev pub SpellsSubmitError : SubmitErrorValue → List ℕ → Type 0
 SpellsSubmitError r octets = IsSubmitError r × (octets ≡ submit_error_octets r)

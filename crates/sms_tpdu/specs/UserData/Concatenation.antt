@@ -8,8 +8,10 @@ use Rattle.sms_tpdu.specs.UserData.Elements.{Element, AreElements}
 
 -- identifier 00 with the reference in one octet; identifier 08 with the reference in two, the high one first
 abbrev pub element_for : Width → ℕ → ℕ → ℕ → Element
-element_for Eight reference maximum sequence = record { identifier = 0; octets = reference ∷ maximum ∷ sequence ∷ [] }
-element_for Sixteen reference maximum sequence = record { identifier = 8; octets = reference / 256 ∷ reference % 256 ∷ maximum ∷ sequence ∷ [] }
+element_for Eight reference maximum sequence =
+    record { identifier = 0; octets = reference ∷ maximum ∷ sequence ∷ [] }
+element_for Sixteen reference maximum sequence =
+    record { identifier = 8; octets = reference / 256 ∷ reference % 256 ∷ maximum ∷ sequence ∷ [] }
 
 abbrev pub concat_element : Concat → Element
 concat_element c = element_for c.width c.reference c.maximum c.sequence

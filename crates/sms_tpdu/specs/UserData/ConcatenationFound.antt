@@ -15,9 +15,23 @@ in_order c = if nat_le 1 c.sequence && nat_le c.sequence c.maximum then Some c e
 -- the place that an element with this identifier and these octets tells
 abbrev pub told_by : ℕ → List ℕ → Option Concat
 told_by identifier (reference ∷ maximum ∷ sequence ∷ []) =
-    if identifier == 0 then in_order (record { width = Eight; reference = reference; maximum = maximum; sequence = sequence }) else None
+    if identifier == 0
+    then in_order (record {
+      width = Eight;
+      reference = reference;
+      maximum = maximum;
+      sequence = sequence;
+    })
+    else None
 told_by identifier (high ∷ low ∷ maximum ∷ sequence ∷ []) =
-    if identifier == 8 then in_order (record { width = Sixteen; reference = 256 * high + low; maximum = maximum; sequence = sequence }) else None
+    if identifier == 8
+    then in_order (record {
+      width = Sixteen;
+      reference = 256 * high + low;
+      maximum = maximum;
+      sequence = sequence;
+    })
+    else None
 told_by identifier _ = None
 
 -- the last place that the elements tell, after what was told before; none where the last element is cut; the first
@@ -50,15 +64,20 @@ IsPlace (Some c) = (0 < c.sequence) × (c.sequence ≤ c.maximum) × FitsWidth c
 
 -- a header has one list of elements
 abbrev pub ElementsAreOne : Type 0
-ElementsAreOne = (header : List ℕ) (elements others : List Element) → AreElements header elements → AreElements header others → others ≡ elements
+ElementsAreOne =
+    (header : List ℕ) (elements others : List Element) → AreElements header elements
+    → AreElements header others → others ≡ elements
 
 -- what is computed is the place that the header tells
 abbrev pub ConcatIsThere : Type 0
-ConcatIsThere = (header : List ℕ) → IsOctets header → IsConcatOf header (concat_of_header (Some header))
+ConcatIsThere =
+    (header : List ℕ) → IsOctets header → IsConcatOf header (concat_of_header (Some header))
 
 -- and the only one
 abbrev pub ConcatIsOne : Type 0
-ConcatIsOne = (header : List ℕ) (told : Option Concat) → IsOctets header → IsConcatOf header told → told ≡ concat_of_header (Some header)
+ConcatIsOne =
+    (header : List ℕ) (told : Option Concat) → IsOctets header → IsConcatOf header told
+    → told ≡ concat_of_header (Some header)
 
 abbrev pub ConcatIsPlace : Type 0
 ConcatIsPlace = (header : List ℕ) → IsOctets header → IsPlace (concat_of_header (Some header))

@@ -17,7 +17,9 @@ Spells elements header = flat_map element_octets elements ≡ header
 
 -- the elements of a header: those that spell it; none, where the last one would be cut
 abbrev pub AreElements : List ℕ → List Element → Type 0
-AreElements header elements = Spells elements header ⊎ ((elements ≡ []) × ((others : List Element) → Spells others header → ⊥))
+AreElements header elements =
+    Spells elements header
+    ⊎ ((elements ≡ []) × ((others : List Element) → Spells others header → ⊥))
 
 -- Octets that whole elements spell.
 pub record AreWhole (left : List ℕ) : Type 0 where

@@ -35,7 +35,8 @@ user_after place units = record { header = place_header place; body = units }
 
 -- there is room for the units after the octets of a header
 abbrev pub SeptetsHaveRoom : ℕ → List ℕ → Type 0
-SeptetsHaveRoom taken septets = (length_of_header Gsm7 taken + length septets ≤ 160) × AreSeptets septets
+SeptetsHaveRoom taken septets =
+    (length_of_header Gsm7 taken + length septets ≤ 160) × AreSeptets septets
 
 abbrev pub WideHaveRoom : ℕ → List ℕ → Type 0
 WideHaveRoom taken units = taken + 2 * length units ≤ 140

@@ -8,9 +8,11 @@ use Rattle.sms_tpdu.specs.declared.user_data.UserData.{UserData}
 
 -- the octets after the header, under a length
 abbrev pub user_data_in : Option (List ℕ) → Alphabet → ℕ → List ℕ → UserData
-user_data_in header alphabet count octets = record { header = header; body = body_of alphabet (length (header_octets header)) count octets }
+user_data_in header alphabet count octets =
+    record { header = header; body = body_of alphabet (length (header_octets header)) count octets }
 
-pub record IsUserDataIn (header : Option (List ℕ)) (alphabet : Alphabet) (count : ℕ) (octets : List ℕ) : Type 0 where
+pub record IsUserDataIn (header : Option (List ℕ)) (alphabet : Alphabet) (count : ℕ)
+    (octets : List ℕ) : Type 0 where
   pub few : count ≤ greatest_length alphabet
   pub room : length_of_header alphabet (length (header_octets header)) ≤ count
   pub whole : length octets ≡ octets_of_length alphabet count - length (header_octets header)

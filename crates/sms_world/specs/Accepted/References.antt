@@ -13,7 +13,8 @@ use Rattle.sms_world.specs.Orderly.Brought.{BringsSubmission}
 -- has not ended, that one is of the same segment of the same text.
 abbrev pub ReferencesAreNotUsedAgain : Machine → Event → Type 0
 ReferencesAreNotUsedAgain m event =
-    (phone : ℕ) (s : Submission) (o : Origin) → BringsSubmission m event phone s (Some o) → s.reject ≡ true
+    (phone : ℕ) (s : Submission) (o : Origin) → BringsSubmission m event phone s (Some o)
+    → s.reject ≡ true
     → (a : Acceptance) → Contains m.centre.accepted a → m.clock < a.ends → a.phone ≡ phone
     → a.submission.reference ≡ s.reference → a.submission.target ≡ s.target
     → a.origin ≡ Some o

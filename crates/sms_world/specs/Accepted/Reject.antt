@@ -18,7 +18,8 @@ abbrev pub AllReject : Type 0
 AllReject =
     (limits : Limits) (phones : List AddressValue) (past : List (Event × Told)) (m : Machine)
     → limits.reject ≡ true → Run (start limits phones) past m
-    → (event : Event) (phone : ℕ) (s : Submission) (origin : Option Origin) → BringsSubmission m event phone s origin
+    → (event : Event) (phone : ℕ) (s : Submission) (origin : Option Origin)
+    → BringsSubmission m event phone s origin
     → s.reject ≡ true
 
 -- the accepted submissions of the segment that comes have not ended

@@ -16,7 +16,8 @@ pub record OpenSetsAre (m : Machine) (phone : ℕ) : Type 0 where
   pub kept : (m.receiver phone).joiner.kept
       ≡ open_pieces (size_in m.senders.texts) (m.receiver phone).taken (m.receiver phone).taken
   -- no two open texts have one key
-  pub apart : OpenApart (texts_of m.phones m.senders.texts m.centre.accepted).key (size_in m.senders.texts) (m.receiver phone).taken
+  pub apart : OpenApart (texts_of m.phones m.senders.texts m.centre.accepted).key
+      (size_in m.senders.texts) (m.receiver phone).taken
 
 abbrev pub OpenSetsAreOpenTexts : Type 0
 OpenSetsAreOpenTexts =

@@ -50,7 +50,8 @@ pub record SubmissionOf (texts : List Text) (phone : ℕ) (s : Submission) (o : 
   pub reject : Bool
   pub is : s ≡ submission_of text o.segment reject
 
-pub record AcceptanceOf (phones : List AddressValue) (texts : List Text) (accepted : List Acceptance) (a : Acceptance) (o : Origin) : Type 0 where
+pub record AcceptanceOf (phones : List AddressValue) (texts : List Text)
+    (accepted : List Acceptance) (a : Acceptance) (o : Origin) : Type 0 where
   pub text : Text
   pub segment : IsSegmentOf texts o text
   pub sender : a.phone ≡ text.phone
@@ -59,7 +60,8 @@ pub record AcceptanceOf (phones : List AddressValue) (texts : List Text) (accept
   pub recipient : phone_at phones text.target ≡ Some a.recipient
   pub given : stamp_given accepted o ≡ Some a.stamp
 
-pub record DeliveryOf (phones : List AddressValue) (texts : List Text) (accepted : List Acceptance) (phone : ℕ) (d : Delivery) (o : Origin) : Type 0 where
+pub record DeliveryOf (phones : List AddressValue) (texts : List Text) (accepted : List Acceptance)
+    (phone : ℕ) (d : Delivery) (o : Origin) : Type 0 where
   pub text : Text
   pub segment : IsSegmentOf texts o text
   pub origin : d.origin ≡ address_of phones text.phone
@@ -72,42 +74,51 @@ pub record DeliveryOf (phones : List AddressValue) (texts : List Text) (accepted
 
 -- the acceptance is of a segment of a typed text
 abbrev pub IsTyped : List AddressValue → List Text → List Acceptance → Acceptance → Type 0
-IsTyped phones texts accepted a = (o : Origin) × (a.origin ≡ Some o) × AcceptanceOf phones texts accepted a o
+IsTyped phones texts accepted a =
+    (o : Origin) × (a.origin ≡ Some o) × AcceptanceOf phones texts accepted a o
 
 abbrev pub SubmitOf : List Text → Submission → Place → Option Origin → Type 0
 SubmitOf texts s (Centre phone) (Some o) = SubmissionOf texts phone s o
 SubmitOf texts s (Centre phone) None = ⊥
 SubmitOf texts s (Phone phone) origin = ⊥
 
-abbrev pub DeliverOf : List AddressValue → List Text → List Acceptance → Delivery → Place → Option Origin → Type 0
-DeliverOf phones texts accepted d (Phone phone) (Some o) = DeliveryOf phones texts accepted phone d o
+abbrev pub DeliverOf : List AddressValue → List Text → List Acceptance → Delivery → Place
+    → Option Origin → Type 0
+DeliverOf phones texts accepted d (Phone phone) (Some o) =
+    DeliveryOf phones texts accepted phone d o
 DeliverOf phones texts accepted d (Phone phone) None = ⊥
 DeliverOf phones texts accepted d (Centre phone) origin = ⊥
 
-abbrev pub UnitOf : List AddressValue → List Text → List Acceptance → TransferUnit → Place → Option Origin → Type 0
+abbrev pub UnitOf : List AddressValue → List Text → List Acceptance → TransferUnit → Place
+    → Option Origin → Type 0
 UnitOf phones texts accepted (Submit s) to origin = SubmitOf texts s to origin
 UnitOf phones texts accepted (Deliver d) to origin = DeliverOf phones texts accepted d to origin
 UnitOf phones texts accepted OtherUnit to origin = ⊥
 UnitOf phones texts accepted BadUnit to origin = ⊥
 
-abbrev pub RelayOf : List AddressValue → List Text → List Acceptance → Relay → Place → Option Origin → Type 0
-RelayOf phones texts accepted (Transfer side unit) to origin = UnitOf phones texts accepted unit to origin
+abbrev pub RelayOf : List AddressValue → List Text → List Acceptance → Relay → Place → Option Origin
+    → Type 0
+RelayOf phones texts accepted (Transfer side unit) to origin =
+    UnitOf phones texts accepted unit to origin
 RelayOf phones texts accepted (Answer side cause report) to origin = Unit {0}
 RelayOf phones texts accepted UnknownType to origin = ⊥
 RelayOf phones texts accepted Unreadable to origin = ⊥
 
-abbrev pub MessageOf : List AddressValue → List Text → List Acceptance → Message → Place → Option Origin → Type 0
+abbrev pub MessageOf : List AddressValue → List Text → List Acceptance → Message → Place
+    → Option Origin → Type 0
 MessageOf phones texts accepted NotCp to origin = ⊥
 MessageOf phones texts accepted (Note flag value) to origin = Unit {0}
 MessageOf phones texts accepted (Tiny flag value) to origin = ⊥
-MessageOf phones texts accepted (Data flag tag relay) to origin = RelayOf phones texts accepted relay to origin
+MessageOf phones texts accepted (Data flag tag relay) to origin =
+    RelayOf phones texts accepted relay to origin
 
 -- a submission or delivery is of a segment of a typed text, and has that text's piece
 abbrev pub IsSentOf : List AddressValue → List Text → List Acceptance → Sent → Type 0
 IsSentOf phones texts accepted x = MessageOf phones texts accepted x.message x.to x.origin
 
 abbrev pub IsPending : List Text → ℕ → ℕ → Type 0
-IsPending texts phone n = (t : Text) × (nth texts n ≡ Some t) × (t.phone ≡ phone) × (0 < length t.pieces)
+IsPending texts phone n =
+    (t : Text) × (nth texts n ≡ Some t) × (t.phone ≡ phone) × (0 < length t.pieces)
 
 -- how far the first pending text is
 abbrev pub IsUnderWay : List Text → List ℕ → ℕ → Type 0
@@ -117,16 +128,19 @@ IsUnderWay texts (n ∷ later) accepted = accepted < size_in texts n
 -- no two accepted submissions are of one segment
 abbrev pub AcceptedOnce : List Acceptance → Type 0
 AcceptedOnce [] = Unit {0}
-AcceptedOnce (a ∷ past) = ((o : Origin) → a.origin ≡ Some o → stamp_given past o ≡ None) × AcceptedOnce past
+AcceptedOnce (a ∷ past) =
+    ((o : Origin) → a.origin ≡ Some o → stamp_given past o ≡ None) × AcceptedOnce past
 
 pub record SenderSound (texts : List Text) (phone : ℕ) (s : Sender) : Type 0 where
   pub pending : Each (IsPending texts phone) s.pending
   pub under_way : IsUnderWay texts s.pending s.accepted
 
-pub record CentreSound (phones : List AddressValue) (texts : List Text) (c : CentreState) : Type 0 where
+pub record CentreSound (phones : List AddressValue) (texts : List Text)
+    (c : CentreState) : Type 0 where
   pub accepted : Each (IsTyped phones texts c.accepted) c.accepted
   pub once : AcceptedOnce c.accepted
-  pub queued : (r : ℕ) → Each (λ a. (a.recipient ≡ r) × IsTyped phones texts c.accepted a) (c.line r).queue
+  pub queued : (r : ℕ)
+      → Each (λ a. (a.recipient ≡ r) × IsTyped phones texts c.accepted a) (c.line r).queue
 
 -- The pieces of each typed text are its cut; every message of a segment has its text's piece; and each segment is accepted
 -- at most once, so that all deliveries of it have one stamp.

@@ -14,4 +14,5 @@ KeysAreOfFinished =
     (limits : Limits) (phones : List AddressValue) (past : List (Event × Told)) (m : Machine)
     → OrderlyRun (start limits phones) past m
     → (phone : ℕ) → (m.receiver phone).joiner.finished
-    ≡ map (texts_of m.phones m.senders.texts m.centre.accepted).key (take m.limits.remembered (finished m phone))
+    ≡ map (texts_of m.phones m.senders.texts m.centre.accepted).key
+    (take m.limits.remembered (finished m phone))

@@ -23,10 +23,13 @@ IsDistinct (n ∷ ns) = (is_listed ns n ≡ false) × IsDistinct ns
 pub record FinishedAre (m : Machine) (phone : ℕ) : Type 0 where
   pub typed : (n : ℕ) → is_listed (finished m phone) n ≡ true → IsTypedTo m phone n
   pub complete : (n : ℕ) → is_listed (finished m phone) n ≡ true → IsComplete m phone n
-  pub all : (n : ℕ) → IsTypedTo m phone n → IsComplete m phone n → is_listed (finished m phone) n ≡ true
+  pub all : (n : ℕ) → IsTypedTo m phone n → IsComplete m phone n
+      → is_listed (finished m phone) n ≡ true
   pub once : IsDistinct (finished m phone)
-  pub order : (n other : ℕ) → is_listed (finished m phone) n ≡ true → is_listed (finished m phone) other ≡ true
-      → (StandsBefore (finished m phone) n other ↔ CameEarlier (size_in m.senders.texts) (m.receiver phone).taken n other)
+  pub order : (n other : ℕ) → is_listed (finished m phone) n ≡ true
+      → is_listed (finished m phone) other ≡ true
+      → (StandsBefore (finished m phone) n other
+      ↔ CameEarlier (size_in m.senders.texts) (m.receiver phone).taken n other)
 
 abbrev pub FinishedTexts : Type 0
 FinishedTexts =

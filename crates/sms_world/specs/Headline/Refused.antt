@@ -34,11 +34,14 @@ no_room = Ok (Refused 22 (Some 0xD3))
 pub record StoreIsFull (m : Machine) (phone : ℕ) (o : Origin) : Type 0 where
   pub full : length (finished m phone) ≡ m.limits.store
   pub unfinished : is_listed (finished m phone) o.text ≡ false
-  pub last : (s : ℕ) → 0 < s → s ≤ size_in m.senders.texts o.text → s ≢ o.segment → IsTaken m phone o.text s
+  pub last : (s : ℕ) → 0 < s → s ≤ size_in m.senders.texts o.text → s ≢ o.segment
+      → IsTaken m phone o.text s
 
 -- As many texts are open as may be, no segment of this one's text was taken, and it is not the only one.
 pub record SetsAreFull (m : Machine) (phone : ℕ) (o : Origin) : Type 0 where
-  pub full : length (open_texts (size_in m.senders.texts) (m.receiver phone).taken (m.receiver phone).taken) ≡ m.limits.open_max
+  pub full :
+      length (open_texts (size_in m.senders.texts) (m.receiver phone).taken (m.receiver phone).taken)
+      ≡ m.limits.open_max
   pub none_taken : (s : ℕ) → ¬ IsTaken m phone o.text s
   pub more : 1 < size_in m.senders.texts o.text
 
@@ -46,7 +49,8 @@ pub record SetsAreFull (m : Machine) (phone : ℕ) (o : Origin) : Type 0 where
 abbrev pub Received : Machine → ℕ → Origin → Told → Machine → Type 0
 Received old phone o told new =
     (is_taking told ≡ true)
-    ⊎ ((told ≡ no_room) × (new.receiver phone ≡ old.receiver phone) × (StoreIsFull old phone o ⊎ SetsAreFull old phone o))
+    ⊎ ((told ≡ no_room) × (new.receiver phone ≡ old.receiver phone)
+    × (StoreIsFull old phone o ⊎ SetsAreFull old phone o))
     ⊎ ((told ≡ no_memory) × (new ≡ old))
 
 -- A delivery that comes in an orderly run is of a segment of a text that was typed to the phone, and it is refused only

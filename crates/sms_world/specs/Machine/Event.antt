@@ -26,7 +26,8 @@ pub data Event : Type 0 where
 
 -- An event as the machine meets it: a typed text with its cut into segments, octets with the message as which they are read.
 pub data Act : Type 0 where
-  Composes : (phone : ℕ) → (target : AddressValue) → (characters : List ℕ) → (pieces : List Units) → Act
+  Composes : (phone : ℕ) → (target : AddressValue) → (characters : List ℕ) → (pieces : List Units)
+      → Act
   Carries : (packet : ℕ) → Act
   TimesOut : (phone : ℕ) → Act
   Pushes : (phone : ℕ) → Act
@@ -36,9 +37,11 @@ pub data Act : Type 0 where
 -- The event is this act, where texts are cut for concatenation references of this width. (Each event is just one act.)
 abbrev pub Is : Width → Event → Act → Type 0
 Is width (Compose phone target characters) act =
-    (pieces : List Units) × IsText characters × IsCut width characters pieces × (act ≡ Composes phone target characters pieces)
+    (pieces : List Units) × IsText characters × IsCut width characters pieces
+    × (act ≡ Composes phone target characters pieces)
 Is width (Carry k) act = act ≡ Carries k
 Is width (Timeout phone) act = act ≡ TimesOut phone
 Is width (Push phone) act = act ≡ Pushes phone
 Is width (Tick seconds) act = act ≡ Ticks seconds
-Is width (Inject place octets) act = (message : Message) × IsOctets octets × ReadsAs octets message × (act ≡ Injects place message)
+Is width (Inject place octets) act =
+    (message : Message) × IsOctets octets × ReadsAs octets message × (act ≡ Injects place message)

@@ -58,7 +58,8 @@ to_centre phone [] = []
 to_centre phone (v ∷ vs) = bare (Centre phone) v ∷ to_centre phone vs
 
 abbrev pub receiver_limits : Limits → ReceiverLimits
-receiver_limits limits = record { open_max = limits.open_max; remembered = limits.remembered; store = limits.store }
+receiver_limits limits =
+    record { open_max = limits.open_max; remembered = limits.remembered; store = limits.store }
 
 -- The receiver of this phone did this.
 unfoldable pub by_receiver : Machine → ℕ → Does ReceiverState → Next
@@ -66,14 +67,18 @@ by_receiver m phone d =
     record {
       answer = of_party d.answer;
       put = to_centre phone d.put;
-      after = record m { sent = entered (to_centre phone d.put) m.sent; receiver = changed m.receiver phone d.after };
+      after = record m {
+        sent = entered (to_centre phone d.put) m.sent;
+        receiver = changed m.receiver phone d.after;
+      };
     }
 
 -- What the centre puts out goes to the phone.
 abbrev pub to_phone : ℕ → Option Origin → Option ℕ → List Message → List Sent
 to_phone phone origin about [] = []
 to_phone phone origin about (v ∷ vs) =
-    record { message = v; to = Phone phone; origin = origin; about = about } ∷ to_phone phone origin about vs
+    record { message = v; to = Phone phone; origin = origin; about = about }
+    ∷ to_phone phone origin about vs
 
 unfoldable pub of_centre : ℕ → Option Origin → Option ℕ → Does CentreState → Sends CentreState
 of_centre phone origin about d =
@@ -104,13 +109,17 @@ unfoldable pub comes_to_phone : Machine → ℕ → Message → Option Origin �
 comes_to_phone m phone NotCp origin = stays m (Err (Party dropped.NotCp))
 comes_to_phone m phone (Note flag value) origin = stays m (Ok Noted)
 comes_to_phone m phone (Tiny flag value) origin = stays m (Err (Party dropped.Unmatched))
-comes_to_phone m phone (Data true tag relay) origin = by_sender m (sender_receives m.senders phone tag relay)
+comes_to_phone m phone (Data true tag relay) origin =
+    by_sender m (sender_receives m.senders phone tag relay)
 comes_to_phone m phone (Data false tag relay) origin =
-    by_receiver m phone (receiver_opened (receiver_limits m.limits) (m.receiver phone) m.clock tag relay origin)
+    by_receiver m phone
+    (receiver_opened (receiver_limits m.limits) (m.receiver phone) m.clock tag relay origin)
 
 unfoldable pub comes : Machine → Place → Message → Option Origin → Option ℕ → Next
 comes m (Centre phone) message origin about =
-    by_centre m (of_centre phone None about (centre_receives m.limits.held m.phones m.centre m.clock phone message origin))
+    by_centre m
+    (of_centre phone None about
+    (centre_receives m.limits.held m.phones m.centre m.clock phone message origin))
 comes m (Phone phone) message origin about = comes_to_phone m phone message origin
 
 -- The packet of this number, counted from 1, if as many were put out.
@@ -133,7 +142,8 @@ aged_at texts clock r =
     }
 
 unfoldable pub ticked : Machine → ℕ → Machine
-ticked m clock = record m { clock = clock; receiver = λ p. aged_at m.senders.texts clock (m.receiver p) }
+ticked m clock =
+    record m { clock = clock; receiver = λ p. aged_at m.senders.texts clock (m.receiver p) }
 
 -- ---- an event
 
@@ -146,10 +156,12 @@ abbrev pub at_phone : Machine → ℕ → Next → Next
 at_phone m phone does = if nat_lt phone (length m.phones) then does else stays m (Err NoSuchPhone)
 
 unfoldable pub next : Machine → Act → Next
-next m (Composes phone target characters pieces) = at_phone m phone (by_sender m (composes m.senders phone target characters pieces))
+next m (Composes phone target characters pieces) =
+    at_phone m phone (by_sender m (composes m.senders phone target characters pieces))
 next m (Carries k) = carries m (packet m k)
 next m (TimesOut phone) = at_phone m phone (by_sender m (times_out m.senders phone))
-next m (Pushes phone) = at_phone m phone (by_centre m (pushed phone (centre_pushes m.phones m.centre m.clock phone)))
+next m (Pushes phone) =
+    at_phone m phone (by_centre m (pushed phone (centre_pushes m.phones m.centre m.clock phone)))
 next m (Ticks seconds) =
     if nat_lt (m.clock + seconds) end_of_2099
     then record { answer = Ok Ticked; put = []; after = ticked m (m.clock + seconds) }

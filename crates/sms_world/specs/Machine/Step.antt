@@ -29,14 +29,16 @@ Acts old act told put new =
 
 -- The event was answered so, and this was put out, the first packet first.
 abbrev pub Step : Machine → Event → Told → List Sent → Machine → Type 0
-Step old event told put new = (act : Act) × Is (width_of old.senders.wide) event act × Acts old act told put new
+Step old event told put new =
+    (act : Act) × Is (width_of old.senders.wide) event act × Acts old act told put new
 
 -- A run from the first state to the last, in which the condition holds at each event, of the machine as it is when the
 -- event comes.
 abbrev pub RunWith : (Machine → Event → Type 0) → Machine → List (Event × Told) → Machine → Type 0
 RunWith Keeps first [] last = first ≡ last
 RunWith Keeps first (e ∷ past) last =
-    (old : Machine) × RunWith Keeps first past old × Keeps old e.0 × ((put : List Sent) × Step old e.0 e.1 put last)
+    (old : Machine) × RunWith Keeps first past old × Keeps old e.0
+    × ((put : List Sent) × Step old e.0 e.1 put last)
 
 -- any run
 abbrev pub Run : Machine → List (Event × Told) → Machine → Type 0

@@ -17,26 +17,39 @@ use Rattle.sms_world.specs.Machine.Event.{Event, Carry}
 use Rattle.sms_world.specs.Machine.Next.{packet}
 
 -- The event brings this SMS-SUBMIT from a phone to the centre.
-pub record BringsSubmission (m : Machine) (event : Event) (phone : ℕ) (s : Submission) (origin : Option Origin) : Type 0 where
+pub record BringsSubmission (m : Machine) (event : Event) (phone : ℕ) (s : Submission)
+    (origin : Option Origin) : Type 0 where
   pub number : ℕ
   pub carries : event ≡ Carry number
   pub tag : Tag
   pub about : Option ℕ
   pub is : packet m number
-      ≡ Some (record { message = Data false tag (Transfer FromPhone (Submit s)); to = Centre phone; origin = origin; about = about })
+      ≡ Some (record {
+        message = Data false tag (Transfer FromPhone (Submit s));
+        to = Centre phone;
+        origin = origin;
+        about = about;
+      })
 
 -- The event brings this SMS-DELIVER to a phone.
-pub record BringsDelivery (m : Machine) (event : Event) (phone : ℕ) (d : Delivery) (origin : Option Origin) : Type 0 where
+pub record BringsDelivery (m : Machine) (event : Event) (phone : ℕ) (d : Delivery)
+    (origin : Option Origin) : Type 0 where
   pub number : ℕ
   pub carries : event ≡ Carry number
   pub tag : Tag
   pub about : Option ℕ
   pub is : packet m number
-      ≡ Some (record { message = Data false tag (Transfer ToPhone (Deliver d)); to = Phone phone; origin = origin; about = about })
+      ≡ Some (record {
+        message = Data false tag (Transfer ToPhone (Deliver d));
+        to = Phone phone;
+        origin = origin;
+        about = about;
+      })
 
 -- The event brings an RP-ACK or RP-ERROR with this transaction value and reference to a phone's sender. It answers the
 -- sender's putting out of this number, counted from 0.
-pub record BringsAnswer (m : Machine) (event : Event) (phone : ℕ) (tag : Tag) (about : Option ℕ) : Type 0 where
+pub record BringsAnswer (m : Machine) (event : Event) (phone : ℕ) (tag : Tag)
+    (about : Option ℕ) : Type 0 where
   pub number : ℕ
   pub carries : event ≡ Carry number
   pub side : Side
@@ -44,4 +57,9 @@ pub record BringsAnswer (m : Machine) (event : Event) (phone : ℕ) (tag : Tag) 
   pub report : Option Report
   pub origin : Option Origin
   pub is : packet m number
-      ≡ Some (record { message = Data true tag (Answer side cause report); to = Phone phone; origin = origin; about = about })
+      ≡ Some (record {
+        message = Data true tag (Answer side cause report);
+        to = Phone phone;
+        origin = origin;
+        about = about;
+      })

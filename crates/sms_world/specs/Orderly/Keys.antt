@@ -27,6 +27,8 @@ pub record HasKey (phones : List AddressValue) (t : Text) (d : Delivery) (c : Co
 -- differ, since stamps do.)
 abbrev pub NoKeyIsUsedAgain : Machine → Event → Type 0
 NoKeyIsUsedAgain m event =
-    (phone : ℕ) (d : Delivery) (o : Origin) (c : Concat) → BringsDelivery m event phone d (Some o) → concat_of_header d.user.header ≡ Some c
-    → (other : ℕ) (u : Text) → other ≢ o.text → nth m.senders.texts other ≡ Some u → HasKey m.phones u d c
+    (phone : ℕ) (d : Delivery) (o : Origin) (c : Concat) → BringsDelivery m event phone d (Some o)
+    → concat_of_header d.user.header ≡ Some c
+    → (other : ℕ) (u : Text) → other ≢ o.text → nth m.senders.texts other ≡ Some u
+    → HasKey m.phones u d c
     → ¬ (IsOpen m phone other ⊎ IsAmongLast m phone other)

@@ -32,7 +32,8 @@ key_in phones accepted n None = Single (address_of [] 0) []
 key_in phones accepted n (Some t) =
     if nat_lt 1 (length t.pieces)
     then Segmented (address_of phones t.phone) t.width t.set_reference (length t.pieces)
-    else Single (address_of phones t.phone) (stamp_in (stamp_given accepted (record { text = n; segment = 1 })))
+    else Single (address_of phones t.phone)
+    (stamp_in (stamp_given accepted (record { text = n; segment = 1 })))
 
 unfoldable pub texts_of : List AddressValue → List Text → List Acceptance → Texts
 texts_of phones texts accepted =

@@ -16,4 +16,5 @@ IsComplete m phone n = is_done (size_in m.senders.texts) (m.receiver phone).take
 -- It has taken some segment of the text, and not every one: the text is open there.
 abbrev pub IsOpen : Machine → ℕ → ℕ → Type 0
 IsOpen m phone n =
-    (has_text (m.receiver phone).taken n ≡ true) × (is_done (size_in m.senders.texts) (m.receiver phone).taken n ≡ false)
+    (has_text (m.receiver phone).taken n ≡ true)
+    × (is_done (size_in m.senders.texts) (m.receiver phone).taken n ≡ false)

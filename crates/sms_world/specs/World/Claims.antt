@@ -50,7 +50,8 @@ RefusesOnlyWhereFull event old told new =
     (limits : Limits) (phones : List AddressValue) (past : List (Event × Told)) (m : Machine)
     → OrderlyRun (start limits phones) past m → StandsFor old m → IsOrderly m event
     → (phone : ℕ) (d : Delivery) (origin : Option Origin) → BringsDelivery m event phone d origin
-    → (o : Origin) × (origin ≡ Some o) × IsTypedTo m phone o.text × ((n : Machine) × StandsFor new n × Received m phone o told n)
+    → (o : Origin) × (origin ≡ Some o) × IsTypedTo m phone o.text
+    × ((n : Machine) × StandsFor new n × Received m phone o told n)
 
 -- ---- accepted at most once
 
@@ -70,7 +71,8 @@ AcceptsOnce world =
 pub record WasAccepted (m : Machine) (phone number n : ℕ) : Type 0 where
   pub ended : slice_get (reverse (m.senders.sender phone).ended) (number - 1) ≡ Some (n, true)
   pub accepted : (s : ℕ) → 0 < s → s ≤ size_in m.senders.texts n
-      → (a : Acceptance) × Contains m.centre.accepted a × (a.origin ≡ Some (record { text = n; segment = s }))
+      → (a : Acceptance) × Contains m.centre.accepted a
+      × (a.origin ≡ Some (record { text = n; segment = s }))
 
 -- A text that is shown as accepted was, after every run in which answers and rejections are of what they seem to be of, and
 -- nothing is injected.
@@ -94,7 +96,8 @@ CopiesMayComeInTime world =
 
 pub record ClaimsHold : Type 0 where
   pub whole : (world : WorldValue) → StoresAreWhole world
-  pub refused : (event : Event) (old : WorldValue) (told : Told) (new : WorldValue) → Steps event old told new → RefusesOnlyWhereFull event old told new
+  pub refused : (event : Event) (old : WorldValue) (told : Told) (new : WorldValue)
+      → Steps event old told new → RefusesOnlyWhereFull event old told new
   pub once : (world : WorldValue) → AcceptsOnce world
   pub accepted : (world : WorldValue) → AcceptedWereAccepted world
   pub copies : (world : WorldValue) → CopiesMayComeInTime world

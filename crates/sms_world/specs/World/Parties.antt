@@ -24,7 +24,8 @@ use Rattle.sms_world.specs.World.Standing.{PartiesStand, ArePacketsOf}
 -- packets of one way
 abbrev pub on_way : Bool → ℕ → List (List ℕ) → List PacketValue
 on_way up phone [] = []
-on_way up phone (octets ∷ packets) = record { is_up = up; phone = phone; octets = octets } ∷ on_way up phone packets
+on_way up phone (octets ∷ packets) =
+    record { is_up = up; phone = phone; octets = octets } ∷ on_way up phone packets
 
 -- The parties did this, and put out packets of this way, two at most. Or they dropped what came, for this reason; or
 -- memory ran out, and they stand for what they stood for.
@@ -33,10 +34,12 @@ Answers up phone m d (Ok step) new =
     (d.answer ≡ Ok step.outcome) × (length (packets_of step) ≤ 2)
     × ArePacketsOf (on_way up phone (packets_of step)) d.put × PartiesStand new d.after
 Answers up phone m d (Err dropped.Memory) new = PartiesStand new m
-Answers up phone m d (Err why) new = (d.answer ≡ Err (Party why)) × (d.put ≡ []) × PartiesStand new d.after
+Answers up phone m d (Err why) new =
+    (d.answer ≡ Err (Party why)) × (d.put ≡ []) × PartiesStand new d.after
 
 -- A text is typed at a phone: it has a cut, and the sender takes its pieces.
-abbrev pub Types : ℕ → AddressValue → List ℕ → PartiesValue → Result Step Dropped → PartiesValue → Type 0
+abbrev pub Types : ℕ → AddressValue → List ℕ → PartiesValue → Result Step Dropped → PartiesValue
+    → Type 0
 Types phone target text old result new =
     (m : Machine) → PartiesStand old m
     → (pieces : List Units) × IsCut (width_of m.senders.wide) text pieces
@@ -44,12 +47,14 @@ Types phone target text old result new =
 
 abbrev pub TimesOut : ℕ → PartiesValue → Result Step Dropped → PartiesValue → Type 0
 TimesOut phone old result new =
-    (m : Machine) → PartiesStand old m → Answers true phone m (by_sender m (times_out m.senders phone)) result new
+    (m : Machine) → PartiesStand old m
+    → Answers true phone m (by_sender m (times_out m.senders phone)) result new
 
 abbrev pub Pushes : ℕ → ℕ → PartiesValue → Result Step Dropped → PartiesValue → Type 0
 Pushes now phone old result new =
     (m : Machine) → PartiesStand old m → m.clock ≡ now
-    → Answers false phone m (by_centre m (pushed phone (centre_pushes m.phones m.centre m.clock phone))) result new
+    → Answers false phone m
+    (by_centre m (pushed phone (centre_pushes m.phones m.centre m.clock phone))) result new
 
 -- where octets come that go this way
 abbrev pub place_at : Bool → ℕ → Place
@@ -57,13 +62,18 @@ place_at up phone = if up then Centre phone else Phone phone
 
 -- Octets come to the centre from a phone, or to a phone: they are read as a message, and it does what it does with the
 -- message, whatever segment the message is of and whichever putting out it answers.
-abbrev pub Receives : ℕ → Bool → ℕ → List ℕ → PartiesValue → Result Step Dropped → PartiesValue → Type 0
-Receives now up phone octets old (Err dropped.Memory) new = (m : Machine) → PartiesStand old m → m.clock ≡ now → PartiesStand new m
+abbrev pub Receives : ℕ → Bool → ℕ → List ℕ → PartiesValue → Result Step Dropped → PartiesValue
+    → Type 0
+Receives now up phone octets old (Err dropped.Memory) new =
+    (m : Machine) → PartiesStand old m → m.clock ≡ now → PartiesStand new m
 Receives now up phone octets old result new =
     (message : Message) × ReadsAs octets message
-    × ((m : Machine) (origin : Option Origin) (about : Option ℕ) → PartiesStand old m → m.clock ≡ now
-    → Answers (not up) phone m (comes m (place_at up phone) message origin about) result new)
+    × ((m : Machine) (origin : Option Origin) (about : Option ℕ)
+    → PartiesStand old m → m.clock ≡ now
+    → Answers (not up) phone m
+    (comes m (place_at up phone) message origin about) result new)
 
 -- The clock moves on.
 abbrev pub MovesTo : ℕ → PartiesValue → PartiesValue → Type 0
-MovesTo now old new = (m : Machine) → PartiesStand old m → m.clock ≤ now → PartiesStand new (ticked m now)
+MovesTo now old new =
+    (m : Machine) → PartiesStand old m → m.clock ≤ now → PartiesStand new (ticked m now)

@@ -37,4 +37,5 @@ statuses_at phones p = statuses_of_phone (slice_get phones p)
 
 -- the answer of `status`, in each state that the phone stands for
 abbrev pub TellsStatusAt : List PhoneValue → ℕ → ℕ → Option Status → Type 0
-TellsStatusAt phones p number told = (phone : PhoneValue) → slice_get phones p ≡ Some phone → TellsStatus phone.sender number told
+TellsStatusAt phones p number told =
+    (phone : PhoneValue) → slice_get phones p ≡ Some phone → TellsStatus phone.sender number told

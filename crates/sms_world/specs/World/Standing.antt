@@ -31,7 +31,8 @@ ArePacketsOf _ _ = ⊥
 pub record PartiesStand (v : PartiesValue) (m : Machine) : Type 0 where
   pub centre_stands : centre.StandsFor m.limits.held m.phones m.clock v.centre m.centre
   pub as_many : length v.phones ≡ length m.phones
-  pub senders_stand : (p : ℕ) (phone : PhoneValue) → slice_get v.phones p ≡ Some phone → SenderStands p phone.sender m.senders
+  pub senders_stand : (p : ℕ) (phone : PhoneValue) → slice_get v.phones p ≡ Some phone
+      → SenderStands p phone.sender m.senders
   pub receivers_stand : (p : ℕ) (phone : PhoneValue) → slice_get v.phones p ≡ Some phone
       → receiver.StandsFor (receiver_limits m.limits) phone.receiver (m.receiver p)
 

@@ -38,7 +38,8 @@ PutsMore old new = (packets : List PacketValue) × (new.packets ≡ old.packets 
 abbrev pub StepsFrom : Machine → Event → WorldValue → Told → WorldValue → Type 0
 StepsFrom m event old told new =
     (put : List Sent) × (n : Machine) × Step m event told put n × StandsFor new n
-    × (packets : List PacketValue) × (new.packets ≡ old.packets ++ packets) × ArePacketsOf packets put
+    × (packets : List PacketValue) × (new.packets ≡ old.packets ++ packets)
+    × ArePacketsOf packets put
 
 -- so from each state that the old world stands for
 abbrev pub Steps : Event → WorldValue → Told → WorldValue → Type 0
@@ -66,8 +67,10 @@ GivesPacket world k octets = (m : Machine) → StandsFor world m → IsOctetsOf 
 
 -- The store of a phone, in order of completion, in each state that the world stands for.
 abbrev pub GivesStore : WorldValue → ℕ → List Entry → Type 0
-GivesStore world phone store = (m : Machine) → StandsFor world m → store ≡ reverse (m.receiver phone).store
+GivesStore world phone store =
+    (m : Machine) → StandsFor world m → store ≡ reverse (m.receiver phone).store
 
 -- How a text stands that was typed at a phone, in each state that the world stands for.
 abbrev pub GivesStatus : WorldValue → ℕ → ℕ → Option Status → Type 0
-GivesStatus world phone number told = (m : Machine) → StandsFor world m → told ≡ status_of m.senders phone number
+GivesStatus world phone number told =
+    (m : Machine) → StandsFor world m → told ≡ status_of m.senders phone number
