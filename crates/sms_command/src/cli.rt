@@ -104,9 +104,9 @@ fn explain<W: Write>(error: &clap::Error, output: &mut W) -> u8
     if error.exit_code() == 0 { 0 } else { 2 }
 }
 
-/// Does what the words ask, the program's name first, and answers the exit status: 0 done, 1 refused
-/// input, 2 wrong words, 3 memory or a device. A script is read from the input. The output is not
-/// flushed.
+/// Does what the words ask, the program's name first, and answers the exit status: 0 done, 1
+/// refused input, 2 wrong words, 3 memory or a device. A script is read from the input. The output
+/// is not flushed.
 pub fn command<S: AsStr, R: Read, W: Write>(
     alloc: Global,
     words: &[S],

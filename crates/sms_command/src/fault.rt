@@ -15,7 +15,8 @@ pub enum Fault {
     /// An octet of a unit cannot stand where it does.
     #[error("{0}")]
     Unit(sms_field::Fault<UnitFault>),
-    /// An octet of a relay or connection message, or of a service centre's address, cannot stand where it does.
+    /// An octet of a relay or connection message, or of a service centre's address, cannot stand
+    /// where it does.
     #[error("{0}")]
     Message(sms_field::Fault<RelayFault>),
     /// An option was given that the kind of unit does not have.

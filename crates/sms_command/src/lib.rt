@@ -1,5 +1,5 @@
-//! The command `sms` over any reader and writer: units that are shown and encoded, texts that are split, scripts that
-//! are played.
+//! The command `sms` over any reader and writer: units that are shown and encoded, texts that are
+//! split, scripts that are played.
 #![tactic(auto)]
 
 mod cli;

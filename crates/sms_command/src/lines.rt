@@ -3,7 +3,8 @@
 use std::fmt::Display;
 use std::io::{self, Write};
 
-/// A writer of lines, each a name and a value. The first failure stays, and no line is written after it.
+/// A writer of lines, each a name and a value. The first failure stays, and no line is written
+/// after it.
 #[derive(Drop)]
 pub struct Lines<'a, W: Write> {
     output: &'a mut W,

@@ -168,7 +168,8 @@ impl fmt::Display for ConcatText {
     }
 }
 
-/// A transaction of the connection: 1 where the message goes to the side that opened it, else 0, and its value.
+/// A transaction of the connection: 1 where the message goes to the side that opened it, else 0,
+/// and its value.
 #[derive(Clone, Copy)]
 pub struct TransactionText {
     pub flag: bool,

@@ -11,7 +11,8 @@ pub struct Shown {
     pub lines: &'static str,
 }
 
-/// A kind of unit, octets that begin with the address of a service centre, the status and the answer.
+/// A kind of unit, octets that begin with the address of a service centre, the status and the
+/// answer.
 pub struct AfterCentre {
     pub kind: &'static str,
     pub octets: &'static str,

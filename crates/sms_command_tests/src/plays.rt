@@ -37,7 +37,8 @@ fn number_in(line: &str) -> Option<&str> {
     }
 }
 
-/// Adds a line of a transcript: of a packet its number, to the line of its event; another line after a line feed.
+/// Adds a line of a transcript: of a packet its number, to the line of its event; another line
+/// after a line feed.
 fn put_line(events: &mut String, line: &str) -> Result<(), AllocError> {
     match number_in(line) {
         Some(number) => {
@@ -198,7 +199,8 @@ fn tells_the_lines_before_a_read_that_fails(rt: HostRuntime) -> Result<(), Fail>
     Ok(())
 }
 
-/// Whether the front of the transcript fills an output with as much room, and then no more is played.
+/// Whether the front of the transcript fills an output with as much room, and then no more is
+/// played.
 fn is_filled(alloc: Global, room: usize) -> bool {
     let mut space = [0; 600];
     let mut input = WAY.as_bytes();

@@ -71,7 +71,8 @@ fn misses_each_octet_of_a_message(rt: HostRuntime) -> Result<(), Fail> {
     Ok(())
 }
 
-/// Whether octets that begin with a centre have the status and the answer of a row, the option last.
+/// Whether octets that begin with a centre have the status and the answer of a row, the option
+/// last.
 fn is_answered_after_a_centre(alloc: Global, row: &AfterCentre) -> Result<bool, Fail> {
     let (status, answer) = answer_to(alloc, &["sms", "show", row.kind, row.octets, "--sca"])?;
     Ok(status == row.status && answer.as_str() == row.answer)

@@ -11,7 +11,8 @@ use std::alloc::Global;
 use std::process::Abort;
 use std::test::Fail;
 
-/// The text of parts between bars, each as many times as the number after its asterisk says, else once.
+/// The text of parts between bars, each as many times as the number after its asterisk says, else
+/// once.
 pub fn expanded(alloc: Global, parts: &str) -> Result<String, Fail> {
     let mut text = String::new(alloc);
     for part in parts.split('|') {

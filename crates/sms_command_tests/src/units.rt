@@ -257,7 +257,8 @@ fn is_full(alloc: Global, row: &Filled, data: &str) -> Result<bool, Fail> {
     Ok(units == 0 && is_full_of_septets(alloc, row, data)? && is_full_of_octets(alloc, row, data)?)
 }
 
-/// Whether data are refused after their header under a coding scheme, at a length above the greatest.
+/// Whether data are refused after their header under a coding scheme, at a length above the
+/// greatest.
 fn is_too_full(alloc: Global, scheme: &str, length: &str, data: &str) -> Result<bool, Fail> {
     let (status, answer) = shown_data(alloc, scheme, length, data)?;
     Ok(status == 1 && answer.as_str() == "at 14: data too long\n")

@@ -24,7 +24,8 @@ symbols_by false count = do
 abbrev pub symbols_of : ℕ → ℕ → Field Symbols FieldFault
 symbols_of kind count = symbols_by (kind == alphanumeric) count
 
--- Address-Length, the number of semi-octets; Type-of-Address, of which bits 6 to 4 are the type of number and bits 3 to 0 the plan; Address-Value, the symbols
+-- Address-Length, the number of semi-octets; Type-of-Address, of which bits 6 to 4 are the type of
+-- number and bits 3 to 0 the plan; Address-Value, the symbols
 unfoldable pub address : Field AddressValue FieldFault
 address = do
   -- too_long: the number is above 20

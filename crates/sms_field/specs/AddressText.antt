@@ -1,4 +1,5 @@
--- The text of an address. Its digits are shown as 3GPP TS 23.040, 9.1.2.3 has them, an international number (9.1.2.5) after +; a name is its own text.
+-- The text of an address. Its digits are shown as 3GPP TS 23.040, 9.1.2.3 has them, an
+-- international number (9.1.2.5) after +; a name is its own text.
 use Rattle.std.specs.Prelude.{ℕ, List, [], ◌∷◌, ◌++◌, length, Option, Some, None, Result, Ok, Err, ◌==◌, nat_le, if◌then◌else◌}
 use Rattle.sms_text.specs.SeptetsOfText.{septets_of_text}
 use Rattle.sms_text.specs.TextOfSeptets.{text_of_septets}
@@ -56,7 +57,8 @@ abbrev pub without_plus : List ℕ → Result AddressValue AddressFault
 without_plus text =
     telephone_or_name (few_digits (digits_of_text text)) (name_of (septets_of_text text))
 
--- the address that a text says: after + an international telephone number, 1, else one of unknown type or a name
+-- the address that a text says: after + an international telephone number, 1, else one of unknown
+-- type or a name
 unfoldable pub address_of_text : List ℕ → Result AddressValue AddressFault
 address_of_text [] = without_plus []
 address_of_text (c ∷ text) =

@@ -1,4 +1,5 @@
--- The alphabet of a data coding scheme (3GPP TS 23.038, 4). That bit 5 of the general groups decides before bits 3 and 2 is a choice of this profile.
+-- The alphabet of a data coding scheme (3GPP TS 23.038, 4). That bit 5 of the general groups
+-- decides before bits 3 and 2 is a choice of this profile.
 use Rattle.std.specs.Prelude.{ℕ, ◌/◌, ◌%◌, ◌==◌, nat_lt, if◌then◌else◌}
 use Rattle.sms_field.specs.Bit.{bit}
 use Rattle.sms_field.specs.declared.coding.Alphabet.{Alphabet}

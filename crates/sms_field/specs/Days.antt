@@ -1,4 +1,5 @@
--- The days of the years 2000 to 2099 in the Gregorian calendar (3GPP TS 23.040, 9.2.3.11; the year 00 is 2000).
+-- The days of the years 2000 to 2099 in the Gregorian calendar (3GPP TS 23.040, 9.2.3.11; the year
+-- 00 is 2000).
 use Rattle.std.specs.Prelude.{ℕ, ◌-◌, pos}
 use Rattle.std.specs.Int.{IsInRange}
 use Rattle.jiff_core.specs.Calendar.{days_in_month, day_count}

@@ -1,8 +1,10 @@
--- What a field of a transfer unit is, and when it is lawful (octets and their order: 3GPP TS 23.040, 9.1).
+-- What a field of a transfer unit is, and when it is lawful (octets and their order: 3GPP TS
+-- 23.040, 9.1).
 use Rattle.std.specs.Prelude.{◌≡◌, ℕ, ◌+◌, ◌⊎◌, List, [], ◌∷◌, ◌++◌, length}
 use Rattle.sms_text.specs.Octets.{IsOctets}
 
--- What reading gives: a value, the place after it and the octets that are left; or the place of a refusal, and why.
+-- What reading gives: a value, the place after it and the octets that are left; or the place of a
+-- refusal, and why.
 pub data Outcome (V W : Type 0) : Type 0 where
   found : V → ℕ → List ℕ → Outcome V W
   refused : ℕ → W → Outcome V W

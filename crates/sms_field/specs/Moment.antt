@@ -9,7 +9,8 @@ abbrev pub local_seconds : StampDate → ℕ
 local_seconds d =
     days_before d.year d.month d.day * 86_400 + d.hour * 3_600 + d.minute * 60 + d.second
 
--- the moment is the local time less a quarter of an hour, 900 seconds, for each of the zone's quarters
+-- the moment is the local time less a quarter of an hour, 900 seconds, for each of the zone's
+-- quarters
 pub record IsMoment (stamp : List ℕ) (moment : ℕ) : Type 0 where
   pub is_date : IsDate stamp
   pub seconds : pos moment

@@ -1,4 +1,5 @@
--- The name in an alphanumeric address (3GPP TS 23.040, 9.1.2.5): characters of the 7-bit default alphabet, packed into octets.
+-- The name in an alphanumeric address (3GPP TS 23.040, 9.1.2.5): characters of the 7-bit default
+-- alphabet, packed into octets.
 use Rattle.std.specs.Prelude.{ℕ, zero, suc, ◌+◌, ◌*◌, ◌/◌, ◌≤◌, List, [], ◌∷◌, ◌++◌, length, take, drop, replicate}
 use Rattle.sms_text.specs.Bits.{AreSeptets, from_bits, septet_bits, unpacked}
 use Rattle.sms_field.specs.Field.{Field, ◌>>=◌, always, octets_of}
@@ -10,8 +11,8 @@ pub record IsName (septets : List ℕ) : Type 0 where
   pub few : length septets ≤ 11
   pub each : AreSeptets septets
 
--- The length of an address counts semi-octets, four bits each: the septets that lie in them whole are the name.
--- What bits are left is ignored, and there is no octet that cannot stand.
+-- The length of an address counts semi-octets, four bits each: the septets that lie in them whole
+-- are the name. What bits are left is ignored, and there is no octet that cannot stand.
 unfoldable pub name : ℕ → Field (List ℕ) FieldFault
 name count = do
   octets ← octets_of Short ((count + 1) / 2)

@@ -1,4 +1,5 @@
--- The octets of a name are its septets packed, and all other bits are 0 (3GPP TS 23.040, 9.1.2.5; TS 23.038, 6.1.2.1).
+-- The octets of a name are its septets packed, and all other bits are 0 (3GPP TS 23.040, 9.1.2.5;
+-- TS 23.038, 6.1.2.1).
 use Rattle.std.specs.Prelude.{◌≡◌, ℕ, List}
 use Rattle.sms_text.specs.Bits.{PackedPlain}
 use Rattle.sms_text.specs.Octets.{IsOctets}

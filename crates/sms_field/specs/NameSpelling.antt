@@ -1,4 +1,5 @@
--- The octets of a name: they are the only ones in which its septets lie plainly, and they are read as it.
+-- The octets of a name: they are the only ones in which its septets lie plainly, and they are read
+-- as it.
 use Rattle.std.proofs.Common.{◌≡◌, ℕ, zero, suc, ◌+◌, ◌-◌, ◌*◌, ◌/◌, ◌%◌, ◌^◌, ◌<◌, ◌≤◌, List, [], ◌∷◌, ◌++◌, length, take, drop, replicate, refl, sym, ap, subst, ◌∙◌, arith, length-append}
 use Rattle.std.specs.List.{AllByRecursion}
 use Rattle.std.proofs.Math.Nat.{pow-succ', pow-le-pow_right}

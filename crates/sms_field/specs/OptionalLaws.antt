@@ -1,4 +1,5 @@
--- An optional part is lawful where the part is. It is not self-contained, so it stands last in a unit.
+-- An optional part is lawful where the part is. It is not self-contained, so it stands last in a
+-- unit.
 use Rattle.std.proofs.Common.{◌≡◌, ℕ, ◌+◌, ◌<◌, Bool, true, false, cond, List, [], ◌∷◌, ◌++◌, Option, Some, None, refl, sym, ap, subst, ◌∙◌, arith, inl, inr}
 use Rattle.std.specs.Prelude.{◌==◌}
 use Rattle.std.proofs.lemmas.Bool.{eqb-true, eqb-false}

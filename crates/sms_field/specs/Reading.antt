@@ -1,4 +1,5 @@
--- What it means to read: for a relation `reads value input used`, by which the first octets of an input, `used` of them, are read as a value.
+-- What it means to read: for a relation `reads value input used`, by which the first octets of an
+-- input, `used` of them, are read as a value.
 use Rattle.std.specs.Prelude.{◌≡◌, ℕ, ◌+◌, ◌<◌, List, ◌++◌, length, take, slice_index}
 use Rattle.sms_field.specs.declared.refusal.Refusal.{Refusal}
 use Rattle.sms_field.specs.declared.refusal.Refusal.TheVariants.{Memory, At}
@@ -20,8 +21,8 @@ pub record IsReadable {V : Type 0} (reads : V → List ℕ → ℕ → Type 0) (
   pub used : ℕ
   pub read : reads value input used
 
--- Some continuation has a reading: octets that can follow, since numbers above 255 can not. Of the front it need not be said
--- that it consists of octets, since it comes from an input of a reader.
+-- Some continuation has a reading: octets that can follow, since numbers above 255 can not. Of the
+-- front it need not be said that it consists of octets, since it comes from an input of a reader.
 pub record IsViable {V : Type 0} (reads : V → List ℕ → ℕ → Type 0) (front : List ℕ) : Type 0 where
   pub more : List ℕ
   pub are_octets : IsOctets more

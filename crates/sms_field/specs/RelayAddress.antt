@@ -25,7 +25,8 @@ relay_digits (suc (suc n)) = do
   others ← relay_digits (suc n)
   always (two.0 ∷ two.1 ∷ others)
 
--- no address; or an octet whose bits 6 to 4 are the Type of number and bits 3 to 0 the Numbering plan identification, and the Number digits
+-- no address; or an octet whose bits 6 to 4 are the Type of number and bits 3 to 0 the Numbering
+-- plan identification, and the Number digits
 unfoldable pub relay_part : Bool → ℕ → Field (Option RelayAddressValue) FieldFault
 relay_part true count = always None
 relay_part false count = do
@@ -40,7 +41,8 @@ relay_address = do
   count ← octet_by Short (up_to 11 too_long)
   relay_part (count == 0) (count - 1)
 
--- how an address is written: the Length, the type of number and the plan with bit 7 set, the Number digits
+-- how an address is written: the Length, the type of number and the plan with bit 7 set, the Number
+-- digits
 unfoldable pub relay_address_octets : RelayAddressValue → List ℕ
 relay_address_octets a =
     ((length a.digits + 1) / 2 + 1) ∷ (128 + 16 * a.kind + a.plan) ∷ digit_octets a.digits

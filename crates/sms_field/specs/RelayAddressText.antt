@@ -1,4 +1,5 @@
--- The text of a relay address: its digits as 3GPP TS 23.040, 9.1.2.3 has them, an international number after +.
+-- The text of a relay address: its digits as 3GPP TS 23.040, 9.1.2.3 has them, an international
+-- number after +.
 use Rattle.std.specs.Prelude.{ℕ, List, [], ◌∷◌, ◌++◌, Result, Ok, Err, ◌==◌, if◌then◌else◌}
 use Rattle.sms_field.specs.DigitText.{text_of_digits, digits_of_text}
 use Rattle.sms_field.specs.AddressText.{plus, prefix, few_digits}
@@ -14,7 +15,8 @@ abbrev pub relay_telephone_of : ℕ → Result (List ℕ) AddressFault
 relay_telephone_of kind (Ok digits) = Ok (record { kind = kind; plan = 1; digits = digits })
 relay_telephone_of kind (Err why) = Err why
 
--- the address that a text says: after + an international telephone number, 1, else one of unknown type, 0
+-- the address that a text says: after + an international telephone number, 1, else one of unknown
+-- type, 0
 unfoldable pub relay_address_of_text : List ℕ → Result RelayAddressValue AddressFault
 relay_address_of_text [] = relay_telephone_of 0 (few_digits (digits_of_text []))
 relay_address_of_text (c ∷ text) =

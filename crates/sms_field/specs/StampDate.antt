@@ -12,7 +12,8 @@ HasTwoDigits octet = (octet % 16 < 10) × (octet / 16 < 10)
 abbrev pub number_in : ℕ → ℕ
 number_in octet = octet % 16 * 10 + octet / 16
 
--- the local time's distance from UTC in quarters of an hour: bit 3 is the sign, set to the west, and bits 0 to 2 are the tens
+-- the local time's distance from UTC in quarters of an hour: bit 3 is the sign, set to the west,
+-- and bits 0 to 2 are the tens
 abbrev pub quarters_in : ℕ → ℤ
 quarters_in zone =
     if bit 3 zone then neg_ℤ (pos (zone % 8 * 10 + zone / 16)) else pos (zone % 8 * 10 + zone / 16)

@@ -1,8 +1,10 @@
--- Which moments have a time stamp in a zone, and how the zone is written (3GPP TS 23.040, 9.2.3.11).
+-- Which moments have a time stamp in a zone, and how the zone is written (3GPP TS 23.040,
+-- 9.2.3.11).
 use Rattle.std.specs.Prelude.{◌≡◌, ℕ, ℤ, pos, negsuc, suc, ◌+◌, ◌*◌, ◌/◌, ◌%◌, ◌+ℤ◌, ◌*ℤ◌, ◌≤ℤ◌, ◌<ℤ◌, List, slice_index}
 use Rattle.sms_field.specs.Moment.{IsMoment}
 
--- two digits hold at most 79 quarters beside the sign, and the local time lies in 2000 to 2099, which are 36,525 days
+-- two digits hold at most 79 quarters beside the sign, and the local time lies in 2000 to 2099,
+-- which are 36,525 days
 pub record HasStamp (moment : ℕ) (quarters : ℤ) : Type 0 where
   pub west : negsuc 78 ≤ℤ quarters
   pub east : quarters ≤ℤ pos 79

@@ -1,4 +1,5 @@
--- Stamps of moments, moments of stamps and ends of validity periods as functions (3GPP TS 23.040, 9.2.3.11 and 9.2.3.12).
+-- Stamps of moments, moments of stamps and ends of validity periods as functions (3GPP TS 23.040,
+-- 9.2.3.11 and 9.2.3.12).
 use Rattle.std.specs.Prelude.{◌≡◌, ℕ, zero, suc, ◌+◌, ◌-◌, ◌*◌, ◌/◌, ◌%◌, ◌<◌, ℤ, pos, negsuc, ◌-ℤ◌, ◌*ℤ◌, Bool, ◌&&◌, nat_lt, nat_le, if◌then◌else◌, List, [], ◌∷◌, slice_index, Option, Some, None, Result, Ok, Err}
 use Rattle.jiff_core.specs.Calendar.{days_in_year, days_in_month}
 use Rattle.sms_field.specs.Stamp.{IsStamp}
@@ -14,7 +15,8 @@ use Rattle.sms_field.specs.declared.validity.ValidityFault.TheVariants.{Enhanced
 
 -- ---- the stamp of a moment
 
--- the first moment that has no stamp in zone 0: the end of 2099, which is 36,525 days after the start of 2000
+-- the first moment that has no stamp in zone 0: the end of 2099, which is 36,525 days after the
+-- start of 2000
 abbrev pub end_of_2099 : ℕ
 end_of_2099 = 3_155_760_000
 
@@ -24,7 +26,8 @@ pub record Day : Type 0 where
   pub month : ℕ
   pub day : ℕ
 
--- the day that lies a number of days after the first of a month; the first number bounds the months that are passed
+-- the day that lies a number of days after the first of a month; the first number bounds the months
+-- that are passed
 abbrev pub month_after : ℕ → ℕ → ℕ → ℕ → Day
 month_after zero year month days = record { year = year; month = month; day = days + 1 }
 month_after (suc n) year month days =
@@ -32,7 +35,8 @@ month_after (suc n) year month days =
     then record { year = year; month = month; day = days + 1 }
     else month_after n year (month + 1) (days - days_in_month (pos year) month)
 
--- the day that lies a number of days after the first of a year; the first number bounds the years that are passed
+-- the day that lies a number of days after the first of a year; the first number bounds the years
+-- that are passed
 abbrev pub year_after : ℕ → ℕ → ℕ → Day
 year_after zero year days = month_after 12 year 1 days
 year_after (suc n) year days =

@@ -6,7 +6,8 @@ use Rattle.sms_field.specs.declared.validity.Validity.TheVariants.{Absent, Relat
 use Rattle.sms_field.specs.declared.validity.ValidityFault.{ValidityFault}
 use Rattle.sms_field.specs.declared.validity.ValidityFault.TheVariants.{EnhancedValidity, NoMoment}
 
--- 5 minutes to 12 hours in steps of 5 minutes, to 24 hours in steps of 30 minutes, 2 to 30 days, 5 to 63 weeks (9.2.3.12.1)
+-- 5 minutes to 12 hours in steps of 5 minutes, to 24 hours in steps of 30 minutes, 2 to 30 days, 5
+-- to 63 weeks (9.2.3.12.1)
 abbrev pub relative_seconds : ℕ → ℕ
 relative_seconds octet =
     if nat_le octet 143 then (octet + 1) * 300
@@ -19,7 +20,8 @@ abbrev pub AbsoluteEndIs : List ℕ → Result ℕ ValidityFault → Type 0
 AbsoluteEndIs stamp (Ok end) = IsMoment stamp end
 AbsoluteEndIs stamp (Err why) = (why ≡ NoMoment) × ((moment : ℕ) → ¬ IsMoment stamp moment)
 
--- the end of a period from its acceptance on; where none is given this centre takes two days, and it does not interpret the enhanced format
+-- the end of a period from its acceptance on; where none is given this centre takes two days, and
+-- it does not interpret the enhanced format
 abbrev pub EndIs : Validity → ℕ → Result ℕ ValidityFault → Type 0
 EndIs Absent accepted end = end ≡ Ok (accepted + 172_800)
 EndIs (Relative octet) accepted end = end ≡ Ok (accepted + relative_seconds octet)

@@ -54,7 +54,7 @@ pub(crate) const ALPHANUMERIC: u8 = 5;
 
 /// Does nothing: its contract says that an address is a lawful field that does not look at what
 /// follows it, and that it is written in at most 12 octets, which are read back.
-#[tactic(auto, using(crate::specs::AddressLengthLaws::address_few, crate::specs::AddressLaws::address_lawful, crate::specs::AddressLaws::address_self, crate::specs::AddressSpelling::address_are_octets, crate::specs::AddressSpelling::address_again))]
+#[tactic(auto, using(crate::proofs::AddressRules::address_rules))]
 pub fn address_laws()
     ensures self_contained { IsSelfContained address }
     ensures few { AreAtMost 12 HasSpelling address_octets }
@@ -75,7 +75,8 @@ impl Address {
         })
     }
 
-    /// The octets of the address: how many semi-octets there are, the type octet with bit 7 set, and the symbols.
+    /// The octets of the address: how many semi-octets there are, the type octet with bit 7 set,
+    /// and the symbols.
     pub fn write(&self, alloc: Global) -> Result<Vec<u8>, AllocError>
         ensures { IfOk result (λ octets. octets.items ≡ address_octets self.now) }
     {

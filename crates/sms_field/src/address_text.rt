@@ -104,9 +104,10 @@ fn telephone_or_name(alloc: Global, text: &str) -> Result<Address, TextFault>
 }
 
 impl Address {
-    /// The address that a text says: `+` and digits are a telephone number of type 1, digits alone one of type 0,
-    /// both in plan 1; another text that does not begin with `+` is a name, of type 5 in plan 0.
-    /// Digits are `0` to `9`, `*`, `#`, `a`, `b` and `c`. A bad character is found before too many.
+    /// The address that a text says: `+` and digits are a telephone number of type 1, digits alone
+    /// one of type 0, both in plan 1; another text that does not begin with `+` is a name, of type
+    /// 5 in plan 0. Digits are `0` to `9`, `*`, `#`, `a`, `b` and `c`. A bad character is found
+    /// before too many.
     pub fn from_text(alloc: Global, text: &str) -> Result<Address, TextFault>
         ensures { Gives result (address_of_text (chars text.now)) }
     {

@@ -47,7 +47,8 @@ fn seconds_of_day(hour: u8, minute: u8, second: u8) -> u64
 impl Stamp {
     /// The stamp of a moment in a zone, given in quarters of an hour east of UTC.
     ///
-    /// None where the local time lies outside the years 2000 to 2099, or the quarters outside -79 to 79.
+    /// None where the local time lies outside the years 2000 to 2099, or the quarters outside -79
+    /// to 79.
     pub fn at(seconds: u64, quarters: i8) -> Option<Stamp>
         ensures found { IsSome result ↔ HasStamp seconds quarters }
         ensures value { IfSome result (IsStampAt seconds quarters) }

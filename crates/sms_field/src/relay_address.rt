@@ -103,7 +103,7 @@ fn telephone(alloc: Global, type_of_number: u8, text: &str) -> Result<RpAddress,
 
 /// Does nothing: its contract says that a relay address, or none, is a lawful field that does not
 /// look at what follows it, and that it is written in at most 12 octets, which are read back.
-#[tactic(auto, using(crate::specs::AddressLengthLaws::relay_address_few, crate::specs::RelayAddressLaws::relay_address_lawful, crate::specs::RelayAddressLaws::relay_address_self, crate::specs::RelayAddressLaws::relay_address_are_octets, crate::specs::RelayAddressLaws::relay_address_again))]
+#[tactic(auto, using(crate::proofs::AddressRules::relay_address_rules))]
 pub fn relay_address_laws()
     ensures self_contained { IsSelfContained relay_address }
     ensures few { AreAtMost 12 HasOptionalSpelling optional_address_octets }
@@ -113,8 +113,9 @@ pub fn relay_address_laws()
 {}
 
 impl RpAddress {
-    /// The telephone number that a text says, in plan 1: `+` and digits are of type 1, digits alone of type 0.
-    /// Digits are `0` to `9`, `*`, `#`, `a`, `b` and `c`. A bad digit is found before too many.
+    /// The telephone number that a text says, in plan 1: `+` and digits are of type 1, digits alone
+    /// of type 0. Digits are `0` to `9`, `*`, `#`, `a`, `b` and `c`. A bad digit is found before
+    /// too many.
     pub fn from_text(alloc: Global, text: &str) -> Result<RpAddress, TextFault>
         ensures { Gives result (relay_address_of_text (chars text.now)) }
     {
@@ -143,7 +144,8 @@ impl RpAddress {
         })
     }
 
-    /// The octets of the address: how many octets follow, the type octet with bit 7 set, and the digits.
+    /// The octets of the address: how many octets follow, the type octet with bit 7 set, and the
+    /// digits.
     pub fn write(&self, alloc: Global) -> Result<Vec<u8>, AllocError>
         ensures { IfOk result (λ octets. octets.items ≡ relay_address_octets self.now) }
     {
@@ -165,8 +167,8 @@ impl RpAddress {
         put_telephone(out, length, kind, digits)
     }
 
-    /// Reads an address, or none where the length octet is 0, at the front of the octets, and says how many octets
-    /// it takes.
+    /// Reads an address, or none where the length octet is 0, at the front of the octets, and says
+    /// how many octets it takes.
     pub fn read(
         alloc: Global,
         input: &[u8],

@@ -19,7 +19,8 @@ use crate::relay_address::RpAddress;
 use std::alloc::{AllocError, Global};
 use std::marker::Model;
 
-/// An address of the relay layer that lies in the octets of a message. Contracts see it as the address.
+/// An address of the relay layer that lies in the octets of a message. Contracts see it as the
+/// address.
 #[derive(Drop)]
 pub struct RpAddressView<'a> {
     type_of_number: u8,
@@ -103,8 +104,8 @@ fn address_seen<'a>(kind: u8, octets: &'a [u8]) -> RpAddressView<'a>
 }
 
 impl<'a> RpAddressView<'a> {
-    /// Sees an address, or none where the length octet is 0, at the front of the octets, and says how many octets
-    /// it takes.
+    /// Sees an address, or none where the length octet is 0, at the front of the octets, and says
+    /// how many octets it takes.
     pub fn read(input: &'a [u8]) -> Result<(Option<RpAddressView<'a>>, usize), Fault<FieldFault>>
         ensures found { IfOk result (λ x. Reads relay_address x.0 input.now x.1) }
         ensures refused { IfErr result (IsFaultOf relay_address Short input.now) }

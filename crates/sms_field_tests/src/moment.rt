@@ -41,7 +41,8 @@ fn month_in(leap: bool, month: Month) -> Month {
     }
 }
 
-/// The first and the last second of a month that begins at a moment are what they must be; the moment after it.
+/// The first and the last second of a month that begins at a moment are what they must be; the
+/// moment after it.
 fn is_month(rt: &impl Abort, year: u8, row: Month, first: u64) -> u64 {
     let next = first.wrapping_add(row.days.wrapping_mul(86_400));
     belong(rt, [year, row.month, 0x10, 0x00, 0x00, 0x00, 0x00], first);

@@ -1,5 +1,5 @@
--- What becomes of a joiner one after another: something is brought to it, or its sets age. Lists have the newest entry
--- first.
+-- What becomes of a joiner one after another: something is brought to it, or its sets age. Lists
+-- have the newest entry first.
 use Rattle.std.specs.Prelude.{ℕ, List, [], ◌∷◌}
 use Rattle.sms_join.specs.Piece.{Piece}
 use Rattle.sms_join.specs.Joiner.{Joiner, offered}

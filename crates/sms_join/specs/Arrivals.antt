@@ -1,5 +1,5 @@
--- Pieces of texts that arrive at one joiner, each with the text that it is of: which texts have arrived whole, and which
--- in part. Texts are numbers. All lists have the newest entry first.
+-- Pieces of texts that arrive at one joiner, each with the text that it is of: which texts have
+-- arrived whole, and which in part. Texts are numbers. All lists have the newest entry first.
 use Rattle.std.specs.Prelude.{◌≡◌, ℕ, zero, suc, ◌<◌, ◌≤◌, Bool, true, false, not, ◌&&◌, ◌||◌, if◌then◌else◌, ◌==◌, List, [], ◌∷◌, ◌++◌}
 use Rattle.sms_join.specs.declared.key.Key.{Key}
 use Rattle.sms_join.specs.declared.units.Units.{Units}
@@ -41,8 +41,8 @@ has_pieces past t (suc n) = has_piece past t (suc n) && has_pieces past t n
 abbrev pub is_done : (ℕ → ℕ) → List Arrival → ℕ → Bool
 is_done size past t = has_pieces past t (size t)
 
--- The texts that have arrived whole, each at the arrival that completes it, so that the one that was completed last is
--- first.
+-- The texts that have arrived whole, each at the arrival that completes it, so that the one that
+-- was completed last is first.
 abbrev pub completed : (ℕ → ℕ) → List Arrival → List ℕ
 completed size [] = []
 completed size (a ∷ past) =
@@ -50,7 +50,8 @@ completed size (a ∷ past) =
     else if is_done size (a ∷ past) a.text then a.text ∷ completed size past
     else completed size past
 
--- Of the second list, the pieces of texts that the first list does not complete, each at its first arrival.
+-- Of the second list, the pieces of texts that the first list does not complete, each at its first
+-- arrival.
 abbrev pub open_pieces : (ℕ → ℕ) → List Arrival → List Arrival → List Piece
 open_pieces size all [] = []
 open_pieces size all (a ∷ past) =
@@ -78,8 +79,8 @@ OpenApart key size past =
     → is_done size past u ≡ false
     → key t ≡ key u → t ≡ u
 
--- Of the second list, the arrivals that still count: those of texts that the first list does not complete and whose set
--- was dropped no longer do.
+-- Of the second list, the arrivals that still count: those of texts that the first list does not
+-- complete and whose set was dropped no longer do.
 abbrev pub remaining : (ℕ → ℕ) → (Key → Bool) → List Arrival → List Arrival → List Arrival
 remaining size old all [] = []
 remaining size old all (a ∷ past) =

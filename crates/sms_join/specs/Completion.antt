@@ -9,8 +9,8 @@ pub record StandsBefore (texts : List ℕ) (t u : ℕ) : Type 0 where
   pub parts : texts ≡ newer ++ u ∷ older
   pub there : is_listed older t ≡ true
 
--- At some time each piece of the first text had arrived, and not each of the second: the last missing piece of the first
--- came earlier.
+-- At some time each piece of the first text had arrived, and not each of the second: the last
+-- missing piece of the first came earlier.
 pub record CameEarlier (size : ℕ → ℕ) (past : List Arrival) (t u : ℕ) : Type 0 where
   pub later : List Arrival
   pub earlier : List Arrival

@@ -42,7 +42,8 @@ pub record IsParted (room : ℕ) (text : List ℕ) (pieces : List Units) : Type 
   pub in_alphabet : pieces ≡ map (units_in (alphabet_of text)) lists
   pub cut : IsCutBy (units_of_character (alphabet_of text)) room text lists
 
--- The pieces in which a text is sent: one where there is room for all its units, else those by the room beside a header.
+-- The pieces in which a text is sent: one where there is room for all its units, else those by the
+-- room beside a header.
 pub record IsCut (width : Width) (text : List ℕ) (pieces : List Units) : Type 0 where
   pub alone : length (numbers (units_of_text text)) ≤ room_alone (alphabet_of text)
       → pieces ≡ units_of_text text ∷ []

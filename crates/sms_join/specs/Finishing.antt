@@ -25,7 +25,8 @@ abbrev pub AnswerFinishes : Type 0
 AnswerFinishes =
     (open_max : ℕ) (j : Joiner) (p : Piece) → is_finished (answer open_max j p) ≡ would_finish j p
 
--- Each joiner holds the same as itself; where one holds the same as another, so does the other; and so on along a chain.
+-- Each joiner holds the same as itself; where one holds the same as another, so does the other; and
+-- so on along a chain.
 abbrev pub SameIsEquivalence : Type 0
 SameIsEquivalence =
     ((j : Joiner) → IsSame j j) × ((i j : Joiner) → IsSame i j → IsSame j i)

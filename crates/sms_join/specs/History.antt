@@ -1,5 +1,5 @@
--- Which offers of any list of offers and agings finish their set, told by the offers, their answers and the moments of the
--- agings alone. All lists have the newest entry first.
+-- Which offers of any list of offers and agings finish their set, told by the offers, their answers
+-- and the moments of the agings alone. All lists have the newest entry first.
 use Rattle.std.specs.Prelude.{◌≡◌, ℕ, Bool, true, false, not, ◌&&◌, if◌then◌else◌, List, [], ◌∷◌, take}
 use Rattle.sms_join.specs.declared.key.Key.{Key}
 use Rattle.sms_join.specs.Key.{same_key}
@@ -48,8 +48,9 @@ is_finish Kept = false
 is_finish (Finished units) = true
 is_finish TooManyOpen = false
 
--- An offer finishes its set just where its key is not among the last that finished, its sequence has not been kept since
--- the key last finished or was dropped, and with it each sequence from 1 to the maximum has.
+-- An offer finishes its set just where its key is not among the last that finished, its sequence
+-- has not been kept since the key last finished or was dropped, and with it each sequence from 1 to
+-- the maximum has.
 abbrev pub FinishesByHistory : Type 0
 FinishesByHistory =
     (open_max remembered : ℕ) (acts : List (Act Piece)) (p : Piece)

@@ -1,4 +1,5 @@
--- What a joiner answers to a piece that is offered, and what it holds then. Both its lists have the newest entry first.
+-- What a joiner answers to a piece that is offered, and what it holds then. Both its lists have the
+-- newest entry first.
 use Rattle.std.specs.Prelude.{ℕ, Bool, true, false, ◌||◌, nat_lt, List, [], ◌∷◌, take}
 use Rattle.sms_join.specs.declared.key.Key.{Key}
 use Rattle.sms_join.specs.declared.units.Units.{Units}
@@ -33,7 +34,8 @@ is_among (x ∷ xs) k = same_key x k || is_among xs k
 unfoldable pub is_repeat : Joiner → Piece → Bool
 is_repeat j p = is_among j.finished p.key || has j.kept p.key p.sequence
 
--- With this piece the set has each piece from 1 to its maximum. (Counts says that it then has as many as its maximum.)
+-- With this piece the set has each piece from 1 to its maximum. (Counts says that it then has as
+-- many as its maximum.)
 unfoldable pub is_whole : Joiner → Piece → Bool
 is_whole j p = has_all (p ∷ j.kept) p.key p.maximum
 
@@ -41,8 +43,8 @@ is_whole j p = has_all (p ∷ j.kept) p.key p.maximum
 unfoldable pub has_room : ℕ → Joiner → Piece → Bool
 has_room open_max j p = is_open j.kept p.key || nat_lt (open_sets j.kept) open_max
 
--- The answer is a repeat; else, where the piece makes its set whole, the whole set; else, where there is room, the piece
--- is kept; else there are too many open sets.
+-- The answer is a repeat; else, where the piece makes its set whole, the whole set; else, where
+-- there is room, the piece is kept; else there are too many open sets.
 unfoldable pub decided : (repeat whole room : Bool) → List Units → Answer
 decided true whole room units = Repeat
 decided false true room units = Finished units
@@ -54,8 +56,9 @@ answer open_max j p =
     decided (is_repeat j p) (is_whole j p) (has_room open_max j p)
     (units_upto (p ∷ j.kept) p.key p.maximum)
 
--- After a repeat and after too many open sets it is as it was. A piece that is kept is added. A set that is whole goes,
--- and its key is remembered in place of the oldest, where as many are remembered as can be.
+-- After a repeat and after too many open sets it is as it was. A piece that is kept is added. A set
+-- that is whole goes, and its key is remembered in place of the oldest, where as many are
+-- remembered as can be.
 unfoldable pub answered : ℕ → Joiner → Piece → Answer → Joiner
 answered remembered j p Repeat = j
 answered remembered j p Kept = record { kept = p ∷ j.kept; finished = j.finished }

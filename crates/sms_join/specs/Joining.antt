@@ -1,5 +1,5 @@
--- The law of arrivals in order: what a joiner holds and delivers where no two texts are mixed up, and open sets age. All
--- lists have the newest entry first.
+-- The law of arrivals in order: what a joiner holds and delivers where no two texts are mixed up,
+-- and open sets age. All lists have the newest entry first.
 use Rattle.std.specs.Prelude.{◌≡◌, ◌≢◌, ℕ, Bool, true, not, ◌&&◌, ◌||◌, ◌==◌, List, [], ◌∷◌, ◌++◌, map, take}
 use Rattle.sms_join.specs.declared.units.Units.{Units}
 use Rattle.sms_join.specs.Key.{same_key}
@@ -9,8 +9,8 @@ use Rattle.sms_join.specs.Acts.{Act, Brings, Ages}
 use Rattle.sms_join.specs.Pieces.{finished_now}
 use Rattle.sms_join.specs.Arrivals.{Arrival, Texts, IsOf, AllOf, is_done, completed, open_pieces, is_listed, remaining, whole_text}
 
--- Of the second list, no other text with the key of the arrival is open in the first, or among the last that the first
--- completes.
+-- Of the second list, no other text with the key of the arrival is open in the first, or among the
+-- last that the first completes.
 abbrev pub is_clear : ℕ → (ℕ → ℕ) → List Arrival → List Arrival → Arrival → Bool
 is_clear remembered size all [] a = true
 is_clear remembered size all (b ∷ bs) a =
@@ -24,12 +24,14 @@ unfoldable pub is_recent : ℕ → (ℕ → ℕ) → List Arrival → Arrival �
 is_recent remembered size past a =
     not (is_done size past a.text) || is_listed (take remembered (completed size past)) a.text
 
--- The joiner holds just the pieces of the open texts, and remembers the keys of the last texts that were completed.
+-- The joiner holds just the pieces of the open texts, and remembers the keys of the last texts that
+-- were completed.
 pub record HoldsOpen (remembered : ℕ) (x : Texts) (past : List Arrival) (j : Joiner) : Type 0 where
   pub kept : j.kept ≡ open_pieces x.size past past
   pub finished : j.finished ≡ map x.key (take remembered (completed x.size past))
 
--- The arrival completes its text, and finishes with the whole of it; or it completes none, and finishes nothing.
+-- The arrival completes its text, and finishes with the whole of it; or it completes none, and
+-- finishes nothing.
 pub data Delivers (open_max : ℕ) (x : Texts) (past : List Arrival) (a : Arrival)
     (j : Joiner) : Type 0 where
   Whole : answer open_max j a.piece ≡ Finished (whole_text x a.text)
@@ -39,8 +41,8 @@ pub data Delivers (open_max : ℕ) (x : Texts) (past : List Arrival) (a : Arriva
       → completed x.size (a ∷ past) ≡ completed x.size past
       → Delivers open_max x past a j
 
--- One arrival in order, at a joiner that holds just what has arrived of the open texts: it then still does, and it
--- delivers the text that the arrival completes.
+-- One arrival in order, at a joiner that holds just what has arrived of the open texts: it then
+-- still does, and it delivers the text that the arrival completes.
 abbrev pub JoinsOne : Type 0
 JoinsOne =
     (open_max remembered : ℕ) (x : Texts) (past : List Arrival) (a : Arrival) (j : Joiner)
@@ -92,9 +94,9 @@ AllInOrder open_max remembered x (Brings a ∷ acts) =
     × AllInOrder open_max remembered x acts
 AllInOrder open_max remembered x (Ages now ∷ acts) = AllInOrder open_max remembered x acts
 
--- After any list of arrivals in order and agings the open sets are those of the open texts, with just their pieces; the
--- remembered keys are those of the last completed texts; and what was delivered is each completed text once, whole, in
--- order of completion.
+-- After any list of arrivals in order and agings the open sets are those of the open texts, with
+-- just their pieces; the remembered keys are those of the last completed texts; and what was
+-- delivered is each completed text once, whole, in order of completion.
 abbrev pub JoinsInOrder : Type 0
 JoinsInOrder =
     (open_max remembered : ℕ) (x : Texts) (acts : List (Act Arrival))

@@ -13,8 +13,9 @@ same_width Sixteen Sixteen = true
 same_width Eight Sixteen = false
 same_width Sixteen Eight = false
 
--- Messages in one piece are the same where origin and time stamp are. Segments are of one message where origin, width
--- of the reference, the whole reference and the maximum are the same. No message in one piece is one in segments.
+-- Messages in one piece are the same where origin and time stamp are. Segments are of one message
+-- where origin, width of the reference, the whole reference and the maximum are the same. No
+-- message in one piece is one in segments.
 unfoldable pub same_key : Key → Key → Bool
 same_key (Single a s) (Single b t) = same_address a b && bytes_eq s t
 same_key (Segmented a w r m) (Segmented b v q n) =

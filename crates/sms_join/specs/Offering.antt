@@ -15,9 +15,10 @@ use Rattle.sms_join.specs.Joiner.{Joiner, Answer, Repeat, Kept, Finished, TooMan
 abbrev pub is_first : Joiner → Piece → Bool
 is_first j p = not (is_open j.kept p.key)
 
--- This answer, to a first piece of a set or to a later one, is said: a set that is whole is read as its text. Memory may
--- run out only for a first piece that is kept, which opens a set, and for one that makes its set whole, which makes a text;
--- not for a repeat, nor for a later piece that is kept.
+-- This answer, to a first piece of a set or to a later one, is said: a set that is whole is read as
+-- its text. Memory may run out only for a first piece that is kept, which opens a set, and for one
+-- that makes its set whole, which makes a text; not for a repeat, nor for a later piece that is
+-- kept.
 abbrev pub SaysAnswer : Answer → (first : Bool) → Result Offer OfferFault → Type 0
 SaysAnswer Repeat first (Ok offers.Repeat) = Unit {0}
 SaysAnswer Kept first (Ok offers.Kept) = Unit {0}

@@ -1,4 +1,5 @@
--- The texts that have arrived in part, one set each; and when a piece is turned away. Lists have the newest entry first.
+-- The texts that have arrived in part, one set each; and when a piece is turned away. Lists have
+-- the newest entry first.
 use Rattle.std.specs.Prelude.{◌≡◌, ℕ, ◌≤◌, true, false, List, ◌∷◌, length}
 use Rattle.sms_join.specs.Sets.{open_sets}
 use Rattle.sms_join.specs.Joiner.{Joiner, TooManyOpen, answer, is_repeat, is_whole}
@@ -19,8 +20,8 @@ StayApart =
     → is_clear remembered x.size past past a ≡ true → OpenApart x.key x.size past
     → OpenApart x.key x.size (a ∷ past)
 
--- After an aging the joiner holds just what has arrived of the open texts that remain; the completed texts are those of
--- before, and still no two open texts have one key.
+-- After an aging the joiner holds just what has arrived of the open texts that remain; the
+-- completed texts are those of before, and still no two open texts have one key.
 pub record StaysRight (remembered now : ℕ) (x : Texts) (past : List Arrival)
     (j : Joiner) : Type 0 where
   pub holds : HoldsOpen remembered x (remaining x.size (is_old now j.kept) past past) (aged now j)
@@ -36,7 +37,8 @@ AgesOne =
     → HoldsOpen remembered x past j
     → StaysRight remembered now x past j
 
--- The piece is of a text that is not complete, and makes its set whole just where it completes the text.
+-- The piece is of a text that is not complete, and makes its set whole just where it completes the
+-- text.
 pub record IsFresh (x : Texts) (past : List Arrival) (a : Arrival) (j : Joiner) : Type 0 where
   pub unlisted : is_listed (completed x.size past) a.text ≡ false
   pub unfinished : is_done x.size past a.text ≡ false
@@ -50,7 +52,8 @@ NewIsFresh =
     → is_clear remembered x.size past past a ≡ true → is_recent remembered x.size past a ≡ true
     → is_repeat j a.piece ≡ false → IsFresh x past a j
 
--- As many texts are open as may be, none of its pieces has arrived, and it does not complete its text.
+-- As many texts are open as may be, none of its pieces has arrived, and it does not complete its
+-- text.
 pub record IsTurnedAway (open_max : ℕ) (x : Texts) (past : List Arrival)
     (a : Arrival) : Type 0 where
   pub full : open_max ≤ length (open_texts x.size past past)

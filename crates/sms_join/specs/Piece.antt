@@ -6,8 +6,8 @@ use Rattle.sms_join.specs.declared.key.Key.{Key}
 use Rattle.sms_join.specs.declared.key.Key.TheVariants.{Single, Segmented}
 use Rattle.sms_join.specs.declared.units.Units.{Units}
 
--- A piece has the key of its set, the number of pieces of the set, its own place among them from 1 on, its units, and
--- the moment at which it was offered.
+-- A piece has the key of its set, the number of pieces of the set, its own place among them from 1
+-- on, its units, and the moment at which it was offered.
 pub record Piece : Type 0 where
   pub key : Key
   pub maximum : ℕ
@@ -15,7 +15,8 @@ pub record Piece : Type 0 where
   pub units : Units
   pub moment : ℕ
 
--- A message without a concatenation is known by origin and time stamp, a segment by origin, width, reference and maximum.
+-- A message without a concatenation is known by origin and time stamp, a segment by origin, width,
+-- reference and maximum.
 abbrev pub key_of : AddressValue → List ℕ → Option Concat → Key
 key_of origin stamp None = Single origin stamp
 key_of origin stamp (Some c) = Segmented origin c.width c.reference c.maximum

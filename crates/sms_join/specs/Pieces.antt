@@ -1,6 +1,6 @@
--- The law of pieces: what becomes of the pieces of one message that are offered under its key, among other offers and
--- agings. All lists have the newest entry first. An offer for which memory runs out leaves the joiner as it was, and is
--- none here.
+-- The law of pieces: what becomes of the pieces of one message that are offered under its key,
+-- among other offers and agings. All lists have the newest entry first. An offer for which memory
+-- runs out leaves the joiner as it was, and is none here.
 use Rattle.std.specs.Prelude.{◌≡◌, ◌≢◌, ℕ, ◌+◌, ◌-◌, ◌<◌, ◌≤◌, true, false, if◌then◌else◌, List, [], ◌∷◌, ◌++◌, length, get_or}
 use Rattle.sms_tpdu.specs.declared.user_data.concat.Width.{Width}
 use Rattle.sms_join.specs.declared.key.Key.{Key}
@@ -16,8 +16,8 @@ use Rattle.sms_join.specs.Joiner.{Joiner, Answer, Repeat, Kept, Finished, TooMan
 use Rattle.sms_join.specs.Aging.{is_old}
 use Rattle.sms_join.specs.Acts.{Act, Brings, Ages, brought, acted_all}
 
--- What is offered under the key is one of the message's pieces: the maximum is their number, the sequence is from 1 to
--- it, and the units are those of this piece.
+-- What is offered under the key is one of the message's pieces: the maximum is their number, the
+-- sequence is from 1 to it, and the units are those of this piece.
 abbrev pub IsPiece : Key → List Units → Piece → Type 0
 IsPiece k pieces p =
     same_key p.key k ≡ true
@@ -75,8 +75,8 @@ NoneDropped open_max remembered j k (Ages now ∷ acts) =
     → is_old now (acted_all open_max remembered j acts).kept k ≡ false)
     × NoneDropped open_max remembered j k acts
 
--- The pieces of a message are offered under its key in any order, with repeats, and with other offers and agings between.
--- By this offer, and by none before it, all pieces have come.
+-- The pieces of a message are offered under its key in any order, with repeats, and with other
+-- offers and agings between. By this offer, and by none before it, all pieces have come.
 pub record ComeAll (open_max remembered : ℕ) (j : Joiner) (k : Key) (pieces : List Units)
     (after : List (Act Piece)) (p : Piece) (before : List (Act Piece)) : Type 0 where
   -- at first the key is neither open nor remembered
@@ -96,7 +96,8 @@ pub record ComeAll (open_max remembered : ℕ) (j : Joiner) (k : Key) (pieces : 
       (acted_all open_max remembered j (Brings p ∷ before)) k after
       < remembered
 
--- That offer finishes the set with the pieces in order, and no other offer under the key finishes it.
+-- That offer finishes the set with the pieces in order, and no other offer under the key finishes
+-- it.
 abbrev pub FinishesOnce : Type 0
 FinishesOnce =
     (open_max remembered : ℕ) (j : Joiner) (k : Key) (pieces : List Units)

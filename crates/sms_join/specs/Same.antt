@@ -5,8 +5,8 @@ use Rattle.sms_join.specs.Piece.{Piece}
 use Rattle.sms_join.specs.Sets.{has, units_at, is_open, open_sets, opened_at}
 use Rattle.sms_join.specs.Joiner.{Joiner, answer, offered}
 
--- The same sets are open, as many of them, from the same moments on, with the same sequences and units; and the same
--- keys are remembered, in the same order.
+-- The same sets are open, as many of them, from the same moments on, with the same sequences and
+-- units; and the same keys are remembered, in the same order.
 pub record IsSame (i j : Joiner) : Type 0 where
   pub pieces : (k : Key) (n : ℕ) → has i.kept k n ≡ has j.kept k n
   pub units : (k : Key) (n : ℕ) → has i.kept k n ≡ true → units_at i.kept k n ≡ units_at j.kept k n

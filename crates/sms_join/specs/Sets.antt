@@ -1,5 +1,5 @@
--- Sets of pieces that are open at one time, each known by its key. The pieces of all sets stand in one list, the newest
--- first.
+-- Sets of pieces that are open at one time, each known by its key. The pieces of all sets stand in
+-- one list, the newest first.
 use Rattle.std.specs.Prelude.{ℕ, zero, suc, Bool, true, false, not, ◌&&◌, ◌||◌, if◌then◌else◌, ◌==◌, List, [], ◌∷◌, ◌++◌}
 use Rattle.sms_join.specs.declared.key.Key.{Key}
 use Rattle.sms_join.specs.declared.units.Units.{Units}

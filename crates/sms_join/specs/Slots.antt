@@ -11,8 +11,8 @@ use Rattle.sms_join.specs.OpenSet.{SetValue}
 abbrev pub key_eq : Key → Key → Bool
 key_eq = (derived.ghosts).eq
 
--- the moment of the set's first piece; and at each place, of which the first is that of sequence 1, the units of the
--- piece that has come
+-- the moment of the set's first piece; and at each place, of which the first is that of sequence 1,
+-- the units of the piece that has come
 pub record SlotValue : Type 0 where
   pub opened : ℕ
   pub places : List (Option Units)

@@ -1,4 +1,5 @@
--- The units of a text: septets of the 7-bit default alphabet or 16-bit units (3GPP TS 23.038, 6.2.1 and 6.2.3).
+-- The units of a text: septets of the 7-bit default alphabet or 16-bit units (3GPP TS 23.038, 6.2.1
+-- and 6.2.3).
 use Rattle.std.specs.Prelude.{ℕ, Bool, List, [], Option, Some, None, ◌==◌, unwrap_or}
 use Rattle.std.specs.List.{flat_map, AllByRecursion}
 use Rattle.std.specs.Char.{IsScalar}

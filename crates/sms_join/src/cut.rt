@@ -85,7 +85,8 @@ fn count_pieces(units: &Units, width: Width) -> usize
     count_parts(units, units.room_beside(width))
 }
 
-/// Where the pieces of a text's units by a room end. There are `many`, and room is made for all at once.
+/// Where the pieces of a text's units by a room end. There are `many`, and room is made for all at
+/// once.
 fn ends_by(alloc: Global, units: &Units, room: usize, many: u8) -> Result<Vec<usize>, AllocError>
     requires { 2 ≤ room }
     ensures parted { (text : List ℕ) → IsText text → units.now ≡ units_of_text text
@@ -117,9 +118,10 @@ fn ends_of(alloc: Global, units: &Units, width: Width, many: u8) -> Result<Vec<u
 /// Cuts a text into its segments, which lend its units, for references of this width (3GPP TS 23.040, 9.2.3.24.1 and
 /// 9.2.3.24.8).
 ///
-/// The text is sent as septets where the default alphabet and its extension have all its characters, else as UTF-16
-/// units. It is one segment where it fits 160 septets or 70 units. Else each segment has as many whole characters as
-/// fit 153 septets or 67 units, or 152 and 66 with `Width::Sixteen`.
+/// The text is sent as septets where the default alphabet and its extension have all its
+/// characters, else as UTF-16 units. It is one segment where it fits 160 septets or 70 units. Else
+/// each segment has as many whole characters as fit 153 septets or 67 units, or 152 and 66 with
+/// `Width::Sixteen`.
 pub fn cut_text(alloc: Global, text: &str, width: Width) -> Result<Segments, SplitFault>
     ensures segments { IfOk result (λ segments.
         AreSegments width (chars text.now) segments) }

@@ -25,8 +25,8 @@ use std::marker::Model;
 
 /// Joins the segments of messages (3GPP TS 23.040, 9.2.3.24.1 and 9.2.3.24.8).
 ///
-/// It keeps the segments of messages that are not whole, and remembers which messages finished last, so that none
-/// finishes twice.
+/// It keeps the segments of messages that are not whole, and remembers which messages finished
+/// last, so that none finishes twice.
 #[derive(Drop)]
 pub struct Joiner {
     alloc: Global,
@@ -71,8 +71,8 @@ fn size_of(concat: Option<Concat>) -> u8
 }
 
 impl Joiner {
-    /// A joiner that holds nothing, for at most `open_max` open sets and `remembered` keys. Both must be above 0. It
-    /// makes the room for the keys.
+    /// A joiner that holds nothing, for at most `open_max` open sets and `remembered` keys. Both
+    /// must be above 0. It makes the room for the keys.
     #[tactic(auto, unfolding(crate::specs::Joiner::new_joiner))]
     pub fn new(alloc: Global, open_max: usize, remembered: usize) -> Result<Joiner, AllocError>
         requires sets { 0 < open_max }
@@ -88,13 +88,15 @@ impl Joiner {
         })
     }
 
-    /// Takes a message or a segment: the moment, whom it is from, its time stamp, its place among the segments of its
-    /// message, if it is one, and its units. The moment is in seconds from the start of 2000, like that of `age`.
+    /// Takes a message or a segment: the moment, whom it is from, its time stamp, its place among
+    /// the segments of its message, if it is one, and its units. The moment is in seconds from the
+    /// start of 2000, like that of `age`.
     ///
-    /// A segment whose set is not whole is kept; the last one finishes the set with its text. A piece that is there
-    /// already, or whose set is among those that finished last, is a repeat. A segment that would open a set is refused
-    /// where as many sets are open as may be; a piece that opens a set, or makes one whole, is refused where memory runs
-    /// out. After a refusal the same piece may be offered again.
+    /// A segment whose set is not whole is kept; the last one finishes the set with its text. A
+    /// piece that is there already, or whose set is among those that finished last, is a repeat. A
+    /// segment that would open a set is refused where as many sets are open as may be; a piece that
+    /// opens a set, or makes one whole, is refused where memory runs out. After a refusal the same
+    /// piece may be offered again.
     pub fn offer(
         &mut self,
         now: u64,
@@ -148,7 +150,8 @@ impl Joiner {
         !self.sets.has(index, sequence_of(concat)) && self.sets.lacks_one(index)
     }
 
-    /// Drops the sets whose first piece came 604,800 seconds before the moment, or earlier. It takes no memory.
+    /// Drops the sets whose first piece came 604,800 seconds before the moment, or earlier. It
+    /// takes no memory.
     pub fn age(&mut self, now: u64)
         ensures holds { IsSame self.new.holds (aged now self.old.holds) }
         ensures limits { SameLimits self.new self.old }

@@ -17,7 +17,8 @@ pub enum Key {
         origin: Address,
         stamp: Stamp,
     },
-    /// A message in segments (3GPP TS 23.040, 9.2.3.24.1 and 9.2.3.24.8): whom it is from, and what its segments share.
+    /// A message in segments (3GPP TS 23.040, 9.2.3.24.1 and 9.2.3.24.8): whom it is from, and what
+    /// its segments share.
     Segmented {
         origin: Address,
         width: Width,

@@ -1,4 +1,5 @@
-//! What holds of every joiner, whatever comes, and of every cut of a text. Each function is empty: its contract is the law.
+//! What holds of every joiner, whatever comes, and of every cut of a text. Each function is empty:
+//! its contract is the law.
 
 ghost use Rattle.sms_join.specs.Aging.{AgesAlike, SetsStayFew};
 ghost use Rattle.sms_join.specs.Completion.{CompletedAreWhole, CompleteInOrder};
@@ -12,8 +13,8 @@ ghost use Rattle.sms_join.specs.Pieces.{FinishesOnce, FinishesText};
 ghost use Rattle.sms_join.specs.Reading.{CutIsReadAsText};
 ghost use Rattle.sms_join.specs.Same.{AnswersAlike};
 
-/// The pieces of a message that are offered under its key finish it once, by the first offer with which all have come,
-/// where no aging drops them between.
+/// The pieces of a message that are offered under its key finish it once, by the first offer with
+/// which all have come, where no aging drops them between.
 pub fn pieces_finish_once()
     ensures { FinishesOnce }
 {}
@@ -28,7 +29,8 @@ pub fn finishes_by_history()
     ensures { FinishesByHistory }
 {}
 
-/// One arrival in order delivers the text that it completes, and leaves just the pieces of the texts that are open.
+/// One arrival in order delivers the text that it completes, and leaves just the pieces of the
+/// texts that are open.
 pub fn arrival_joins_in_order()
     ensures { JoinsOne }
 {}
@@ -45,8 +47,8 @@ pub fn whole_by_count()
     ensures { WholeByCount }
 {}
 
-/// Joiners that hold the same answer the same to each piece, and hold the same afterwards, whatever the
-/// order in which they keep their pieces.
+/// Joiners that hold the same answer the same to each piece, and hold the same afterwards, whatever
+/// the order in which they keep their pieces.
 pub fn answers_alike()
     ensures { AnswersAlike }
 {}

@@ -19,7 +19,8 @@ const SEPTETS: usize = 160;
 /// As many 16-bit units as a message has room for.
 const UCS2_UNITS: usize = 70;
 
-/// As many bytes as the text of a message takes at most: two for each septet, or three for each 16-bit unit.
+/// As many bytes as the text of a message takes at most: two for each septet, or three for each
+/// 16-bit unit.
 const BYTES: usize = 320;
 
 /// The septets of all segments, where all have septets.
@@ -119,8 +120,9 @@ pub(crate) fn read_lent(alloc: Global, segments: &[&Units]) -> Result<String, Al
     joined_texts(alloc, segments)
 }
 
-/// The text of the segments of a message, in order. Segments of one alphabet are joined before they are read, so that a
-/// pair may begin in one and end in the next; with both alphabets each segment is read by itself.
+/// The text of the segments of a message, in order. Segments of one alphabet are joined before they
+/// are read, so that a pair may begin in one and end in the next; with both alphabets each segment
+/// is read by itself.
 pub fn read_units(alloc: Global, segments: &[Units]) -> Result<String, AllocError>
     ensures { IfOk result (λ text. chars (string_bytes text) ≡ text_of_segments segments.now) }
 {

@@ -15,12 +15,14 @@ use sms_tpdu::{Body, Concat, Header, Octets, Septets, UnitsView, UserData, Width
 use std::alloc::{AllocError, Global};
 use std::marker::Model;
 
-/// A part of a text, and its place: the sequence counts from 1 to the maximum, which is 1 for a text in one piece.
+/// A part of a text, and its place: the sequence counts from 1 to the maximum, which is 1 for a
+/// text in one piece.
 #[derive(Drop)]
 pub struct Segment {
     /// What stands after TP-UDH in TP-UD, before it is packed.
     pub units: Units,
-    /// The maximum number of short messages in the concatenated short message (3GPP TS 23.040, 9.2.3.24.1).
+    /// The maximum number of short messages in the concatenated short message (3GPP TS 23.040,
+    /// 9.2.3.24.1).
     pub maximum: u8,
     /// The sequence number of this short message.
     pub sequence: u8,
@@ -160,8 +162,8 @@ impl<'a> SegmentView<'a> {
         })
     }
 
-    /// The user data of the segment: its units after a header with its place, or its units alone where it is the only
-    /// one (3GPP TS 23.040, 9.2.3.24.1 and 9.2.3.24.8).
+    /// The user data of the segment: its units after a header with its place, or its units alone
+    /// where it is the only one (3GPP TS 23.040, 9.2.3.24.1 and 9.2.3.24.8).
     ///
     /// All segments of a message have one reference, which is below 256 with `Width::Eight`.
     pub fn user(&self, alloc: Global, width: Width, reference: u16) -> Result<UserData, AllocError>
@@ -204,8 +206,8 @@ impl<'a> SegmentView<'a> {
     }
 }
 
-/// The user data of a segment: its units after a header with its place, or its units alone where it is the only one
-/// (3GPP TS 23.040, 9.2.3.24.1 and 9.2.3.24.8).
+/// The user data of a segment: its units after a header with its place, or its units alone where it
+/// is the only one (3GPP TS 23.040, 9.2.3.24.1 and 9.2.3.24.8).
 ///
 /// All segments of a message have one reference, which is below 256 with `Width::Eight`.
 pub fn segment_user(

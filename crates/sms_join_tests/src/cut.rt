@@ -7,8 +7,8 @@ use std::alloc::{AllocError, Global};
 use std::process::Abort;
 use std::test::Fail;
 
-/// A text: a letter a number of times, another text, and the letter a number of times; and how many units its segments
-/// have with references of eight bits, and of sixteen.
+/// A text: a letter a number of times, another text, and the letter a number of times; and how many
+/// units its segments have with references of eight bits, and of sixteen.
 pub struct Cut {
     pub letter: &'static str,
     pub times: usize,

@@ -269,8 +269,8 @@ fn origin_of(alloc: Global, row: &Row) -> Result<Address, AllocError> {
     }
 }
 
-/// Whether an offer is answered as wanted, and where it wants memory, one more. The joiner says of the piece before and
-/// between what it said.
+/// Whether an offer is answered as wanted, and where it wants memory, one more. The joiner says of
+/// the piece before and between what it said.
 fn is_answered(alloc: Global, joiner: &mut Joiner, row: &Row) -> Result<bool, AllocError> {
     let origin = origin_of(alloc, row)?;
     let (stamp, place) = (Stamp::new([0; 7]), checked(row.place));
@@ -498,7 +498,8 @@ fn segment_at(alloc: Global, segments: &Segments, index: usize) -> Result<Segmen
     }
 }
 
-/// Whether the set finishes as the text, where this segment is offered; none where it does not finish.
+/// Whether the set finishes as the text, where this segment is offered; none where it does not
+/// finish.
 fn finishes(
     joiner: &mut Joiner,
     origin: &Address,
@@ -518,7 +519,8 @@ fn finishes(
     }
 }
 
-/// Whether the set finishes as the text, where the segment of an index is offered; none where it does not finish.
+/// Whether the set finishes as the text, where the segment of an index is offered; none where it
+/// does not finish.
 fn finishes_at(
     alloc: Global,
     joiner: &mut Joiner,
@@ -531,7 +533,8 @@ fn finishes_at(
     finishes(joiner, &origin, segment, text)
 }
 
-/// How often the set finishes, and how often as the text, where the segments are offered in this order.
+/// How often the set finishes, and how often as the text, where the segments are offered in this
+/// order.
 fn times_finished(
     alloc: Global,
     joiner: &mut Joiner,
@@ -663,8 +666,8 @@ static OF_TWO_SETS: [Row; 7] = [
     },
 ];
 
-/// One growth is refused, whichever it is (docs/CONTRIBUTING.md says how): an offer that wants memory has changed
-/// nothing, and the same offer is then answered as where none was refused.
+/// One growth is refused, whichever it is (docs/CONTRIBUTING.md says how): an offer that wants
+/// memory has changed nothing, and the same offer is then answered as where none was refused.
 #[test]
 fn answers_after_a_refused_growth(rt: HostRuntime) -> Result<(), Fail> {
     let rows = OF_TWO_SETS.as_slice();

@@ -45,7 +45,8 @@ fn put_pair(alloc: Global, segments: &mut Vec<Units>) -> Result<(), AllocError> 
     put_unit(alloc, segments, 0xDE00)
 }
 
-/// A pair that begins in one segment ends in the next, but not where another segment has the other alphabet.
+/// A pair that begins in one segment ends in the next, but not where another segment has the other
+/// alphabet.
 #[test]
 fn reads_segments(rt: HostRuntime) -> Result<(), Fail> {
     let mut segments = Vec::new(rt.alloc());

@@ -12,7 +12,8 @@ use std::alloc::{AllocError, Global};
 use std::process::Abort;
 use std::test::Fail;
 
-/// A letter a number of times and another text, and the header and the body of its last segment under reference 7.
+/// A letter a number of times and another text, and the header and the body of its last segment
+/// under reference 7.
 struct LastSegment {
     letter: &'static str,
     times: usize,

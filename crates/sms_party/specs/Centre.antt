@@ -30,9 +30,10 @@ use Rattle.sms_party.specs.declared.message.Message.TheVariants.{NotCp, Note, Ti
 use Rattle.sms_party.specs.declared.message.Tag.{Tag}
 use Rattle.sms_party.specs.declared.outcome.Dropped.TheVariants as dropped
 
--- A phone has opened the transaction (flag 0). The unit of an RP-DATA from a phone is taken. What is no RP message is
--- refused with 97, message type non-existent, where its type is unknown, and else with 96, invalid mandatory information
--- (3GPP TS 24.011, 8.2.5.4). Nothing else is waited for.
+-- A phone has opened the transaction (flag 0). The unit of an RP-DATA from a phone is taken. What
+-- is no RP message is refused with 97, message type non-existent, where its type is unknown, and
+-- else with 96, invalid mandatory information (3GPP TS 24.011, 8.2.5.4). Nothing else is waited
+-- for.
 unfoldable pub centre_opened : ℕ → List AddressValue → CentreState → ℕ → ℕ → Tag → Relay
     → Option Origin → Does CentreState
 centre_opened limit phones c now phone tag (Transfer FromPhone unit) origin =
@@ -43,14 +44,15 @@ centre_opened limit phones c now phone tag Unreadable origin =
     refuses_with c ToPhone tag 96 None None
 centre_opened limit phones c now phone tag _ origin = drops c dropped.Unmatched
 
--- The centre has opened the transaction (flag 1): it waits for the answer to its latest push to this phone.
+-- The centre has opened the transaction (flag 1): it waits for the answer to its latest push to
+-- this phone.
 unfoldable pub centre_answered : CentreState → ℕ → ℕ → Tag → Relay → Does CentreState
 centre_answered c now phone tag (Answer FromPhone cause report) =
     centre_hears c now phone tag cause (c.line phone).latest
 centre_answered c now phone tag _ = drops c dropped.Unmatched
 
--- The arguments are the limit of held messages, the phones' addresses, the centre, the moment, the phone that the message
--- comes from, the message, and the segment that it is of.
+-- The arguments are the limit of held messages, the phones' addresses, the centre, the moment, the
+-- phone that the message comes from, the message, and the segment that it is of.
 unfoldable pub centre_receives : ℕ → List AddressValue → CentreState → ℕ → ℕ → Message
     → Option Origin → Does CentreState
 centre_receives limit phones c now phone NotCp origin = drops c dropped.NotCp

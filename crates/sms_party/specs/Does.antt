@@ -51,8 +51,9 @@ abbrev pub Puts : Outcome → List Message → Result Step Dropped → Type 0
 Puts outcome messages (Ok step) = (step.outcome ≡ outcome) × CarriesEach (packets_of step) messages
 Puts outcome messages (Err why) = why ≡ dropped.Memory
 
--- The call did this in a state: it answered so, its packets carry what was put out, and the value stands for the state
--- afterwards. Or memory ran out, and the value stands for the state that was. Or it dropped what came, for this reason.
+-- The call did this in a state: it answered so, its packets carry what was put out, and the value
+-- stands for the state afterwards. Or memory ran out, and the value stands for the state that was.
+-- Or it dropped what came, for this reason.
 abbrev pub Answered : {S : Type 0} → (S → Type 0) → S → Does S → Result Step Dropped → Type 0
 Answered Stands s d (Ok step) =
     (d.answer ≡ Ok step.outcome) × CarriesEach (packets_of step) d.put × Stands d.after

@@ -1,4 +1,5 @@
--- A phone: its sender takes what comes in the transactions that it has opened, its receiver the rest.
+-- A phone: its sender takes what comes in the transactions that it has opened, its receiver the
+-- rest.
 use Rattle.std.specs.Prelude.{◌≡◌, ℕ, Bool, true, false, List, Result, Err}
 use Rattle.sms_party.specs.declared.message.Message.{Message}
 use Rattle.sms_party.specs.declared.message.Message.TheVariants.{NotCp, Note, Tiny, Data}
@@ -17,7 +18,8 @@ pub record PhoneValue : Type 0 where
   pub sender : SenderValue
   pub receiver : ReceiverValue
 
--- The message is of a transaction that the phone has opened: the flag is 1 (3GPP TS 24.007, 11.2.3.1.3).
+-- The message is of a transaction that the phone has opened: the flag is 1 (3GPP TS 24.007,
+-- 11.2.3.1.3).
 abbrev pub is_answer : Message → Bool
 is_answer NotCp = false
 is_answer (Note flag value) = flag
@@ -34,7 +36,8 @@ TakesBy false now message old result new =
     result new.receiver
     × (new.sender ≡ old.sender)
 
--- Octets come: they are read as a message, and one of the two takes it. Or memory ran out, and nothing has changed.
+-- Octets come: they are read as a message, and one of the two takes it. Or memory ran out, and
+-- nothing has changed.
 abbrev pub PhoneReceives : ℕ → List ℕ → PhoneValue → Result Step Dropped → PhoneValue → Type 0
 PhoneReceives now octets old (Err dropped.Memory) new = new ≡ old
 PhoneReceives now octets old result new =

@@ -21,8 +21,8 @@ use Rattle.sms_party.specs.declared.message.Message.TheVariants.{NotCp, Note, Ti
 use Rattle.sms_party.specs.declared.message.Tag.{Tag}
 use Rattle.sms_party.specs.declared.outcome.Dropped.TheVariants as dropped
 
--- The text of an SMS-DELIVER is offered. Another type of unit: B0, TPDU not supported. A unit with another fault: FF,
--- unspecified. The RP-Cause is 111, protocol error.
+-- The text of an SMS-DELIVER is offered. Another type of unit: B0, TPDU not supported. A unit with
+-- another fault: FF, unspecified. The RP-Cause is 111, protocol error.
 unfoldable pub receiver_takes : ReceiverLimits → ReceiverState → ℕ → Tag → TransferUnit
     → Option Origin → Does ReceiverState
 receiver_takes limits s now tag (Deliver d) origin =
@@ -30,9 +30,10 @@ receiver_takes limits s now tag (Deliver d) origin =
 receiver_takes limits s now tag BadUnit origin = refuses s tag 111 0xFF
 receiver_takes limits s now tag _ origin = refuses s tag 111 0xB0
 
--- The centre has opened the transaction (flag 0). The unit of an RP-DATA to a phone is taken. What is no RP message is
--- refused with 97, message type non-existent, where its type is unknown, and else with 96, invalid mandatory information
--- (3GPP TS 24.011, 8.2.5.4). Nothing else is waited for.
+-- The centre has opened the transaction (flag 0). The unit of an RP-DATA to a phone is taken. What
+-- is no RP message is refused with 97, message type non-existent, where its type is unknown, and
+-- else with 96, invalid mandatory information (3GPP TS 24.011, 8.2.5.4). Nothing else is waited
+-- for.
 unfoldable pub receiver_opened : ReceiverLimits → ReceiverState → ℕ → Tag → Relay → Option Origin
     → Does ReceiverState
 receiver_opened limits s now tag (Transfer ToPhone unit) origin =
@@ -41,8 +42,8 @@ receiver_opened limits s now tag UnknownType origin = refuses_with s FromPhone t
 receiver_opened limits s now tag Unreadable origin = refuses_with s FromPhone tag 96 None None
 receiver_opened limits s now tag _ origin = drops s dropped.Unmatched
 
--- The arguments are the limits, the phone, the moment, the message, and the segment that it is of. With flag 1 the phone
--- has opened the transaction: that is its sender's.
+-- The arguments are the limits, the phone, the moment, the message, and the segment that it is of.
+-- With flag 1 the phone has opened the transaction: that is its sender's.
 unfoldable pub receiver_receives : ReceiverLimits → ReceiverState → ℕ → Message → Option Origin
     → Does ReceiverState
 receiver_receives limits s now NotCp origin = drops s dropped.NotCp

@@ -16,8 +16,9 @@ pub data Place : Type 0 where
   -- to this phone, from the centre
   Phone : ℕ → Place
 
--- A message that was put out. Beside it: the segment of a typed text that a submission or delivery is of, and which
--- putting out of its sender, counted from 0, a submission is or an answer answers. Neither is any part of the message.
+-- A message that was put out. Beside it: the segment of a typed text that a submission or delivery
+-- is of, and which putting out of its sender, counted from 0, a submission is or an answer answers.
+-- Neither is any part of the message.
 pub record Sent : Type 0 where
   pub message : Message
   pub to : Place

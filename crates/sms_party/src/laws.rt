@@ -1,4 +1,5 @@
-//! What follows from the definitions alone. No function here does anything: its contract is the law.
+//! What follows from the definitions alone. No function here does anything: its contract is the
+//! law.
 
 ghost use Rattle.sms_party.specs.Drops.{DropsPutNothingOut};
 ghost use Rattle.sms_party.specs.Sender.Ended.{EndedAreTold};

@@ -18,7 +18,8 @@ pub enum TransferUnit {
     BadUnit,
 }
 
-/// The report of an RP-ACK or RP-ERROR: an SMS-SUBMIT-REPORT to a phone, an SMS-DELIVER-REPORT from a phone.
+/// The report of an RP-ACK or RP-ERROR: an SMS-SUBMIT-REPORT to a phone, an SMS-DELIVER-REPORT from
+/// a phone.
 #[derive(Drop)]
 pub enum Report {
     SubmitAck(SubmitAck),

@@ -118,7 +118,8 @@ impl Phone {
         }
     }
 
-    /// Drops the sets of segments whose first segment came 604,800 seconds before, or earlier. It takes no memory.
+    /// Drops the sets of segments whose first segment came 604,800 seconds before, or earlier. It
+    /// takes no memory.
     pub fn age(&mut self, now: u64)
         ensures receiver { AgesTo now self.old.receiver self.new.receiver }
         ensures sender { self.new.sender ≡ self.old.sender }

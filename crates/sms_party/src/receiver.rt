@@ -123,7 +123,8 @@ impl Receiver {
         self.store.as_slice()
     }
 
-    /// Drops the sets of segments whose first segment came 604,800 seconds before, or earlier. It takes no memory.
+    /// Drops the sets of segments whose first segment came 604,800 seconds before, or earlier. It
+    /// takes no memory.
     pub fn age(&mut self, now: u64)
         ensures { AgesTo now self.old self.new }
     {
@@ -132,8 +133,8 @@ impl Receiver {
         self.joiner.age(now);
     }
 
-    /// Takes what comes to the phone in a transaction that the centre has opened. If it answers an error, the phone is
-    /// as it was.
+    /// Takes what comes to the phone in a transaction that the centre has opened. If it answers an
+    /// error, the phone is as it was.
     pub fn receive(&mut self, now: u64, octets: &[u8]) -> Result<Step, Dropped>
         ensures receives { ReceivesAs now octets.now self.old result self.new }
         ensures refused { OnErr result (self.new ≡ self.old) }
@@ -228,7 +229,8 @@ impl Receiver {
         self.store.len() >= self.limit && self.joiner.would_finish(origin, stamp, concat)
     }
 
-    /// Takes a message or a segment. All growths come before the joiner's, which is the last call that can fail.
+    /// Takes a message or a segment. All growths come before the joiner's, which is the last call
+    /// that can fail.
     fn take_piece(
         &mut self,
         now: u64,

@@ -33,7 +33,8 @@ const PENDING_MAX: usize = 1000;
 /// How often a submission is repeated.
 const REPEATS_MAX: u8 = 3;
 
-/// The failure cause of an SMS-SUBMIT-REPORT where a duplicate was rejected (3GPP TS 23.040, 9.2.3.22).
+/// The failure cause of an SMS-SUBMIT-REPORT where a duplicate was rejected (3GPP TS 23.040,
+/// 9.2.3.22).
 const DUPLICATE: u8 = 0xC5;
 
 /// How a typed text stands.
@@ -154,8 +155,8 @@ fn packets_of(
 }
 
 impl Sender {
-    /// A phone that has typed nothing. Its concatenation references have this width, and with `reject` each submission
-    /// asks to reject duplicates, else only a repeated one.
+    /// A phone that has typed nothing. Its concatenation references have this width, and with
+    /// `reject` each submission asks to reject duplicates, else only a repeated one.
     pub fn new(alloc: Global, width: Width, reject: bool) -> Sender
         ensures { IsNewSender width reject result }
     {
@@ -263,7 +264,8 @@ impl Sender {
         }
     }
 
-    /// Puts the waiting segment out once more; after three repeats its text has failed, and the next one's turn comes.
+    /// Puts the waiting segment out once more; after three repeats its text has failed, and the
+    /// next one's turn comes.
     pub fn timeout(&mut self) -> Result<Step, Dropped>
         ensures steps { Steps times_out self.old result self.new }
         ensures refused { OnErr result (self.new ≡ self.old) }
@@ -375,7 +377,8 @@ impl Sender {
         }
     }
 
-    /// The packet of a segment of a waiting text, if there are such a text and such a segment; both are counted from 0.
+    /// The packet of a segment of a waiting text, if there are such a text and such a segment; both
+    /// are counted from 0.
     fn submission(&self, turn: usize, place: u8, reject: bool) -> Result<Option<Vec<u8>>, Dropped>
         ensures carries { IfOk result (λ packet. CarriesOptional packet
             (text_put self.now.next reject place (slice_get self.now.pending turn))) }

@@ -1,4 +1,5 @@
--- A packet carries a message: octets of the connection, and in them those of the relay (3GPP TS 24.011, 7.2 and 7.3).
+-- A packet carries a message: octets of the connection, and in them those of the relay (3GPP TS
+-- 24.011, 7.2 and 7.3).
 use Rattle.std.specs.Prelude.{◌≡◌, ℕ, Bool, List, Option, Some, None}
 use Rattle.sms_field.specs.RelayAddressValue.{RelayAddressValue}
 use Rattle.sms_relay.specs.CpValue.{CpValue}
@@ -10,8 +11,9 @@ use Rattle.sms_relay.specs.declared.cp.CpBody.{CpBody}
 use Rattle.sms_relay.specs.declared.cp.CpBody.TheVariants as cp
 use Rattle.sms_relay.specs.declared.rp.RpBody.TheVariants as rp
 
--- An acknowledgement of the connection; a transfer, of a side, a reference, an address and the octets of a unit;
--- or the answer to one, of a side, a reference, a cause where it is a refusal, and the octets of a unit if it has one.
+-- An acknowledgement of the connection; a transfer, of a side, a reference, an address and the
+-- octets of a unit; or the answer to one, of a side, a reference, a cause where it is a refusal,
+-- and the octets of a unit if it has one.
 pub data Carried : Type 0 where
   acknowledgement : Carried
   transfer : Side → ℕ → Option RelayAddressValue → List ℕ → Carried

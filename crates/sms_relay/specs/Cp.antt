@@ -26,7 +26,8 @@ cp_body kind.Error = do
 
 unfoldable pub cp_message : Field CpValue RelayFault
 cp_message = do
-  -- protocol discriminator and transaction identifier; another protocol: NotSms; a reserved value: BadTransaction
+  -- protocol discriminator and transaction identifier; another protocol: NotSms; a reserved value:
+  -- BadTransaction
   named ← octet_by Short transaction
   -- message type; another type: UnknownType
   kind ← octet_by Short cp_kind

@@ -18,7 +18,8 @@ use Rattle.sms_relay.specs.declared.rp_kind.RpKind.TheVariants as kind
 use Rattle.sms_relay.specs.declared.fault.RelayFault.{RelayFault}
 use Rattle.sms_relay.specs.declared.fault.RelayFault.TheVariants.{Short, BadAddress}
 
--- RP-DATA: the originator address, the destination address and the user data. A phone gives no originator, and is given no destination.
+-- RP-DATA: the originator address, the destination address and the user data. A phone gives no
+-- originator, and is given no destination.
 unfoldable pub rp_data : Side → Field RpBody RelayFault
 rp_data FromPhone = do
   -- RP-Originator Address, of length 0; another: BadAddress
@@ -85,7 +86,8 @@ rp_octets m =
 abbrev pub SpellsRp : RpValue → List ℕ → Type 0
 SpellsRp m octets = IsRpMessage m × (octets ≡ rp_octets m)
 
--- after an RP-ACK or RP-ERROR without user data stands nothing, or another octet than the tag: with the tag it has user data
+-- after an RP-ACK or RP-ERROR without user data stands nothing, or another octet than the tag: with
+-- the tag it has user data
 abbrev pub LacksUserData : Option (List ℕ) → List ℕ → Type 0
 LacksUserData None more = LacksTag user_data_tag more
 LacksUserData (Some user) more = Unit {0}

@@ -1,4 +1,5 @@
--- The cause of an RP-ERROR (3GPP TS 24.011, 8.2.5.4). Bit 7 of the cause octet is no part of the cause.
+-- The cause of an RP-ERROR (3GPP TS 24.011, 8.2.5.4). Bit 7 of the cause octet is no part of the
+-- cause.
 use Rattle.std.specs.Prelude.{◌≡◌, ℕ, ◌%◌, ◌<◌, ◌==◌, Bool, true, false, List, [], ◌∷◌, Option, Some, None, Result, Ok, Err, if◌then◌else◌}
 use Rattle.sms_field.specs.Field.{Field, ◌>>=◌, always, octet, octet_by}
 use Rattle.sms_relay.specs.declared.fault.RelayFault.{RelayFault}
@@ -16,7 +17,8 @@ diagnostic true = do
   octet ← octet Short
   always (Some octet)
 
--- the length of RP-Cause, the cause value with an extension bit, and the diagnostic field where the length is 2
+-- the length of RP-Cause, the cause value with an extension bit, and the diagnostic field where the
+-- length is 2
 unfoldable pub rp_cause : Field (ℕ × Option ℕ) RelayFault
 rp_cause = do
   -- the length of RP-Cause; neither 1 nor 2: BadCause

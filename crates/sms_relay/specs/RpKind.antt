@@ -1,4 +1,5 @@
--- The first octet of an RP message: its type (3GPP TS 24.011, 8.2.2). Bits are numbered from 0; bits 3 to 7 are spare.
+-- The first octet of an RP message: its type (3GPP TS 24.011, 8.2.2). Bits are numbered from 0;
+-- bits 3 to 7 are spare.
 use Rattle.std.specs.Prelude.{ℕ, ◌+◌, Bool, true, false, Result, Ok, Err}
 use Rattle.sms_field.specs.Bit.{bit}
 use Rattle.sms_relay.specs.declared.side.Side.{Side}

@@ -1,4 +1,5 @@
--- RP-User data: a length octet and as many octets as it says, at most 233 (3GPP TS 24.011, 8.2.5.3).
+-- RP-User data: a length octet and as many octets as it says, at most 233 (3GPP TS 24.011,
+-- 8.2.5.3).
 use Rattle.std.specs.Prelude.{◌≡◌, ℕ, ◌≤◌, List, [], ◌∷◌, length, Option, Some, None}
 use Rattle.sms_text.specs.Octets.{IsOctets}
 use Rattle.sms_field.specs.Field.{Field, ◌>>=◌, octet_by, octets_of, up_to}

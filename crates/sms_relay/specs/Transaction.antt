@@ -1,4 +1,5 @@
--- The first octet of a CP message: protocol discriminator and transaction identifier (3GPP TS 24.011, 8.1.2). Bits are numbered from 0.
+-- The first octet of a CP message: protocol discriminator and transaction identifier (3GPP TS
+-- 24.011, 8.1.2). Bits are numbered from 0.
 use Rattle.std.specs.Prelude.{◌≡◌, ℕ, ◌+◌, ◌*◌, ◌/◌, ◌%◌, ◌<◌, ◌==◌, List, [], ◌∷◌, Result, Ok, Err, if◌then◌else◌}
 use Rattle.sms_field.specs.Bit.{bit}
 use Rattle.sms_field.specs.Bit.{weight}
@@ -6,7 +7,8 @@ use Rattle.sms_relay.specs.declared.transaction.Transaction.{Transaction}
 use Rattle.sms_relay.specs.declared.fault.RelayFault.{RelayFault}
 use Rattle.sms_relay.specs.declared.fault.RelayFault.TheVariants.{NotSms, BadTransaction}
 
--- the low half is 9, the protocol of short messages; bit 7 is the flag, bits 6 to 4 are the value, of which 7 is reserved
+-- the low half is 9, the protocol of short messages; bit 7 is the flag, bits 6 to 4 are the value,
+-- of which 7 is reserved
 abbrev pub transaction : ℕ → Result Transaction RelayFault
 transaction octet =
     if octet % 16 == 9

@@ -30,8 +30,8 @@ pub fn messages_are_fields()
     ensures rp { AreUnitLaws Short rp_message SpellsRp MayFollow }
 {}
 
-/// The parts of messages are lawful fields, are written in octets, and are read back as written: the transaction, the
-/// cause of an error, and user data, which may be left out.
+/// The parts of messages are lawful fields, are written in octets, and are read back as written:
+/// the transaction, the cause of an error, and user data, which may be left out.
 pub fn parts_are_fields()
     ensures transaction { AreUnitLaws Short (octet_by Short transaction)
         SpellsTransaction (λ _ _. Unit {0}) }

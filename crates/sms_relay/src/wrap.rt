@@ -49,8 +49,9 @@ fn wrap_message(
 
 /// The octets of a CP-ACK.
 ///
-/// The flag and the value are those of the transaction identifier (3GPP TS 24.011, 8.1.2). The flag is false from the
-/// side that opened the transaction, and true from the other; the value is 0 to 6.
+/// The flag and the value are those of the transaction identifier (3GPP TS 24.011, 8.1.2). The flag
+/// is false from the side that opened the transaction, and true from the other; the value is 0 to
+/// 6.
 pub fn wrap_acknowledgement(alloc: Global, flag: bool, value: u8) -> Result<Vec<u8>, AllocError>
     requires { value < 7 }
     ensures { IfOk result (λ packet. Carries flag value acknowledgement packet.items) }
@@ -65,8 +66,9 @@ pub fn wrap_acknowledgement(alloc: Global, flag: bool, value: u8) -> Result<Vec<
 
 /// The octets of a CP-DATA around an RP-DATA around a unit.
 ///
-/// The flag and the value are those of the transaction identifier (3GPP TS 24.011, 8.1.2). The flag is false from the
-/// side that opened the transaction, and true from the other; the value is 0 to 6.
+/// The flag and the value are those of the transaction identifier (3GPP TS 24.011, 8.1.2). The flag
+/// is false from the side that opened the transaction, and true from the other; the value is 0 to
+/// 6.
 ///
 /// `DataTooLong` comes only where the unit has more than 233 octets.
 pub fn wrap_transfer<U: Unit>(
@@ -98,11 +100,12 @@ pub fn wrap_transfer<U: Unit>(
     Ok(wrap_message(alloc, flag, value, &message)?)
 }
 
-/// The octets of a CP-DATA around the answer to a transfer, and a unit if it has one: an RP-ACK, or an RP-ERROR with
-/// a cause of 0 to 127.
+/// The octets of a CP-DATA around the answer to a transfer, and a unit if it has one: an RP-ACK, or
+/// an RP-ERROR with a cause of 0 to 127.
 ///
-/// The flag and the value are those of the transaction identifier (3GPP TS 24.011, 8.1.2). The flag is false from the
-/// side that opened the transaction, and true from the other; the value is 0 to 6.
+/// The flag and the value are those of the transaction identifier (3GPP TS 24.011, 8.1.2). The flag
+/// is false from the side that opened the transaction, and true from the other; the value is 0 to
+/// 6.
 ///
 /// `DataTooLong` comes only where the unit has more than 233 octets.
 pub fn wrap_answer<U: Unit>(

@@ -121,7 +121,8 @@ fn user_of(row: &Packet) -> Option<&'static [u8]> {
     }
 }
 
-/// Whether the octets of a CP-DATA are written as they were read, and end with the user data that begin at a place.
+/// Whether the octets of a CP-DATA are written as they were read, and end with the user data that
+/// begin at a place.
 fn is_kept(
     alloc: Global,
     row: &Packet,
@@ -467,7 +468,8 @@ fn refusal_of(alloc: Global, unit: &CpMessage) -> Option<WrapFault> {
     }
 }
 
-/// What wrapping a CP message answers that has user data of a number of octets, and three octets before them.
+/// What wrapping a CP message answers that has user data of a number of octets, and three octets
+/// before them.
 fn wrapped_long(alloc: Global, count: u8) -> Result<Option<WrapFault>, Fail> {
     let octets = long(alloc, count)?;
     let (unit, _) = CpMessage::read(alloc, &octets)?;

@@ -1,4 +1,5 @@
--- What one read takes from the octets that a source has left, and what writes add to those that a sink has taken.
+-- What one read takes from the octets that a source has left, and what writes add to those that a
+-- sink has taken.
 use Rattle.std.specs.Prelude.{ℕ, ◌≤◌, List, [], ◌∷◌, length, take, Option, Some, None, Result, Ok, Err}
 use Rattle.std.specs.Io.KnownBytes.{Appends, Consumes, Keeps, IsAtEnd}
 

@@ -1,5 +1,6 @@
--- The lines of a list of octets are those of std's `str::lines`: a line ends with a line feed, which the last one may lack, and
--- a carriage return before a line feed is dropped. After the last line feed there is a line only where there is an octet.
+-- The lines of a list of octets are those of std's `str::lines`: a line ends with a line feed,
+-- which the last one may lack, and a carriage return before a line feed is dropped. After the last
+-- line feed there is a line only where there is an octet.
 pub mod Reading
 pub use Rattle.std.specs.Str.Lines.{lines, strip_carriage_return}
 use Rattle.std.specs.Prelude.{◌≡◌, ℕ, List, [], ◌∷◌, ◌++◌, ◌==◌, false}
@@ -10,7 +11,8 @@ line_feed = 10
 abbrev pub carriage_return : ℕ
 carriage_return = 13
 
--- the octets of a line in its greatest length, without its line feed and the carriage return before it
+-- the octets of a line in its greatest length, without its line feed and the carriage return before
+-- it
 abbrev pub line_limit : ℕ
 line_limit = 4096
 

@@ -57,7 +57,8 @@ IsFront c s happened None front = (back : List ℕ) × (told s happened ≡ fron
 IsFront c s happened (Some n) front =
     (back : List ℕ) × (told s happened ++ told_in_the_end s (c.ends n) ≡ front ++ back)
 
--- the events of some first ones of the lines were played, and a front of what would have been written for them was written
+-- the events of some first ones of the lines were played, and a front of what would have been
+-- written for them was written
 abbrev pub TellsFront : {N : Type 0} → Conduct N → List (List ℕ) → Option (List ℕ) → Option (List ℕ)
     → Type 0
 TellsFront {N} c ls before now =
@@ -66,21 +67,24 @@ TellsFront {N} c ls before now =
     × (front : List ℕ) × IsFront c (script_of some).settings happened n front
     × Appends before now front
 
--- What was read, and what was written for it: the source had old left and has new left, the sink had taken before and has taken now.
+-- What was read, and what was written for it: the source had old left and has new left, the sink
+-- had taken before and has taken now.
 abbrev pub Plays : {N : Type 0} → Conduct N
     → (old new before now : Option (List ℕ)) → Result (Unit {0}) PlayFault → Type 0
 -- all was read, no line is at fault, and the transcript was written
 Plays c old new before now (Ok done) =
     (read : List ℕ) × Consumes old new read × IsAtEnd new
     × ((script_of (lines read)).fault ≡ None) × TellsAll c (script_of (lines read)) before now
--- whole lines were read, none at fault, and from the next line as much as shows its fault; the lines of the events before it were written
+-- whole lines were read, none at fault, and from the next line as much as shows its fault; the
+-- lines of the events before it were written
 Plays c old new before now (Err (faults.Script n why)) =
     (read : List ℕ) × (last : List ℕ) × AreWhole read × Consumes old new (read ++ last)
     × (length last ≤ line_limit + 2)
     × ((script_of (lines read)).fault ≡ None)
     × ((script_of (lines (read ++ last))).fault ≡ Some (n, why))
     × Tells c (script_of (lines (read ++ last))) before now
--- whole lines were read, and some octets of one more, which is not played; the lines of the events before it were written
+-- whole lines were read, and some octets of one more, which is not played; the lines of the events
+-- before it were written
 Plays c old new before now (Err faults.Read) =
     (read : List ℕ) × (last : List ℕ) × AreWhole read × HasNoLineFeed last
     × Consumes old new (read ++ last) × (length last ≤ line_limit + 1)

@@ -1,5 +1,6 @@
--- What words say, or the first reason for which they say nothing. In a definition by steps, the order of the steps is the order of
--- the reasons: each one after the first counts only where the steps before it gave none.
+-- What words say, or the first reason for which they say nothing. In a definition by steps, the
+-- order of the steps is the order of the reasons: each one after the first counts only where the
+-- steps before it gave none.
 use Rattle.std.specs.Prelude.{◌≡◌, Bool, true, false, Result, Ok, Err, Option, Some, None}
 use Rattle.sms_script.specs.declared.fault.ScriptFault.{ScriptFault}
 use Rattle.sms_script.specs.declared.fault.MeaningFault.{MeaningFault}

@@ -52,7 +52,8 @@ line_meaning s line = do
   demand (nat_le (length line) line_limit) LineTooLong
   meaning s.known line
 
--- A script: what its lines set, its events in order, and the line at fault with its reason. After that line nothing counts.
+-- A script: what its lines set, its events in order, and the line at fault with its reason. After
+-- that line nothing counts.
 pub record ScriptValue : Type 0 where
   pub settings : SettingsValue
   pub events : List Event

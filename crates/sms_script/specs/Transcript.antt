@@ -1,4 +1,5 @@
--- The transcript of a script: what its events answered and put out, and what stands at the phones in the end.
+-- The transcript of a script: what its events answered and put out, and what stands at the phones
+-- in the end.
 pub mod Appended
 pub mod Escapes
 pub mod Lines
@@ -12,7 +13,8 @@ pub record Happened : Type 0 where
   pub words : List ℕ
   pub put : List PacketValue
 
--- what stands at a phone in the end: what became of its texts, a word for each, in order of their numbers; and its store
+-- what stands at a phone in the end: what became of its texts, a word for each, in order of their
+-- numbers; and its store
 pub record Ended : Type 0 where
   pub statuses : List (List ℕ)
   pub store : List EntryValue
@@ -24,7 +26,8 @@ packet_lines brief names number (packet ∷ more) =
     packet_line brief number (name_of names packet.phone) packet
     ++ packet_lines brief names (number + 1) more
 
--- The lines of events: for each its own, then those of the packets that it put out. Events and packets are numbered from 1.
+-- The lines of events: for each its own, then those of the packets that it put out. Events and
+-- packets are numbered from 1.
 unfoldable pub event_lines : Bool → List (List ℕ) → ℕ → ℕ → List Happened → List ℕ
 event_lines brief names event packet [] = []
 event_lines brief names event packet (h ∷ more) =

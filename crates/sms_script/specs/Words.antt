@@ -21,7 +21,8 @@ abbrev pub left : Option (Bor (List ℕ)) → List (List ℕ)
 left None = []
 left (Some rest) = words rest.now
 
--- all that stands from the first of these words to the end of the line; nothing, where there is no word
+-- all that stands from the first of these words to the end of the line; nothing, where there is no
+-- word
 abbrev pub text_of_words : List (List ℕ) → List ℕ
 text_of_words [] = []
 text_of_words (word ∷ []) = word

@@ -11,8 +11,8 @@ use std::test::Fail;
 /// What the store of each phone has.
 const STORED: &str = "\\\n\r\u{c}\u{1}\u{7f}é";
 
-/// A network in which the first seven events but ticks each put out a packet at the second phone: up
-/// where references are wide, and empty where duplicates are rejected. Three texts wait at each
+/// A network in which the first seven events but ticks each put out a packet at the second phone:
+/// up where references are wide, and empty where duplicates are rejected. Three texts wait at each
 /// phone, and one is stored.
 #[derive(Drop)]
 struct Same {

@@ -1,4 +1,5 @@
--- Why a unit is refused: as another type of unit just where its first octet is that of one (3GPP TS 23.040, 9.2.3.1).
+-- Why a unit is refused: as another type of unit just where its first octet is that of one (3GPP TS
+-- 23.040, 9.2.3.1).
 use Rattle.std.specs.Prelude.{◌≡◌, ℕ, List, Result}
 use Rattle.sms_text.specs.Octets.{IsOctets}
 use Rattle.sms_field.specs.Field.{Field}

@@ -1,5 +1,5 @@
--- The parts of a report that its indicator says are there (3GPP TS 23.040, 9.2.2.1a, 9.2.2.2a and 9.2.3.27):
--- protocol identifier, data coding scheme, data, in this order.
+-- The parts of a report that its indicator says are there (3GPP TS 23.040, 9.2.2.1a, 9.2.2.2a and
+-- 9.2.3.27): protocol identifier, data coding scheme, data, in this order.
 pub mod Octet
 pub mod OctetLaws
 pub mod ParameterIndicator

@@ -1,4 +1,5 @@
--- User data (3GPP TS 23.040, 9.2.3.16 and 9.2.3.24): a length, a header where the first octet says so, and a body.
+-- User data (3GPP TS 23.040, 9.2.3.16 and 9.2.3.24): a length, a header where the first octet says
+-- so, and a body.
 pub mod Lengths
 pub mod Header
 pub mod HeaderLaws

@@ -21,7 +21,8 @@ use std::marker::Model;
 pub struct Deliver {
     /// TP-MMS: more messages wait in the service centre.
     pub more: bool,
-    /// TP-LP: the message was forwarded before, or was made because of another one. A centre does not forward it again.
+    /// TP-LP: the message was forwarded before, or was made because of another one. A centre does
+    /// not forward it again.
     pub looped: bool,
     /// TP-SRI: a status report will go to the sender.
     pub report: bool,
@@ -35,7 +36,8 @@ pub struct Deliver {
     pub dcs: u8,
     /// TP-SCTS: when the service centre took the message.
     pub stamp: Stamp,
-    /// TP-UDHI, TP-UDL and TP-UD: septets exactly where the data coding scheme says the 7-bit alphabet, else octets.
+    /// TP-UDHI, TP-UDL and TP-UD: septets exactly where the data coding scheme says the 7-bit
+    /// alphabet, else octets.
     pub user: UserData,
 }
 

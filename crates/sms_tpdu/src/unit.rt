@@ -25,7 +25,8 @@ pub trait Unit: Sized + Drop {
     /// Which octets may follow those of a value, so that it is still read back. Mostly any may.
     ghost may_follow: { Self → List ℕ → Type 0 } = { λ _ _. Unit {0} };
 
-    /// Reads a unit at a cursor, which then stands after it. After a refusal nothing is known of the cursor.
+    /// Reads a unit at a cursor, which then stands after it. After a refusal nothing is known of
+    /// the cursor.
     fn read_at(alloc: Global, input: &mut Cursor) -> Result<Self, Refusal<Self::Why>>
         ensures { Takes field input.old result input.new };
 
@@ -36,7 +37,8 @@ pub trait Unit: Sized + Drop {
     /// The field is lawful; what is written are octets, and is read back.
     ghost laws: { AreUnitLaws Self.Why.short field spells may_follow };
 
-    /// Reads a unit at the front of the octets, and says how many octets it takes. What follows them is ignored.
+    /// Reads a unit at the front of the octets, and says how many octets it takes. What follows
+    /// them is ignored.
     final fn read(alloc: Global, input: &[u8]) -> Result<(Self, usize), Refusal<Self::Why>>
         ensures found { IfOk result (λ x. Reads field x.0 input.now x.1) }
         ensures refused { IfErr result (IsRefusedBy field Self.Why.short input.now) }

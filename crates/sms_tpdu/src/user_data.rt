@@ -15,7 +15,8 @@ use crate::user_data::body::Body;
 use crate::user_data::header::Header;
 use std::alloc::{AllocError, Global};
 
-/// What a unit carries, TP-UD (TS 23.040, 9.2.3.24): a header, if TP-UDHI says so, and what stands after it.
+/// What a unit carries, TP-UD (TS 23.040, 9.2.3.24): a header, if TP-UDHI says so, and what stands
+/// after it.
 #[derive(Drop)]
 pub struct UserData {
     /// TP-UDH: the user data header.

@@ -29,7 +29,8 @@ const NO_ROOM_FOR_A_HEADER: [u8; 15] = [
     0x44, 0x04, 0x91, 0x01, 0x10, 0x00, 0x00, 0x00, 0x10, 0x10, 0x00, 0x00, 0x00, 0x00, 0x01,
 ];
 
-/// A delivery, its header if it has one, the place of a segment that the header tells, and its body.
+/// A delivery, its header if it has one, the place of a segment that the header tells, and its
+/// body.
 struct WithHeader {
     octets: &'static [u8],
     header: Option<&'static [u8]>,
@@ -121,7 +122,8 @@ pub fn octets_in(body: &Body) -> &[u8] {
     }
 }
 
-/// Whether a header, if there is one, is that of a row, and tells the place of a segment that the row says.
+/// Whether a header, if there is one, is that of a row, and tells the place of a segment that the
+/// row says.
 fn has_header(header: &Option<Header>, row: &WithHeader) -> bool {
     match (header, row.header) {
         (Some(header), Some(wanted)) => {

@@ -1,5 +1,6 @@
-//! One growth is refused, whichever it is (docs/CONTRIBUTING.md says how). Two tests ask once, and so fail for each
-//! growth that there is; two ask once more, and want the answer that ample memory gives.
+//! One growth is refused, whichever it is (docs/CONTRIBUTING.md says how). Two tests ask once, and
+//! so fail for each growth that there is; two ask once more, and want the answer that ample memory
+//! gives.
 
 ghost use Rattle.std.specs.Prelude.{IfOk};
 ghost use Rattle.sms_field.specs.Coding.{alphabet_at};

@@ -23,8 +23,8 @@ pub record IsHonest (m : Machine) (event : Event) : Type 0 where
   pub references : ReferencesAreNotUsedAgain m event
   pub plain : NothingIsInjected event
 
--- After every run in which each event is so: where a text has ended at its phone as accepted, the centre has accepted each
--- of its segments.
+-- After every run in which each event is so: where a text has ended at its phone as accepted, the
+-- centre has accepted each of its segments.
 abbrev pub AcceptedIsAccepted : Type 0
 AcceptedIsAccepted =
     (limits : Limits) (phones : List AddressValue) (past : List (Event × Told)) (m : Machine)

@@ -1,5 +1,5 @@
--- The whole machine: the clock, the service centre and the phones, and everything that was ever put out. Lists of what was
--- have the newest entry first.
+-- The whole machine: the clock, the service centre and the phones, and everything that was ever put
+-- out. Lists of what was have the newest entry first.
 use Rattle.std.specs.Prelude.{ℕ, List, []}
 use Rattle.sms_field.specs.AddressValue.{AddressValue}
 use Rattle.sms_party.specs.Centre.State.{CentreState, new_centre}

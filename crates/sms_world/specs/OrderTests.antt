@@ -1,4 +1,5 @@
--- The four conditions as a test that can be computed, and that it tells just them. Lists have the newest entry first.
+-- The four conditions as a test that can be computed, and that it tells just them. Lists have the
+-- newest entry first.
 use Rattle.std.specs.Prelude.{◌≡◌, ℕ, Bool, true, false, not, ◌&&◌, ◌||◌, ◌==◌, nat_lt, List, [], ◌∷◌, length, take, Option, Some, None}
 use Rattle.sms_field.specs.AddressValue.{AddressValue}
 use Rattle.sms_tpdu.specs.Deliver.{Delivery}

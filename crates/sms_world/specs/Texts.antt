@@ -1,5 +1,5 @@
--- The texts that were ever typed. A text is known by its number: they are counted from 0 over all phones, in the order of
--- typing. The list has the newest first.
+-- The texts that were ever typed. A text is known by its number: they are counted from 0 over all
+-- phones, in the order of typing. The list has the newest first.
 use Rattle.std.specs.Prelude.{ℕ, List, [], Option, Some, None}
 use Rattle.sms_join.specs.declared.units.Units.{Units}
 use Rattle.sms_join.specs.declared.units.Units.TheVariants.{Gsm}

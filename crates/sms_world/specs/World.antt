@@ -1,4 +1,5 @@
--- What the code of the whole holds, the states of the machine for which it stands, and what it means that a call is a step.
+-- What the code of the whole holds, the states of the machine for which it stands, and what it
+-- means that a call is a step.
 pub mod Value
 pub mod Standing
 pub mod Phones

@@ -52,41 +52,46 @@ pub(crate) fn laws_below()
     others_leave_sender();
 }
 
-/// Does nothing: its contract says that each event is one act: a text has one cut, and octets are read as one message.
+/// Does nothing: its contract says that each event is one act: a text has one cut, and octets are
+/// read as one message.
 pub fn events_are_one_act()
     ensures { IsOneAct }
 {
     laws_below();
 }
 
-/// Does nothing: its contract says that the test of an event holds just where the four orderly conditions do.
+/// Does nothing: its contract says that the test of an event holds just where the four orderly
+/// conditions do.
 pub fn order_is_tested()
     ensures { OrderIsTested }
 {
     laws_below();
 }
 
-/// Does nothing: its contract says that where nothing is injected and repeats ask for rejection in time, every message
-/// of a segment has its piece, and each segment is accepted at most once.
+/// Does nothing: its contract says that where nothing is injected and repeats ask for rejection in
+/// time, every message of a segment has its piece, and each segment is accepted at most once.
 pub fn each_message_has_its_piece()
     ensures { EachMessageHasItsPiece }
 {}
 
-/// Does nothing: its contract says that after an orderly run the open sets of each phone are those of its open texts.
+/// Does nothing: its contract says that after an orderly run the open sets of each phone are those
+/// of its open texts.
 pub fn open_sets_are_open_texts()
     ensures { OpenSetsAreOpenTexts }
 {
     laws_below();
 }
 
-/// Does nothing: its contract says that the remembered keys are then those of the last finished texts.
+/// Does nothing: its contract says that the remembered keys are then those of the last finished
+/// texts.
 pub fn keys_are_of_finished_texts()
     ensures { KeysAreOfFinished }
 {
     laws_below();
 }
 
-/// Does nothing: its contract says that each store is then, in order of completion, just the texts that have finished.
+/// Does nothing: its contract says that each store is then, in order of completion, just the texts
+/// that have finished.
 pub fn stores_stand()
     ensures { StoresStand }
 {
@@ -115,8 +120,8 @@ pub fn segments_are_accepted_once()
     ensures { AcceptedAtMostOnce }
 {}
 
-/// Does nothing: its contract says that where answers and rejections are of what they seem to be of, the centre has
-/// accepted each segment of a text that is shown as accepted.
+/// Does nothing: its contract says that where answers and rejections are of what they seem to be
+/// of, the centre has accepted each segment of a text that is shown as accepted.
 pub fn accepted_texts_were_accepted()
     ensures { AcceptedIsAccepted }
 {}
@@ -126,18 +131,20 @@ pub fn few_answers_are_told_apart()
     ensures { FewPuttingsOut }
 {}
 
-/// Does nothing: its contract says that where duplicates are to be rejected from the first putting out on, each
-/// submission says so.
+/// Does nothing: its contract says that where duplicates are to be rejected from the first putting
+/// out on, each submission says so.
 pub fn submissions_reject_duplicates()
     ensures { AllReject }
 {}
 
-/// Does nothing: its contract says that copies may then come as long as the accepted submission has not ended.
+/// Does nothing: its contract says that copies may then come as long as the accepted submission has
+/// not ended.
 pub fn copies_may_come_in_time()
     ensures { OnlyTimeIsLeft }
 {}
 
-/// Does nothing: its contract says that octets that no CP message reads change nothing and put nothing out.
+/// Does nothing: its contract says that octets that no CP message reads change nothing and put
+/// nothing out.
 pub fn unread_octets_change_nothing()
     ensures { UnreadChangesNothing }
 {
@@ -152,8 +159,8 @@ pub fn unread_units_change_no_party()
     octets_are_read_as_one_message();
 }
 
-/// Does nothing: its contract says what holds of every world, by the states of the machine for which it stands: the
-/// stores, what is refused, what is accepted, and what is shown as accepted.
+/// Does nothing: its contract says what holds of every world, by the states of the machine for
+/// which it stands: the stores, what is refused, what is accepted, and what is shown as accepted.
 pub fn claims_hold()
     ensures { ClaimsHold }
 {

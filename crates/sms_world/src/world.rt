@@ -88,9 +88,9 @@ impl World {
     /// What happens at an event. If it answers a fault, the world is as it was; only the messages
     /// whose validity has ended may be gone from the centre.
     ///
-    /// A text is typed at a phone, a packet comes to its destination, a phone has waited long enough
-    /// for an answer, the centre hands a message to a phone, the clock moves on by some seconds, or
-    /// octets come that nobody put out.
+    /// A text is typed at a phone, a packet comes to its destination, a phone has waited long
+    /// enough for an answer, the centre hands a message to a phone, the clock moves on by some
+    /// seconds, or octets come that nobody put out.
     pub fn step(&mut self, event: &Event) -> Result<Outcome, WorldFault>
         ensures steps { Steps (event_of event.now) self.old result self.new }
         ensures phones { length self.new.parties.phones ≡ length self.old.parties.phones }

@@ -1,4 +1,5 @@
-//! Rows of the tests of `play`. Between bars stand parts, and after an asterisk how many times a part stands.
+//! Rows of the tests of `play`. Between bars stand parts, and after an asterisk how many times a
+//! part stands.
 
 /// A script whose phones are given, and what its transcript says.
 pub struct Played {

@@ -1197,8 +1197,9 @@ pub static FAULTS_OF_UNITS_IN_CP: [Shown; 14] = [
     },
 ];
 
-/// Messages of which no octet may miss: each is cut before each of its octets. Some are shown whole in the tables above,
-/// which have their lines; where they are cut there is one line, and what is wanted is where they may end.
+/// Messages of which no octet may miss: each is cut before each of its octets. Some are shown whole
+/// in the tables above, which have their lines; where they are cut there is one line, and what is
+/// wanted is where they may end.
 pub static WHOLE_MESSAGES: [WholeMessage; 12] = [
     WholeMessage {
         kind: "rp",

@@ -15,7 +15,8 @@ pub struct WholeReport {
     pub octets: &'static str,
 }
 
-/// A kind of report, its octets up to TP-UDL, that, how many octets of data follow, and the lines before those of the data.
+/// A kind of report, its octets up to TP-UDL, that, how many octets of data follow, and the lines
+/// before those of the data.
 pub struct Data {
     pub kind: &'static str,
     pub front: &'static str,
@@ -1585,8 +1586,9 @@ pub static TOO_LONG_DELIVER_ERRORS: [Report; 15] = [
     },
 ];
 
-/// Reports of which no octet may miss: each is cut before each of its octets. Some are shown whole in the tables above,
-/// which have their lines; where they are cut there is one line, which the place alone tells.
+/// Reports of which no octet may miss: each is cut before each of its octets. Some are shown whole
+/// in the tables above, which have their lines; where they are cut there is one line, which the
+/// place alone tells.
 pub static WHOLE_REPORTS: [WholeReport; 12] = [
     WholeReport {
         kind: "submit-ack",

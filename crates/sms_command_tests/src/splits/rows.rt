@@ -1,5 +1,5 @@
-//! Rows of the tests of `split`: texts, and the lines of their segments. Between bars stand parts, and after an
-//! asterisk how many times a part stands.
+//! Rows of the tests of `split`: texts, and the lines of their segments. Between bars stand parts,
+//! and after an asterisk how many times a part stands.
 
 /// A text, and the lines of its segments.
 pub struct Split {

@@ -53,8 +53,8 @@ pub struct Explained {
     pub part: &'static str,
 }
 
-/// A text of one character, as many times as are counted, and its octets in a submission: what stands first, a part as
-/// many times as are counted, and what stands last.
+/// A text of one character, as many times as are counted, and its octets in a submission: what
+/// stands first, a part as many times as are counted, and what stands last.
 pub struct LongText {
     pub character: &'static str,
     pub count: usize,
@@ -71,8 +71,8 @@ pub struct TwoPieces {
     pub count: usize,
 }
 
-/// A header with its length octet, and data that are all ones after it: their first octet, in which the fill bits are
-/// 0, how many octets `FF` follow, and how many `à` their septets are.
+/// A header with its length octet, and data that are all ones after it: their first octet, in which
+/// the fill bits are 0, how many octets `FF` follow, and how many `à` their septets are.
 pub struct Filled {
     pub header: &'static str,
     pub first: &'static str,
@@ -912,7 +912,8 @@ pub static NO_SUBMISSIONS: [Shown; 21] = [
     },
 ];
 
-/// Words that ask for help, the version, or no subcommand: the status, and a part of what `clap` says.
+/// Words that ask for help, the version, or no subcommand: the status, and a part of what `clap`
+/// says.
 pub static WHOLE_WORDS: [Explained; 9] = [
     Explained {
         words: &["sms"],
@@ -2048,7 +2049,8 @@ pub static TOO_FULL: [TooFull; 3] = [
     },
 ];
 
-/// Kinds of unit, octets that begin with the address of a service centre, the status and the answer.
+/// Kinds of unit, octets that begin with the address of a service centre, the status and the
+/// answer.
 pub static AFTER_CENTRES: [AfterCentre; 22] = [
     AfterCentre {
         kind: "deliver",

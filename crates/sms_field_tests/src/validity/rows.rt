@@ -1,6 +1,7 @@
 //! Rows of the tests of validity periods.
 
-/// The first and the last octet of a range, the seconds of its first, and those that each further octet adds.
+/// The first and the last octet of a range, the seconds of its first, and those that each further
+/// octet adds.
 #[derive(Clone, Copy)]
 pub struct Steps {
     pub first: u8,

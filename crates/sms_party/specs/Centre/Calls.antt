@@ -20,7 +20,8 @@ use Rattle.sms_party.specs.declared.outcome.Step.{Step}
 use Rattle.sms_party.specs.declared.outcome.Dropped.{Dropped}
 use Rattle.sms_party.specs.declared.outcome.Dropped.TheVariants as dropped
 
--- In a state the centre did this at a moment: what is said of each party (Does), where the value stands for the state.
+-- In a state the centre did this at a moment: what is said of each party (Does), where the value
+-- stands for the state.
 abbrev pub CentreAnswers : ℕ → List AddressValue → ℕ → CentreState → Does CentreState
     → Result Step Dropped → CentreValue → Type 0
 CentreAnswers limit phones now c d result v =
@@ -37,7 +38,8 @@ StandsLater now old new =
 abbrev pub StandsAlways : ℕ → List AddressValue → CentreValue → CentreState → Type 0
 StandsAlways limit phones v c = (clock : ℕ) → StandsFor limit phones clock v c
 
--- from each state that the old value stands for there is a step to a state that the new one stands for
+-- from each state that the old value stands for there is a step to a state that the new one stands
+-- for
 abbrev pub PushSteps : ℕ → ℕ → CentreValue → Result Step Dropped → CentreValue → Type 0
 PushSteps now phone old result new =
     (limit : ℕ) (phones : List AddressValue) (clock : ℕ) (c : CentreState) → clock ≤ now
@@ -65,8 +67,8 @@ SettlesAs now phone tag s check old result new =
     IsCheckIn now phone s check old
     → Steps now (λ limit phones c origin. checked c now phone tag s origin check) old result new
 
--- Octets come from a phone: they are read as a message, and it does what the message makes it do, whatever text the
--- message is of. If memory runs out, it stands for the state that was.
+-- Octets come from a phone: they are read as a message, and it does what the message makes it do,
+-- whatever text the message is of. If memory runs out, it stands for the state that was.
 abbrev pub ReceivesAs : ℕ → ℕ → List ℕ → CentreValue → Result Step Dropped → CentreValue → Type 0
 ReceivesAs now phone octets old (Err dropped.Memory) new = StandsLater now old new
 ReceivesAs now phone octets old result new =

@@ -1,5 +1,6 @@
--- What becomes of a submission: the checks in their order, and the causes of a refusal. The first number is the RP-Cause
--- (3GPP TS 24.011, 8.2.5.4), the second the TP-Failure-Cause (3GPP TS 23.040, 9.2.3.22).
+-- What becomes of a submission: the checks in their order, and the causes of a refusal. The first
+-- number is the RP-Cause (3GPP TS 24.011, 8.2.5.4), the second the TP-Failure-Cause (3GPP TS
+-- 23.040, 9.2.3.22).
 use Rattle.std.specs.Prelude.{ℕ, Bool, ◌&&◌, if◌then◌else◌, nat_lt, nat_le, List, length, Option, Some, None, Result, Ok, Err}
 use Rattle.sms_field.specs.AddressValue.{AddressValue}
 use Rattle.sms_field.specs.declared.validity.ValidityFault.{ValidityFault}
@@ -12,8 +13,8 @@ use Rattle.sms_party.specs.Centre.Held.{unended, is_held, next_stamp}
 use Rattle.sms_party.specs.declared.centre.check.Check.{Check}
 use Rattle.sms_party.specs.declared.centre.check.Check.TheVariants.{Refuse, Accept}
 
--- What a submission is checked against: whether a message with its phone, its TP-MR and this recipient is held, how many
--- messages are held, and the next stamp of a recipient.
+-- What a submission is checked against: whether a message with its phone, its TP-MR and this
+-- recipient is held, how many messages are held, and the next stamp of a recipient.
 pub record Books : Type 0 where
   pub is_held : (recipient : ℕ) → Bool
   pub count : ℕ
@@ -27,8 +28,9 @@ books_of accepted now phone s =
       stamp = λ recipient. next_stamp accepted recipient now;
     }
 
--- TP-RD is set and a message with the same phone, reference and recipient is held: C5, SM rejected, duplicate SM. As many
--- are held as can be: C0, SC busy. No stamp is left for the recipient: C2, SC system failure.
+-- TP-RD is set and a message with the same phone, reference and recipient is held: C5, SM rejected,
+-- duplicate SM. As many are held as can be: C0, SC busy. No stamp is left for the recipient: C2, SC
+-- system failure.
 abbrev pub check_space : ℕ → Books → Submission → ℕ → ℕ → Check
 check_space limit books s ends recipient =
     if s.reject && books.is_held recipient then Refuse 21 0xC5
@@ -41,8 +43,8 @@ abbrev pub check_recipient : ℕ → Books → Submission → ℕ → Option ℕ
 check_recipient limit books s ends None = Refuse 1 0xC3
 check_recipient limit books s ends (Some recipient) = check_space limit books s ends recipient
 
--- The enhanced format of TP-VP: C6, VPF not supported. An absolute one that has no moment, or one that is not after now:
--- C7, VP not supported.
+-- The enhanced format of TP-VP: C6, VPF not supported. An absolute one that has no moment, or one
+-- that is not after now: C7, VP not supported.
 abbrev pub check_validity : ℕ → List AddressValue → Books → ℕ → Submission → Result ℕ ValidityFault
     → Check
 check_validity limit phones books now s (Err EnhancedValidity) = Refuse 21 0xC6

@@ -1,8 +1,15 @@
 -- What the centre holds, and what of it waits for the recipients.
-use Rattle.std.specs.Prelude.{◌≡◌, ℕ, ◌<◌, Bool, true, false, All, Contains, length, map, slice_get, List, Some}
+use Rattle.std.specs.Prelude.{◌≡◌, ℕ, ◌<◌, Bool, true, false, All, Contains, length, map, slice_get, List, [], Some}
+use Rattle.sms_field.specs.AddressValue.{AddressValue}
 use Rattle.sms_party.specs.Centre.Value.{WaitingValue, LineValue, HoldingsValue, line_at, endings_after}
 use Rattle.sms_party.specs.Centre.Kept.{free_at, KeepsAfter}
+use Rattle.sms_party.specs.Centre.Lines.{new_line}
 use Rattle.sms_party.specs.declared.centre.held.Ending.{Ending}
+
+-- nothing is held, and nothing waits for any of these phones
+abbrev pub new_holdings : List AddressValue → HoldingsValue
+new_holdings phones =
+    record { held = record { endings = []; keys = []; last = [] }; lines = map new_line phones }
 
 -- the ending of a message that waits for this recipient
 abbrev pub ending_of : ℕ → WaitingValue → Ending

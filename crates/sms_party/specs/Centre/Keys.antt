@@ -1,4 +1,5 @@
--- By what a phone tells the deliveries of one-piece messages. Calls and acceptances have the newest first.
+-- By what a phone tells the deliveries of one-piece messages. Calls and acceptances have the newest
+-- first.
 use Rattle.std.specs.Prelude.{◌≡◌, ℕ, false, List, [], ◌∷◌, None}
 use Rattle.sms_field.specs.AddressValue.{AddressValue}
 use Rattle.sms_tpdu.specs.Deliver.{Delivery}
@@ -18,8 +19,8 @@ key_in d = key_of d.origin d.stamp (concat_of_header d.user.header)
 abbrev pub IsOnePiece : Acceptance → Type 0
 IsOnePiece a = concat_of_header a.submission.user.header ≡ None
 
--- Its deliveries have other keys than those of each message of the list to the same recipient, where both are one piece;
--- whether others wait makes no difference.
+-- Its deliveries have other keys than those of each message of the list to the same recipient,
+-- where both are one piece; whether others wait makes no difference.
 abbrev pub HasOwnKey : List AddressValue → Acceptance → List Acceptance → Type 0
 HasOwnKey phones a [] = Unit {0}
 HasOwnKey phones a (b ∷ past) =
@@ -31,7 +32,8 @@ abbrev pub HaveOwnKeys : List AddressValue → List Acceptance → Type 0
 HaveOwnKeys phones [] = Unit {0}
 HaveOwnKeys phones (a ∷ past) = HasOwnKey phones a past × HaveOwnKeys phones past
 
--- Of all that the centre has ever accepted, deliveries of different one-piece messages to one phone have different keys.
+-- Of all that the centre has ever accepted, deliveries of different one-piece messages to one phone
+-- have different keys.
 abbrev pub DeliveriesHaveOwnKeys : Type 0
 DeliveriesHaveOwnKeys =
     (limit : ℕ) (phones : List AddressValue) (calls : List Call)

@@ -14,9 +14,9 @@ use Rattle.sms_party.specs.declared.message.Relay.TheVariants.{Transfer}
 use Rattle.sms_party.specs.declared.message.Message.TheVariants.{Data}
 use Rattle.sms_party.specs.declared.outcome.Outcome.TheVariants.{Pushed, NothingWaits}
 
--- TP-OA is the address of the phone that submitted, TP-SCTS the stamp that the message was given; TP-RP, TP-PID, TP-DCS
--- and TP-UD are the submission's. TP-MMS says whether another message waits. There is no loop prevention and no status
--- report.
+-- TP-OA is the address of the phone that submitted, TP-SCTS the stamp that the message was given;
+-- TP-RP, TP-PID, TP-DCS and TP-UD are the submission's. TP-MMS says whether another message waits.
+-- There is no loop prevention and no status report.
 abbrev pub delivery : List AddressValue → Acceptance → Bool → Delivery
 delivery phones a more =
     record {

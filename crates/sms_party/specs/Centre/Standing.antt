@@ -50,8 +50,8 @@ pub record LineStands (phones : List AddressValue) (clock : ℕ) (accepted : Lis
   pub reference : v.reference ≡ l.pushes % 256
   pub latest : v.latest ≡ push_of l.latest
 
--- The centre stands for a state at a moment: its limit and phones are these, it holds the messages that have not ended
--- then, and each line stands for that of its phone.
+-- The centre stands for a state at a moment: its limit and phones are these, it holds the messages
+-- that have not ended then, and each line stands for that of its phone.
 pub record StandsFor (limit : ℕ) (phones : List AddressValue) (clock : ℕ) (v : CentreValue)
     (c : CentreState) : Type 0 where
   pub limit_is : v.limit ≡ limit

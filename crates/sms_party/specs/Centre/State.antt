@@ -1,11 +1,12 @@
--- What the service centre has ever accepted, and what it knows of each recipient. Lists of what was have the newest first.
+-- What the service centre has ever accepted, and what it knows of each recipient. Lists of what was
+-- have the newest first.
 use Rattle.std.specs.Prelude.{ℕ, if◌then◌else◌, ◌==◌, List, [], Option, None}
 use Rattle.sms_tpdu.specs.Submit.{Submission}
 use Rattle.sms_party.specs.Message.{Origin}
 use Rattle.sms_party.specs.declared.message.Tag.{Tag}
 
--- A submission that was accepted from a phone for a recipient, with the stamp that it was given and the end of its
--- validity. Phones and recipients are numbers of phones, from 0.
+-- A submission that was accepted from a phone for a recipient, with the stamp that it was given and
+-- the end of its validity. Phones and recipients are numbers of phones, from 0.
 pub record Acceptance : Type 0 where
   pub phone : ℕ
   pub submission : Submission
@@ -29,7 +30,8 @@ pub record Line : Type 0 where
   -- the latest push, until it is answered
   pub latest : Option Pushing
 
--- All that was ever accepted: nothing is removed from it. The lines are those of the phones by number.
+-- All that was ever accepted: nothing is removed from it. The lines are those of the phones by
+-- number.
 pub record CentreState : Type 0 where
   pub accepted : List Acceptance
   pub line : ℕ → Line

@@ -31,8 +31,8 @@ accept c a =
       line = changed c.line a.recipient (after_acceptance (c.line a.recipient) a);
     }
 
--- A submission is answered as it was checked. What is accepted is held from now on to the end of its validity; its report
--- has the stamp that it was given.
+-- A submission is answered as it was checked. What is accepted is held from now on to the end of
+-- its validity; its report has the stamp that it was given.
 unfoldable pub checked : CentreState → ℕ → ℕ → Tag → Submission → Option Origin → Check
     → Does CentreState
 checked c now phone tag s origin (Refuse cause failure) = refuses c now tag cause failure
@@ -50,7 +50,8 @@ checked c now phone tag s origin (Accept recipient ends stamp) =
       });
     }
 
--- An SMS-SUBMIT is checked. Another type of unit: B0, TPDU not supported. A unit with another fault: FF, unspecified.
+-- An SMS-SUBMIT is checked. Another type of unit: B0, TPDU not supported. A unit with another
+-- fault: FF, unspecified.
 unfoldable pub centre_takes : ℕ → List AddressValue → CentreState → ℕ → ℕ → Tag → TransferUnit
     → Option Origin → Does CentreState
 centre_takes limit phones c now phone tag (Submit s) origin =

@@ -44,8 +44,8 @@ settled c phone tag a cause =
       };
     }
 
--- An answer counts where it has the tag of the latest push to the phone, which was not answered yet and whose message is
--- still held.
+-- An answer counts where it has the tag of the latest push to the phone, which was not answered yet
+-- and whose message is still held.
 unfoldable pub centre_hears : CentreState → ℕ → ℕ → Tag → Option ℕ → Option Pushing
     → Does CentreState
 centre_hears c now phone tag cause None = drops c dropped.Unmatched

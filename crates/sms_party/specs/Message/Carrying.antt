@@ -38,8 +38,9 @@ SpellsReport FromPhone (Some cause) (Some (DeliverError r)) (Some octets) =
     SpellsDeliverError r octets
 SpellsReport _ _ _ _ = ⊥
 
--- A CP-ACK carries an acknowledgement. A CP-DATA carries a transfer with the centre's address and a unit, or the answer
--- to one with its report, if it has one. Nothing carries the other messages: they are only read.
+-- A CP-ACK carries an acknowledgement. A CP-DATA carries a transfer with the centre's address and a
+-- unit, or the answer to one with its report, if it has one. Nothing carries the other messages:
+-- they are only read.
 abbrev pub Carries : List ℕ → Message → Type 0
 Carries packet (Note flag value) = carried.Carries flag value carried.acknowledgement packet
 Carries packet (Data flag tag (Transfer side unit)) =

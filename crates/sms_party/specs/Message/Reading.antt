@@ -94,7 +94,8 @@ pub record ReadsAnswer (octets : List ℕ) (side : Side) (reference : ℕ) (caus
       octets used
   pub report : ReadsReport side cause user read
 
--- the RP message in the octets of a CP-DATA; or none, since its type is unknown, or for another fault
+-- the RP message in the octets of a CP-DATA; or none, since its type is unknown, or for another
+-- fault
 abbrev pub ReadsRelay : List ℕ → ℕ → Relay → Type 0
 ReadsRelay octets reference (Transfer side unit) = ReadsTransfer octets side reference unit
 ReadsRelay octets reference (Answer side cause report) =
@@ -117,8 +118,8 @@ pub record ReadsData (packet : List ℕ) (flag : Bool) (value : ℕ) (octets : L
   pub connection : Reads cp_message
       (carried.in_transaction flag value (cp.Transfer octets)) packet used
 
--- The octets are no CP message; a CP-ACK or CP-ERROR; a CP-DATA of fewer than two octets; or a CP-DATA, with the second
--- of its octets as the reference, whether or not they are an RP message.
+-- The octets are no CP message; a CP-ACK or CP-ERROR; a CP-DATA of fewer than two octets; or a
+-- CP-DATA, with the second of its octets as the reference, whether or not they are an RP message.
 abbrev pub ReadsAs : List ℕ → Message → Type 0
 ReadsAs packet NotCp = ¬ IsReadable (Reads cp_message) packet
 ReadsAs packet (Note flag value) =

@@ -4,8 +4,8 @@ use Rattle.sms_join.specs.Aging.{is_old, aged}
 use Rattle.sms_join.specs.Arrivals.{remaining}
 use Rattle.sms_party.specs.Receiver.State.{ReceiverState}
 
--- Finished texts and remembered keys do not age. What was taken of a text whose set was dropped no longer counts: `size` says
--- how many segments a text has.
+-- Finished texts and remembered keys do not age. What was taken of a text whose set was dropped no
+-- longer counts: `size` says how many segments a text has.
 unfoldable pub ages : (size : ℕ → ℕ) → ℕ → ReceiverState → ReceiverState
 ages size now s =
     record {

@@ -1,4 +1,5 @@
--- The text of a delivery is offered to the joiner of a phone, and goes to its store when it is whole.
+-- The text of a delivery is offered to the joiner of a phone, and goes to its store when it is
+-- whole.
 use Rattle.std.specs.Prelude.{ℕ, Bool, ◌&&◌, if◌then◌else◌, nat_le, List, ◌∷◌, length, Option, Some, None, Ok}
 use Rattle.sms_field.specs.AddressValue.{AddressValue}
 use Rattle.sms_tpdu.specs.Deliver.{Delivery}
@@ -44,8 +45,9 @@ after_piece limits s p origin given store =
       taken = takes s.taken origin p;
     }
 
--- The joiner answers a piece from this address. A repeat and a piece that is kept are acknowledged; a message that is
--- whole goes to the store as its text. Too many open sets: D3, memory capacity exceeded, with RP-Cause 22.
+-- The joiner answers a piece from this address. A repeat and a piece that is kept are acknowledged;
+-- a message that is whole goes to the store as its text. Too many open sets: D3, memory capacity
+-- exceeded, with RP-Cause 22.
 unfoldable pub settles : ReceiverLimits → ReceiverState → Tag → AddressValue → Piece → Option Origin
     → Answer → Does ReceiverState
 settles limits s tag from p origin joiner.Repeat =

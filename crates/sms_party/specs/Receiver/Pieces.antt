@@ -17,6 +17,7 @@ units_in Gsm7 (Septets septets) = Some (units.Gsm septets)
 units_in Ucs2 (Octets octets) = Some (units.Ucs2 (units_high_first octets))
 units_in alphabet body = None
 
--- Its place is the one that its header tells, if it has one that tells a place; else it is a message by itself.
+-- Its place is the one that its header tells, if it has one that tells a place; else it is a
+-- message by itself.
 abbrev pub piece_in : ℕ → Delivery → Units → Piece
 piece_in now d us = piece_of now d.origin d.stamp (concat_of_header d.user.header) us

@@ -1,4 +1,5 @@
--- What the code of a receiving phone holds, the states for which it stands, and what it means that a call is a step.
+-- What the code of a receiving phone holds, the states for which it stands, and what it means that
+-- a call is a step.
 use Rattle.std.specs.Prelude.{◌≡◌, ℕ, List, reverse, Option, Result, Err}
 use Rattle.sms_join.specs.JoinerValue.{JoinerValue}
 use Rattle.sms_join.specs.Same.{IsSame}
@@ -20,8 +21,8 @@ pub record ReceiverValue : Type 0 where
   -- in order of completion
   pub store : List Entry
 
--- The phone stands for a state: its joiner holds the same, in whatever order, and its store is the state's, in the other
--- order.
+-- The phone stands for a state: its joiner holds the same, in whatever order, and its store is the
+-- state's, in the other order.
 pub record StandsFor (limits : ReceiverLimits) (v : ReceiverValue)
     (s : ReceiverState) : Type 0 where
   pub limit_is : v.limit ≡ limits.store
@@ -30,12 +31,14 @@ pub record StandsFor (limits : ReceiverLimits) (v : ReceiverValue)
   pub same : IsSame v.joiner.holds s.joiner
   pub store_is : v.store ≡ reverse s.store
 
--- In a state the phone did this: what is said of each party (Does), where the value stands for the state.
+-- In a state the phone did this: what is said of each party (Does), where the value stands for the
+-- state.
 abbrev pub ReceiverAnswers : ReceiverLimits → ReceiverState → Does ReceiverState
     → Result Step Dropped → ReceiverValue → Type 0
 ReceiverAnswers limits s d result v = Answered (λ after. StandsFor limits v after) s d result
 
--- From each state that the old value stands for there is a step to a state that the new one stands for.
+-- From each state that the old value stands for there is a step to a state that the new one stands
+-- for.
 abbrev pub Steps : (ReceiverLimits → ReceiverState → Option Origin → Does ReceiverState)
     → ReceiverValue → Result Step Dropped → ReceiverValue → Type 0
 Steps does old result new =
@@ -46,15 +49,15 @@ Steps does old result new =
 abbrev pub IsNew : ReceiverLimits → ReceiverValue → Type 0
 IsNew limits v = StandsFor limits v new_receiver
 
--- From each state that the old value stands for, the new one stands for the state in which the old sets are dropped,
--- whatever number of segments each text has.
+-- From each state that the old value stands for, the new one stands for the state in which the old
+-- sets are dropped, whatever number of segments each text has.
 abbrev pub AgesTo : ℕ → ReceiverValue → ReceiverValue → Type 0
 AgesTo now old new =
     (limits : ReceiverLimits) (s : ReceiverState) (size : ℕ → ℕ) → StandsFor limits old s
     → StandsFor limits new (ages size now s)
 
--- Octets come: they are read as a message, and the phone does what the message makes it do, whatever segment the message
--- is of. If memory runs out, it stands for the state that was.
+-- Octets come: they are read as a message, and the phone does what the message makes it do,
+-- whatever segment the message is of. If memory runs out, it stands for the state that was.
 abbrev pub ReceivesAs : ℕ → List ℕ → ReceiverValue → Result Step Dropped → ReceiverValue → Type 0
 ReceivesAs now octets old (Err dropped.Memory) new =
     (limits : ReceiverLimits) (s : ReceiverState) → StandsFor limits old s → StandsFor limits new s

@@ -49,7 +49,8 @@ advanced s =
 abbrev pub noted : ℕ → Tag → List Sent
 noted phone tag = bare (Centre phone) (Note false tag.value) ∷ []
 
--- the waiting segment of text n is answered: it is accepted, or not, and others of the text follow, or none
+-- the waiting segment of text n is answered: it is accepted, or not, and others of the text follow,
+-- or none
 unfoldable pub hears : SenderState → ℕ → Tag → Sender → ℕ → List ℕ → (good more : Bool) → Outcome
     → Sends SenderState
 hears x phone tag s n later true true failed =
@@ -78,7 +79,8 @@ sender_receives x phone tag (Answer ToPhone cause report) =
     matches x phone tag (x.sender phone) (x.sender phone).pending cause report
 sender_receives x phone tag _ = sender_drops x dropped.Unmatched
 
--- A message comes to the sender: CP-ACK and CP-ERROR are noted, and a CP-DATA counts only with flag 1.
+-- A message comes to the sender: CP-ACK and CP-ERROR are noted, and a CP-DATA counts only with flag
+-- 1.
 unfoldable pub sender_takes : SenderState → ℕ → Message → Sends SenderState
 sender_takes x phone NotCp = sender_drops x dropped.NotCp
 sender_takes x phone (Note flag value) = record { answer = Ok Noted; put = []; after = x }

@@ -26,7 +26,8 @@ abbrev pub called_all : Bool → Bool → List Call → SenderState
 called_all wide reject [] = new_senders wide reject
 called_all wide reject (call ∷ past) = called (called_all wide reject past) call
 
--- of these texts, and whether they were accepted, the status of each by its number at the phone is how it ended
+-- of these texts, and whether they were accepted, the status of each by its number at the phone is
+-- how it ended
 abbrev pub AreTold : SenderState → ℕ → List (ℕ × Bool) → Type 0
 AreTold x phone [] = Unit {0}
 AreTold x phone (e ∷ ended) =

@@ -9,7 +9,8 @@ use Rattle.sms_party.specs.Sender.Answers.{sender_takes}
 use Rattle.sms_party.specs.Sender.Value.{SenderValue}
 use Rattle.sms_party.specs.Sender.Stands.{SenderStands}
 
--- A value that stands for a phone's part goes on standing for it when another phone types, times out, or takes a message.
+-- A value that stands for a phone's part goes on standing for it when another phone types, times
+-- out, or takes a message.
 abbrev pub OthersLeaveSender : Type 0
 OthersLeaveSender =
     (phone other : ℕ) (v : SenderValue) (x : SenderState) → phone ≢ other → SenderStands phone v x

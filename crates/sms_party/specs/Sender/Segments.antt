@@ -16,7 +16,8 @@ abbrev pub dcs_of : Units → ℕ
 dcs_of (Gsm septets) = 0
 dcs_of (Ucs2 units) = 8
 
--- Neither validity period, report nor reply path; message references of a text's segments follow one another.
+-- Neither validity period, report nor reply path; message references of a text's segments follow
+-- one another.
 unfoldable pub submission_of : Text → ℕ → Bool → Submission
 submission_of t s reject =
     record {

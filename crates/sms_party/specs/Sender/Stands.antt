@@ -82,22 +82,24 @@ pub record SenderStands (phone : ℕ) (v : SenderValue) (x : SenderState) : Type
 abbrev pub in_messages : Sends SenderState → Does SenderState
 in_messages d = record { answer = d.answer; put = messages_of d.put; after = d.after }
 
--- From each state that the old value stands for, as whichever phone, there is a step to one that the new value stands for.
+-- From each state that the old value stands for, as whichever phone, there is a step to one that
+-- the new value stands for.
 abbrev pub Steps : (SenderState → ℕ → Sends SenderState) → SenderValue → Result Step Dropped
     → SenderValue → Type 0
 Steps does old result new =
     (phone : ℕ) (x : SenderState) → SenderStands phone old x
     → Answered (SenderStands phone new) x (in_messages (does x phone)) result
 
--- Octets come: they are read as a message, and the sender takes it. Or memory ran out, and nothing has changed.
+-- Octets come: they are read as a message, and the sender takes it. Or memory ran out, and nothing
+-- has changed.
 abbrev pub Receives : List ℕ → SenderValue → Result Step Dropped → SenderValue → Type 0
 Receives octets old (Err dropped.Memory) new = new ≡ old
 Receives octets old result new =
     (message : Message) × ReadsAs octets message
     × Steps (λ x phone. sender_takes x phone message) old result new
 
--- A text is typed: it has a cut, and the sender takes its pieces. Where too many texts wait, whatever its pieces are. Or
--- memory ran out, and nothing has changed.
+-- A text is typed: it has a cut, and the sender takes its pieces. Where too many texts wait,
+-- whatever its pieces are. Or memory ran out, and nothing has changed.
 abbrev pub Types : AddressValue → List ℕ → SenderValue → Result Step Dropped → SenderValue → Type 0
 Types target text old (Err dropped.Memory) new = new ≡ old
 Types target text old (Err dropped.Busy) new =

@@ -1,5 +1,5 @@
--- Typed texts, and how far each phone has come with them. The list of texts has the newest first, and texts are numbered
--- from 0 over all phones.
+-- Typed texts, and how far each phone has come with them. The list of texts has the newest first,
+-- and texts are numbered from 0 over all phones.
 use Rattle.std.specs.Prelude.{ℕ, suc, ◌+◌, ◌%◌, Bool, ◌&&◌, if◌then◌else◌, ◌==◌, nat_lt, List, [], ◌∷◌, length, Option, Some, None}
 use Rattle.sms_field.specs.AddressValue.{AddressValue}
 use Rattle.sms_tpdu.specs.declared.user_data.concat.Width.{Width}
@@ -75,9 +75,9 @@ sets_of (t ∷ texts) phone =
 abbrev pub width_of : Bool → Width
 width_of wide = if wide then Sixteen else Eight
 
--- A message reference counts the segments of all earlier texts of the phone, modulo 256 (3GPP TS 23.040, 9.2.3.6); a
--- concatenation reference counts its earlier texts of more than one segment, modulo 256 (9.2.3.24.1) or 65,536
--- (9.2.3.24.8).
+-- A message reference counts the segments of all earlier texts of the phone, modulo 256 (3GPP TS
+-- 23.040, 9.2.3.6); a concatenation reference counts its earlier texts of more than one segment,
+-- modulo 256 (9.2.3.24.1) or 65,536 (9.2.3.24.8).
 unfoldable pub new_text : Bool → List Text → ℕ → AddressValue → List ℕ → List Units → Text
 new_text wide texts phone target characters pieces =
     record {

@@ -42,7 +42,8 @@ pub record SenderValue : Type 0 where
   pub reject : Bool
   -- the texts that have not ended, the first typed first
   pub pending : List TextValue
-  -- how many segments of the first of them were accepted, and how often its waiting segment was repeated
+  -- how many segments of the first of them were accepted, and how often its waiting segment was
+  -- repeated
   pub accepted : ℕ
   pub repeats : ℕ
   -- how the texts that have ended did, the first typed first

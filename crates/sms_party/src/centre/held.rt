@@ -9,7 +9,8 @@ use std::alloc::{AllocError, Global};
 use std::collections::BTreeMap;
 use std::marker::Model;
 
-/// What tells a duplicate: the originating phone, the message reference and the recipient (3GPP TS 23.040, 9.2.3.25).
+/// What tells a duplicate: the originating phone, the message reference and the recipient (3GPP TS
+/// 23.040, 9.2.3.25).
 #[derive(Clone, Copy, Debug, PartialEq, Eq, Hash)]
 pub struct HeldKey {
     /// The originating phone, counted from 0.
@@ -84,7 +85,8 @@ impl HeldMessages {
         }
     }
 
-    /// Forgets the one that ends first, if it has ended. A key goes when the last message with it ends.
+    /// Forgets the one that ends first, if it has ended. A key goes when the last message with it
+    /// ends.
     pub(crate) fn forget_first(&mut self, now: u64) -> Option<Ending>
         ensures { ForgetsFirst now self.old result self.new }
     {

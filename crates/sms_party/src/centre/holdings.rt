@@ -3,9 +3,9 @@
 ghost use Rattle.std.specs.Prelude.{◌≡◌, [], ◌<◌, ◌≤◌, IsTrue, length, map, IfOk, IfErr, OnOk, OnErr};
 ghost use Rattle.sms_party.specs.Address.{are_distinct, phone_at, address_of};
 ghost use Rattle.sms_party.specs.Centre.Value.{addresses, line_at};
-ghost use Rattle.sms_party.specs.Centre.Lines.{new_line, accepting_line, LinePushes, LineHears, ChangesLine};
+ghost use Rattle.sms_party.specs.Centre.Lines.{accepting_line, LinePushes, LineHears, ChangesLine};
 ghost use Rattle.sms_party.specs.Centre.Kept.{free_at, is_kept, HoldsAlso, IsHeldLater};
-ghost use Rattle.sms_party.specs.Centre.Holdings.{ending_of, ForgetsOne};
+ghost use Rattle.sms_party.specs.Centre.Holdings.{new_holdings, ending_of, ForgetsOne};
 ghost use Rattle.sms_party.specs.declared.outcome.Dropped.TheVariants.{Memory};
 
 use crate::centre::held::{HeldKey, HeldMessages};
@@ -17,7 +17,8 @@ use sms_field::Address;
 use std::alloc::{AllocError, Global};
 use std::marker::Model;
 
-/// The messages that the centre holds, and the lines of their recipients. Each message that waits is held.
+/// The messages that the centre holds, and the lines of their recipients. Each message that waits
+/// is held.
 #[derive(Drop)]
 pub(crate) struct Holdings {
     held: HeldMessages,
@@ -39,8 +40,7 @@ impl Holdings {
     /// No message, and a line for each of these addresses, which are different.
     pub(crate) fn new(alloc: Global, phones: &[Address]) -> Result<Holdings, AllocError>
         requires { IsTrue (are_distinct phones.now) }
-        ensures { IfOk result (λ h. h ≡
-            record { held = record { endings = []; keys = []; last = [] }; lines = map new_line phones.now }) }
+        ensures { IfOk result (λ h. h ≡ new_holdings phones.now) }
     {
         Ok(Holdings {
             held: HeldMessages::new(alloc),
@@ -116,7 +116,8 @@ impl Holdings {
         self.lines.push(alloc, phone)
     }
 
-    /// Takes the answer of a phone to its latest push: an acknowledgement, or a refusal with a cause.
+    /// Takes the answer of a phone to its latest push: an acknowledgement, or a refusal with a
+    /// cause.
     pub(crate) fn hear(
         &mut self,
         alloc: Global,
@@ -134,7 +135,8 @@ impl Holdings {
         self.lines.hear(alloc, now, phone, tag, cause)
     }
 
-    /// Holds a message, and puts it at the end of the queue of its recipient. If memory runs out, nothing has changed.
+    /// Holds a message, and puts it at the end of the queue of its recipient. If memory runs out,
+    /// nothing has changed.
     pub(crate) fn hold(&mut self, key: HeldKey, message: WaitingMessage) -> Result<(), Dropped>
         requires recipient { key.recipient < length self.old.lines }
         requires stamp { free_at self.old.lines key.recipient ≤ message.stamp }

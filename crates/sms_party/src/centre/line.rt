@@ -29,8 +29,8 @@ use std::marker::Model;
 #[derive(Drop)]
 pub(crate) struct Line {
     pub address: Address,
-    /// What is to be delivered, by its stamp, the latest accepted or pushed first. A message goes from any place
-    /// without a look at the others.
+    /// What is to be delivered, by its stamp, the latest accepted or pushed first. A message goes
+    /// from any place without a look at the others.
     queue: LruCache<u64, WaitingMessage>,
     /// No stamp below this one is given any more.
     pub free: u64,
@@ -118,7 +118,8 @@ fn take_out(queue: &mut LruCache<u64, WaitingMessage>, stamp: u64)
     queue.pop(&stamp);
 }
 
-/// Holds a message, and puts it at the end of the queue of its recipient. If memory runs out, nothing has changed.
+/// Holds a message, and puts it at the end of the queue of its recipient. If memory runs out,
+/// nothing has changed.
 pub(crate) fn hold(
     held: &mut HeldMessages,
     line: &mut Line,
@@ -135,7 +136,8 @@ pub(crate) fn hold(
     ensures memory { IfErr result (λ e. e ≡ Memory) }
 {
     let stamp = message.stamp;
-    // The queue has no bound, so that no message makes way for this one: `len` says that there is room.
+    // The queue has no bound, so that no message makes way for this one: `len` says that there is
+    // room.
     let _count = line.queue.len();
     let ending = Ending {
         end: message.ends,
@@ -182,7 +184,8 @@ impl Line {
         }
     }
 
-    /// Puts out the first message of the queue, which goes to its end. If memory runs out, the line is as it was.
+    /// Puts out the first message of the queue, which goes to its end. If memory runs out, the line
+    /// is as it was.
     pub(crate) fn push(&mut self, alloc: Global) -> Result<Step, Dropped>
         ensures { LinePushes self.old result self.new }
     {

@@ -94,7 +94,8 @@ impl Lines {
         line.push(alloc)
     }
 
-    /// Takes the answer of a phone to its latest push: an acknowledgement, or a refusal with a cause.
+    /// Takes the answer of a phone to its latest push: an acknowledgement, or a refusal with a
+    /// cause.
     pub(crate) fn hear(
         &mut self,
         alloc: Global,
@@ -112,7 +113,8 @@ impl Lines {
         line.hear(alloc, now, tag, cause)
     }
 
-    /// Holds a message, and puts it at the end of the queue of its recipient. If memory runs out, nothing has changed.
+    /// Holds a message, and puts it at the end of the queue of its recipient. If memory runs out,
+    /// nothing has changed.
     pub(crate) fn hold(
         &mut self,
         held: &mut HeldMessages,

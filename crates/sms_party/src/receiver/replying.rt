@@ -82,7 +82,8 @@ pub(crate) fn refusal(alloc: Global, tag: Tag, cause: u8, failure: u8) -> Result
     answered(alloc, outcome, tag, packet)
 }
 
-/// A CP-ACK, and an RP-ACK with a report: what a piece that is taken is answered, whatever becomes of it.
+/// A CP-ACK, and an RP-ACK with a report: what a piece that is taken is answered, whatever becomes
+/// of it.
 pub(crate) fn approval(alloc: Global, tag: Tag) -> Result<Vec<Vec<u8>>, Dropped>
     requires value { tag.value < 7 }
     ensures carries { IfOk result (λ ps. CarriesEach (map (λ packet. packet.items) ps.items)

@@ -26,7 +26,8 @@ pub(crate) struct TypedText {
     /// The TP-Message-Reference of the first segment.
     pub reference: u8,
     pub width: Width,
-    /// The concatenation reference, where there is more than one segment; below 256 for `Width::Eight`.
+    /// The concatenation reference, where there is more than one segment; below 256 for
+    /// `Width::Eight`.
     pub set_reference: u16,
 }
 

@@ -529,7 +529,8 @@ pub static TURNS: [Row; 15] = [
     },
 ];
 
-/// Duplicates are known by phone, message reference and recipient, and rejected where that is asked for.
+/// Duplicates are known by phone, message reference and recipient, and rejected where that is asked
+/// for.
 pub static DUPLICATES: [Row; 7] = [
     Row {
         name: "nothing is held",
@@ -924,7 +925,8 @@ pub static BETWEEN: [Row; 13] = [
     },
 ];
 
-/// The message of the latest push has ended, and the clock is put back: its answer takes out no other one.
+/// The message of the latest push has ended, and the clock is put back: its answer takes out no
+/// other one.
 pub static GONE: [Row; 11] = [
     Row {
         name: "one for two days",

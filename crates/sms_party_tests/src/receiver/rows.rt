@@ -2,7 +2,8 @@
 
 use sms_party::{Dropped, Outcome};
 
-/// A packet that comes at a moment, the answer, the packets that are put out, and the texts of the store after it.
+/// A packet that comes at a moment, the answer, the packets that are put out, and the texts of the
+/// store after it.
 pub struct Row {
     pub name: &'static str,
     pub now: u64,

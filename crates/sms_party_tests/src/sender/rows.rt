@@ -17,7 +17,8 @@ pub struct Row {
     pub packets: &'static [&'static [u8]],
 }
 
-/// The submission of `hi` to +1002: as it is put out first, and where duplicates are to be rejected from the first.
+/// The submission of `hi` to +1002: as it is put out first, and where duplicates are to be rejected
+/// from the first.
 const FIRST: &[u8] =
     b"\x09\x01\x13\x00\x00\x00\x03\x91\x01\x00\x0B\x01\x00\x04\x91\x01\x20\x00\x00\x02\xE8\x34";
 

@@ -7,7 +7,8 @@ use Rattle.sms_script.specs.declared.lines.LineEnd.TheVariants.{LineFeed, EndOfS
 use Rattle.sms_script.specs.declared.lines.LineFault.{LineFault}
 use Rattle.sms_script.specs.declared.lines.LineFault.TheVariants.{Read, TooLong, Memory}
 
--- whatever follows these octets, or nothing as the source is at its end, the line is longer than a line may be
+-- whatever follows these octets, or nothing as the source is at its end, the line is longer than a
+-- line may be
 abbrev pub ShowsLonger : List ℕ → Option (List ℕ) → Type 0
 ShowsLonger raw new =
     (line_limit < length (strip_carriage_return raw)) ⊎ ((line_limit < length raw) × IsAtEnd new)

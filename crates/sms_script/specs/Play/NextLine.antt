@@ -12,7 +12,8 @@ use Rattle.sms_script.specs.declared.fault.PlayFault.TheVariants as faults
 use Rattle.sms_script.specs.declared.fault.ScriptFault.{ScriptFault}
 use Rattle.sms_script.specs.declared.fault.ScriptFault.TheVariants as reasons
 
--- a line too many is there with its first octet; a longer line is there with the octet that shows it
+-- a line too many is there with its first octet; a longer line is there with the octet that shows
+-- it
 abbrev pub TakesWrong : Option (List ℕ) → Option (List ℕ) → ℕ → ScriptFault → Type 0
 TakesWrong old new count reasons.TooManyLines =
     (count ≡ lines_limit) × (octet : ℕ) × Consumes old new (octet ∷ [])
@@ -21,7 +22,8 @@ TakesWrong old new count reasons.LineTooLong =
     × ShowsLonger raw new × (length raw ≤ line_limit + 2)
 TakesWrong old new count _ = ⊥
 
--- after as many lines, a source with old left was read for one more, and has new left; the last line has octets
+-- after as many lines, a source with old left was read for one more, and has new left; the last
+-- line has octets
 abbrev pub TakesNext : Option (List ℕ) → Option (List ℕ) → ℕ → List ℕ → Result Next PlayFault
     → Type 0
 TakesNext old new count line (Ok nexts.Line) =

@@ -39,7 +39,8 @@ abbrev pub Answers : {N A E : Type 0} → Conduct N → N → Event → N → Re
 Answers c n event next answer =
     (words : List ℕ) × c.Steps n event words next × AreWords words answer
 
--- from one network to another by these events, with what each answered and the packets that it put out
+-- from one network to another by these events, with what each answered and the packets that it put
+-- out
 abbrev pub Ran : {N : Type 0} → Conduct N → N → List Event → List Happened → N → Type 0
 Ran c n [] [] last = last ≡ n
 Ran {N} c n (event ∷ events) (h ∷ hs) last =

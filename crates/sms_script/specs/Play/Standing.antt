@@ -16,14 +16,16 @@ abbrev pub put_count : List Happened → ℕ
 put_count [] = 0
 put_count (h ∷ hs) = length h.put + put_count hs
 
--- a network is there only after an event; it has put out the packets of the events, and has the script's phones
+-- a network is there only after an event; it has put out the packets of the events, and has the
+-- script's phones
 abbrev pub Follows : {N : Type 0} → Conduct N → SettingsValue → List Happened → Option N → Type 0
 Follows c s happened None = Unit {0}
 Follows c s happened (Some n) =
     (s.known.is_running ≡ true) × (put_count happened ≡ length (c.put_out n))
     × (length (c.ends n) ≡ length s.known.addresses)
 
--- the lines say s with no fault, their events happened and led to the network, and their lines were written
+-- the lines say s with no fault, their events happened and led to the network, and their lines were
+-- written
 abbrev pub Stands : {N : Type 0} → Conduct N
     → List (List ℕ) → SettingsValue → Option N → ℕ → Option (List ℕ) → Option (List ℕ) → Type 0
 Stands c ls s n events before now =
@@ -55,7 +57,8 @@ PlaysLines c old new s n before now (Ok done) =
     × Stands c (lines read) s n events before now
 PlaysLines c old new s n before now (Err fault) = Plays c old new before now (Err fault)
 
--- what playing holds between two lines: what the lines have set, the network, how many events there were, and what the sink has taken
+-- what playing holds between two lines: what the lines have set, the network, how many events there
+-- were, and what the sink has taken
 pub record At (N : Type 0) : Type 0 where
   pub settings : SettingsValue
   pub network : Option N
@@ -65,7 +68,8 @@ pub record At (N : Type 0) : Type 0 where
 abbrev pub at : {N : Type 0} → SettingsValue → Option N → ℕ → Option (List ℕ) → At N
 at s n events written = record { settings = s; network = n; events = events; written = written }
 
--- One line more: wherever playing stands after some lines, it then stands after these and one more, or playing ends.
+-- One line more: wherever playing stands after some lines, it then stands after these and one more,
+-- or playing ends.
 abbrev pub Advances : {N : Type 0} → Conduct N → At N → List ℕ → At N → Result (Unit {0}) PlayFault
     → Type 0
 Advances c from line to result =
@@ -73,7 +77,8 @@ Advances c from line to result =
     → Stands c ls from.settings from.network from.events before from.written
     → GoesOn c (ls ++ line ∷ []) to.settings to.network to.events before to.written result
 
--- the network that an event is played on: the one that there is, or one that starts as the script has set
+-- the network that an event is played on: the one that there is, or one that starts as the script
+-- has set
 abbrev pub OpensAt : {N : Type 0} → Conduct N → SettingsValue → Option N → N → Type 0
 OpensAt c s n m = MatchOption n
     (Starts c s m × (c.put_out m ≡ []) × (length (c.ends m) ≡ length s.known.addresses))

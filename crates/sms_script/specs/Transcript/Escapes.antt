@@ -1,4 +1,5 @@
--- Texts in one line. Each escape stands for one octet, since the characters of several octets have none below 128.
+-- Texts in one line. Each escape stands for one octet, since the characters of several octets have
+-- none below 128.
 use Rattle.std.specs.Prelude.{ℕ, ◌/◌, ◌%◌, List, [], ◌∷◌, ◌==◌, ◌||◌, nat_lt, slice_index, flat_map, codes, if◌then◌else◌}
 use Rattle.sms_script.specs.Transcript.Appended.{◌⊕◌}
 

@@ -5,7 +5,8 @@ use Rattle.sms_tpdu.specs.declared.deliver.flags.DeliverFlags.{DeliverFlags}
 use Rattle.sms_tpdu.specs.declared.fault.UnitFault.{UnitFault}
 use Rattle.sms_tpdu.specs.declared.fault.UnitFault.TheVariants.{WrongType}
 
--- bits 1 and 0 TP-MTI, which is 00; bit 2 TP-MMS, 0 where more messages wait; bit 3 TP-LP; bit 5 TP-SRI; bit 6 TP-UDHI; bit 7 TP-RP; bit 4 is free
+-- bits 1 and 0 TP-MTI, which is 00; bit 2 TP-MMS, 0 where more messages wait; bit 3 TP-LP; bit 5
+-- TP-SRI; bit 6 TP-UDHI; bit 7 TP-RP; bit 4 is free
 abbrev pub deliver_flags : ℕ → Result DeliverFlags UnitFault
 deliver_flags octet =
     if bit 0 octet || bit 1 octet then Err WrongType

@@ -1,4 +1,5 @@
--- SMS-DELIVER-REPORT under an acknowledgement of the relay: the delivery was accepted (3GPP TS 23.040, 9.2.2.1a).
+-- SMS-DELIVER-REPORT under an acknowledgement of the relay: the delivery was accepted (3GPP TS
+-- 23.040, 9.2.2.1a).
 use Rattle.std.specs.Prelude.{◌≡◌, ℕ, Bool, List, ◌∷◌, Option}
 use Rattle.sms_field.specs.Field.{Field, ◌>>=◌, always, octet_by}
 use Rattle.sms_tpdu.specs.Report.Octet.{deliver_report, deliver_report_octet}

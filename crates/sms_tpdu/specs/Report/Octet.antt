@@ -1,4 +1,5 @@
--- The first octet of a report (3GPP TS 23.040, 9.2.2.1a and 9.2.2.2a): its type, and whether the data begin with a header.
+-- The first octet of a report (3GPP TS 23.040, 9.2.2.1a and 9.2.2.2a): its type, and whether the
+-- data begin with a header.
 use Rattle.std.specs.Prelude.{ℕ, ◌+◌, ◌||◌, Bool, true, not, Result, Ok, Err, if◌then◌else◌}
 use Rattle.sms_field.specs.Bit.{bit, weight}
 use Rattle.sms_tpdu.specs.declared.fault.UnitFault.{UnitFault}

@@ -1,4 +1,5 @@
--- SMS-SUBMIT-REPORT under an acknowledgement of the relay: the submission was accepted (3GPP TS 23.040, 9.2.2.2a).
+-- SMS-SUBMIT-REPORT under an acknowledgement of the relay: the submission was accepted (3GPP TS
+-- 23.040, 9.2.2.2a).
 use Rattle.std.specs.Prelude.{◌≡◌, ℕ, Bool, List, ◌∷◌, ◌++◌, Option}
 use Rattle.sms_field.specs.Field.{Field, ◌>>=◌, always, octet_by}
 use Rattle.sms_field.specs.Stamp.{IsStamp}

@@ -1,4 +1,5 @@
--- An SMS-SUBMIT-REPORT under an acknowledgement is a lawful field, and what is written is read back.
+-- An SMS-SUBMIT-REPORT under an acknowledgement is a lawful field, and what is written is read
+-- back.
 use Rattle.std.proofs.Common.{◌≡◌, ℕ, List, [], ◌∷◌, ◌++◌, length, refl, sym, subst}
 use Rattle.sms_text.specs.Octets.{IsOctets}
 use Rattle.sms_field.specs.Field.{IsLawful}

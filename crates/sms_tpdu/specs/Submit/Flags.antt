@@ -6,7 +6,8 @@ use Rattle.sms_tpdu.specs.declared.submit.flags.SubmitFlags.{SubmitFlags}
 use Rattle.sms_tpdu.specs.declared.fault.UnitFault.{UnitFault}
 use Rattle.sms_tpdu.specs.declared.fault.UnitFault.TheVariants.{WrongType}
 
--- bits 1 and 0 TP-MTI, which is 01; bit 2 TP-RD; bits 4 and 3 TP-VPF; bit 5 TP-SRR; bit 6 TP-UDHI; bit 7 TP-RP
+-- bits 1 and 0 TP-MTI, which is 01; bit 2 TP-RD; bits 4 and 3 TP-VPF; bit 5 TP-SRR; bit 6 TP-UDHI;
+-- bit 7 TP-RP
 abbrev pub submit_flags : ℕ → Result SubmitFlags UnitFault
 submit_flags octet =
     if bit 1 octet || not (bit 0 octet) then Err WrongType

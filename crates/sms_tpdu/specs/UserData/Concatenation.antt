@@ -6,7 +6,8 @@ use Rattle.sms_tpdu.specs.declared.user_data.concat.Width.{Width}
 use Rattle.sms_tpdu.specs.declared.user_data.concat.Width.TheVariants.{Eight, Sixteen}
 use Rattle.sms_tpdu.specs.UserData.Elements.{Element, AreElements}
 
--- identifier 00 with the reference in one octet; identifier 08 with the reference in two, the high one first
+-- identifier 00 with the reference in one octet; identifier 08 with the reference in two, the high
+-- one first
 abbrev pub element_for : Width → ℕ → ℕ → ℕ → Element
 element_for Eight reference maximum sequence =
     record { identifier = 0; octets = reference ∷ maximum ∷ sequence ∷ [] }

@@ -1,4 +1,5 @@
--- The place of a segment that a user data header tells, as a function (3GPP TS 23.040, 9.2.3.24.1 and 9.2.3.24.8).
+-- The place of a segment that a user data header tells, as a function (3GPP TS 23.040, 9.2.3.24.1
+-- and 9.2.3.24.8).
 use Rattle.std.specs.Prelude.{◌≡◌, ℕ, zero, suc, ◌+◌, ◌*◌, ◌^◌, ◌<◌, ◌≤◌, ◌&&◌, ◌==◌, nat_le, if◌then◌else◌, List, [], ◌∷◌, length, take, drop, Option, Some, None}
 use Rattle.std.specs.Option.{option_or}
 use Rattle.sms_text.specs.Octets.{IsOctets}
@@ -34,8 +35,8 @@ told_by identifier (high ∷ low ∷ maximum ∷ sequence ∷ []) =
     else None
 told_by identifier _ = None
 
--- the last place that the elements tell, after what was told before; none where the last element is cut; the first
--- number bounds the elements
+-- the last place that the elements tell, after what was told before; none where the last element is
+-- cut; the first number bounds the elements
 abbrev pub last_told : ℕ → List ℕ → Option Concat → Option Concat
 last_told n [] last = last
 last_told n (identifier ∷ []) last = None

@@ -1,4 +1,5 @@
--- User data headers by themselves: a length octet and as many octets as it says (3GPP TS 23.040, 9.2.3.24).
+-- User data headers by themselves: a length octet and as many octets as it says (3GPP TS 23.040,
+-- 9.2.3.24).
 use Rattle.std.specs.Prelude.{◌≡◌, ℕ, List, ◌∷◌, length, ◌≤◌}
 use Rattle.sms_field.specs.Field.{Field, ◌>>=◌, octet_by, octets_of}
 use Rattle.sms_field.specs.Address.{up_to}

@@ -88,7 +88,8 @@ packed_bits fill septets written p =
     let back : List ℕ = replicate p.spare 0 in
     (p.spare, p.few, omega (arith, ap length p.parts, length-octet_bits written, length-append front (septet_bits septets ++ back), length-append (septet_bits septets) back, length-append (front ++ septet_bits septets) back, length-append front (septet_bits septets), length-septet_bits septets, length-replicate {A = ℕ} fill 0, length-replicate {A = ℕ} p.spare 0))
 
--- a body after the octets of a header, as it is written: the length is in range and has room for the header, the body takes the octets that are left, and they are read as it
+-- a body after the octets of a header, as it is written: the length is in range and has room for
+-- the header, the body takes the octets that are left, and they are read as it
 record IsReadAgain (alphabet : Alphabet) (taken : ℕ) (b : Body) (written : List ℕ) : Type 0 where
   few : data_length taken b ≤ greatest_length alphabet
   room : length_of_header alphabet taken ≤ data_length taken b

@@ -1,4 +1,5 @@
--- The user data length, TP-UDL (3GPP TS 23.040, 9.2.3.16): it counts septets under the 7-bit alphabet, else octets.
+-- The user data length, TP-UDL (3GPP TS 23.040, 9.2.3.16): it counts septets under the 7-bit
+-- alphabet, else octets.
 use Rattle.std.specs.Prelude.{ℕ, ◌+◌, ◌-◌, ◌*◌, ◌/◌}
 use Rattle.sms_field.specs.declared.coding.Alphabet.{Alphabet}
 use Rattle.sms_field.specs.declared.coding.Alphabet.TheVariants.{Gsm7}

@@ -1,5 +1,5 @@
--- User data made of units that are lent: the header of a segment's place, where one is given, and the units after it
--- (3GPP TS 23.040, 9.2.3.24.1 and 9.2.3.24.8).
+-- User data made of units that are lent: the header of a segment's place, where one is given, and
+-- the units after it (3GPP TS 23.040, 9.2.3.24.1 and 9.2.3.24.8).
 use Rattle.std.specs.Prelude.{◌≡◌, ℕ, ◌+◌, ◌*◌, ◌≤◌, ◌<◌, List, length, Option, Some, None}
 use Rattle.sms_text.specs.Bits.{AreSeptets}
 use Rattle.sms_text.specs.Utf16.{octets_high_first}

@@ -1,4 +1,5 @@
-//! The first octet of a report: its type, TP-MTI, and whether its data begin with a header, TP-UDHI.
+//! The first octet of a report: its type, TP-MTI, and whether its data begin with a header,
+//! TP-UDHI.
 
 ghost use Rattle.std.specs.Prelude.{◌≡◌};
 ghost use Rattle.sms_tpdu.specs.Report.Octet as octets;

@@ -36,7 +36,8 @@ pub struct SubmitView<'a> {
     pub pid: u8,
     /// TP-DCS: the data coding scheme.
     pub dcs: u8,
-    /// TP-UDHI, TP-UDL and TP-UD: septets exactly where the data coding scheme says the 7-bit alphabet, else octets.
+    /// TP-UDHI, TP-UDL and TP-UD: septets exactly where the data coding scheme says the 7-bit
+    /// alphabet, else octets.
     pub user: UserDataView<'a>,
 }
 

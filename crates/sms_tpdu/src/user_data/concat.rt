@@ -29,7 +29,8 @@ impl Width {
     }
 }
 
-/// The place of a segment in its message: the information elements 00 and 08 (3GPP TS 23.040, 9.2.3.24.1 and 9.2.3.24.8).
+/// The place of a segment in its message: the information elements 00 and 08 (3GPP TS 23.040,
+/// 9.2.3.24.1 and 9.2.3.24.8).
 ///
 /// The sequence counts from 1 to the maximum. With `Width::Eight` the reference is below 256.
 #[derive(Clone, Copy, Debug, PartialEq, Eq, Hash)]

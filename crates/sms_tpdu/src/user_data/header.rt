@@ -20,7 +20,8 @@ use std::marker::Model;
 /// The most octets of a header, its length octet apart.
 pub const HEADER_MAX: u8 = 139;
 
-/// A user data header, UDH: the octets after its length octet, at most 139 (3GPP TS 23.040, 9.2.3.24).
+/// A user data header, UDH: the octets after its length octet, at most 139 (3GPP TS 23.040,
+/// 9.2.3.24).
 ///
 /// Contracts see it as the list of these octets.
 #[derive(Drop)]

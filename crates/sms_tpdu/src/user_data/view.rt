@@ -199,7 +199,8 @@ impl<'a> UserDataView<'a> {
         }
     }
 
-    /// TP-UDL: how many septets there are under the 7-bit alphabet, else how many octets. A header counts too.
+    /// TP-UDL: how many septets there are under the 7-bit alphabet, else how many octets. A header
+    /// counts too.
     pub fn length(&self) -> u8
         ensures { result ≡ length_in self.now }
     {

@@ -164,8 +164,8 @@ fn write_wide(alloc: Global, place: Option<Concat>, units: &[u16]) -> Result<Vec
     Ok(out)
 }
 
-/// The octets of user data whose units are lent: their length, the header of the place, where one is given, and the
-/// units packed straight after it (3GPP TS 23.040, 9.2.3.24.1 and 9.2.3.24.8).
+/// The octets of user data whose units are lent: their length, the header of the place, where one
+/// is given, and the units packed straight after it (3GPP TS 23.040, 9.2.3.24.1 and 9.2.3.24.8).
 pub fn write_units(
     alloc: Global,
     place: Option<Concat>,

@@ -5,8 +5,9 @@ use Rattle.sms_world.specs.Machine.{Machine}
 use Rattle.sms_world.specs.Machine.Event.{Event}
 use Rattle.sms_world.specs.Orderly.Brought.{BringsAnswer}
 
--- An RP-ACK or RP-ERROR that comes to a phone with the transaction value and the RP reference of the last submission that it
--- put out answers that putting out, and no earlier one with the same two numbers.
+-- An RP-ACK or RP-ERROR that comes to a phone with the transaction value and the RP reference of
+-- the last submission that it put out answers that putting out, and no earlier one with the same
+-- two numbers.
 abbrev pub AnswersAnswerWhatTheyName : Machine → Event → Type 0
 AnswersAnswerWhatTheyName m event =
     (phone last : ℕ) (about : Option ℕ) → (m.senders.sender phone).outs ≡ suc last

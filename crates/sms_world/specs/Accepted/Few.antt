@@ -9,8 +9,9 @@ use Rattle.sms_world.specs.Machine.Step.{RunWith}
 use Rattle.sms_world.specs.Orderly.Injections.{NothingIsInjected}
 use Rattle.sms_world.specs.Accepted.Answers.{AnswersAnswerWhatTheyName}
 
--- Transaction values count modulo 7 and RP references modulo 256: the two together come again after 1,792 puttings out.
--- Where nothing is injected and no sender has put out more, each event meets the condition.
+-- Transaction values count modulo 7 and RP references modulo 256: the two together come again after
+-- 1,792 puttings out. Where nothing is injected and no sender has put out more, each event meets
+-- the condition.
 abbrev pub FewPuttingsOut : Type 0
 FewPuttingsOut =
     (limits : Limits) (phones : List AddressValue) (past : List (Event × Told)) (m : Machine)

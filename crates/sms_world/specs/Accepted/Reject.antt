@@ -13,7 +13,8 @@ use Rattle.sms_world.specs.Machine.Step.{Run}
 use Rattle.sms_world.specs.Orderly.Brought.{BringsSubmission}
 use Rattle.sms_world.specs.Orderly.Repeats.{RepeatsAskForRejection}
 
--- Where the limits say so, each SMS-SUBMIT that an event carries to the centre has TP-RD 1, whatever was injected.
+-- Where the limits say so, each SMS-SUBMIT that an event carries to the centre has TP-RD 1,
+-- whatever was injected.
 abbrev pub AllReject : Type 0
 AllReject =
     (limits : Limits) (phones : List AddressValue) (past : List (Event × Told)) (m : Machine)
@@ -29,7 +30,8 @@ RepeatsComeInTime m event =
     → (a : Acceptance) → Contains m.centre.accepted a → a.origin ≡ Some o
     → m.clock < a.ends
 
--- Then of the condition on repeats only their time is left: any copy may come while the accepted one has not ended.
+-- Then of the condition on repeats only their time is left: any copy may come while the accepted
+-- one has not ended.
 abbrev pub OnlyTimeIsLeft : Type 0
 OnlyTimeIsLeft =
     (limits : Limits) (phones : List AddressValue) (past : List (Event × Told)) (m : Machine)

@@ -1,5 +1,5 @@
--- The open sets of each phone are those of its open texts, one each, with just the text's taken segments. Lists have the
--- newest entry first.
+-- The open sets of each phone are those of its open texts, one each, with just the text's taken
+-- segments. Lists have the newest entry first.
 use Rattle.std.specs.Prelude.{◌≡◌, ℕ, List}
 use Rattle.sms_field.specs.AddressValue.{AddressValue}
 use Rattle.sms_join.specs.Arrivals.{open_pieces, OpenApart}

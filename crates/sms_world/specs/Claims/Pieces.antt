@@ -1,5 +1,6 @@
--- Where nothing is injected and repeats ask for rejection in time, every message of a segment has that segment's piece, and
--- each segment is accepted at most once, so that all its deliveries have one stamp. Lists have the newest entry first.
+-- Where nothing is injected and repeats ask for rejection in time, every message of a segment has
+-- that segment's piece, and each segment is accepted at most once, so that all its deliveries have
+-- one stamp. Lists have the newest entry first.
 use Rattle.std.specs.Prelude.{◌≡◌, ℕ, ◌<◌, ◌≤◌, Bool, false, List, [], ◌∷◌, length, Option, Some, None}
 use Rattle.sms_field.specs.AddressValue.{AddressValue}
 use Rattle.sms_tpdu.specs.Submit.{Submission}
@@ -142,8 +143,8 @@ pub record CentreSound (phones : List AddressValue) (texts : List Text)
   pub queued : (r : ℕ)
       → Each (λ a. (a.recipient ≡ r) × IsTyped phones texts c.accepted a) (c.line r).queue
 
--- The pieces of each typed text are its cut; every message of a segment has its text's piece; and each segment is accepted
--- at most once, so that all deliveries of it have one stamp.
+-- The pieces of each typed text are its cut; every message of a segment has its text's piece; and
+-- each segment is accepted at most once, so that all deliveries of it have one stamp.
 pub record EachHasItsPiece (m : Machine) : Type 0 where
   pub texts : Each HasCut m.senders.texts
   pub senders : (phone : ℕ) → SenderSound m.senders.texts phone (m.senders.sender phone)

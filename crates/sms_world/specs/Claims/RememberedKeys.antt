@@ -1,4 +1,5 @@
--- The keys that a phone remembers are those of the last texts that finished there. Lists have the newest entry first.
+-- The keys that a phone remembers are those of the last texts that finished there. Lists have the
+-- newest entry first.
 use Rattle.std.specs.Prelude.{◌≡◌, ℕ, List, map, take}
 use Rattle.sms_field.specs.AddressValue.{AddressValue}
 use Rattle.sms_world.specs.Told.{Told}

@@ -18,8 +18,8 @@ abbrev pub IsDistinct : List ℕ → Type 0
 IsDistinct [] = Unit {0}
 IsDistinct (n ∷ ns) = (is_listed ns n ≡ false) × IsDistinct ns
 
--- Just the texts typed to the phone of which every segment was taken, each once; and one of them stands before another just
--- where its last missing segment came earlier.
+-- Just the texts typed to the phone of which every segment was taken, each once; and one of them
+-- stands before another just where its last missing segment came earlier.
 pub record FinishedAre (m : Machine) (phone : ℕ) : Type 0 where
   pub typed : (n : ℕ) → is_listed (finished m phone) n ≡ true → IsTypedTo m phone n
   pub complete : (n : ℕ) → is_listed (finished m phone) n ≡ true → IsComplete m phone n

@@ -11,7 +11,8 @@ use Rattle.sms_world.specs.Machine.Event.{Event}
 use Rattle.sms_world.specs.Machine.Step.{RunWith}
 use Rattle.sms_world.specs.Orderly.{SubmissionsAreOrderly}
 
--- Where nothing is injected and repeats ask for rejection in time, no two accepted submissions are of one segment.
+-- Where nothing is injected and repeats ask for rejection in time, no two accepted submissions are
+-- of one segment.
 abbrev pub AcceptedAtMostOnce : Type 0
 AcceptedAtMostOnce =
     (limits : Limits) (phones : List AddressValue) (past : List (Event × Told)) (m : Machine)

@@ -25,19 +25,21 @@ is_taking (Ok Kept) = true
 is_taking (Ok Repeat) = true
 is_taking _ = false
 
--- The phone answered RP-ERROR with cause 22, memory capacity exceeded (3GPP TS 24.011, 8.2.5.4), and failure cause D3,
--- memory capacity exceeded (3GPP TS 23.040, 9.2.3.22).
+-- The phone answered RP-ERROR with cause 22, memory capacity exceeded (3GPP TS 24.011, 8.2.5.4),
+-- and failure cause D3, memory capacity exceeded (3GPP TS 23.040, 9.2.3.22).
 abbrev pub no_room : Told
 no_room = Ok (Refused 22 (Some 0xD3))
 
--- As many texts have finished as the store may hold, and the segment would complete a text that is not among them.
+-- As many texts have finished as the store may hold, and the segment would complete a text that is
+-- not among them.
 pub record StoreIsFull (m : Machine) (phone : ℕ) (o : Origin) : Type 0 where
   pub full : length (finished m phone) ≡ m.limits.store
   pub unfinished : is_listed (finished m phone) o.text ≡ false
   pub last : (s : ℕ) → 0 < s → s ≤ size_in m.senders.texts o.text → s ≢ o.segment
       → IsTaken m phone o.text s
 
--- As many texts are open as may be, no segment of this one's text was taken, and it is not the only one.
+-- As many texts are open as may be, no segment of this one's text was taken, and it is not the only
+-- one.
 pub record SetsAreFull (m : Machine) (phone : ℕ) (o : Origin) : Type 0 where
   pub full :
       length (open_texts (size_in m.senders.texts) (m.receiver phone).taken (m.receiver phone).taken)
@@ -45,7 +47,8 @@ pub record SetsAreFull (m : Machine) (phone : ℕ) (o : Origin) : Type 0 where
   pub none_taken : (s : ℕ) → ¬ IsTaken m phone o.text s
   pub more : 1 < size_in m.senders.texts o.text
 
--- It is taken; or refused where a table is full, and the phone is as before; or memory runs out, and nothing has changed.
+-- It is taken; or refused where a table is full, and the phone is as before; or memory runs out,
+-- and nothing has changed.
 abbrev pub Received : Machine → ℕ → Origin → Told → Machine → Type 0
 Received old phone o told new =
     (is_taking told ≡ true)
@@ -53,8 +56,8 @@ Received old phone o told new =
     × (StoreIsFull old phone o ⊎ SetsAreFull old phone o))
     ⊎ ((told ≡ no_memory) × (new ≡ old))
 
--- A delivery that comes in an orderly run is of a segment of a text that was typed to the phone, and it is refused only
--- where a table is full or memory runs out.
+-- A delivery that comes in an orderly run is of a segment of a text that was typed to the phone,
+-- and it is refused only where a table is full or memory runs out.
 abbrev pub RefusedOnlyWhereFull : Type 0
 RefusedOnlyWhereFull =
     (limits : Limits) (phones : List AddressValue) (past : List (Event × Told)) (old : Machine)

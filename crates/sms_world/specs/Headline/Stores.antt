@@ -8,8 +8,9 @@ use Rattle.sms_world.specs.Machine.Event.{Event}
 use Rattle.sms_world.specs.Texts.Stands.{stands}
 use Rattle.sms_world.specs.Orderly.{OrderlyRun}
 
--- After every orderly run the store of each phone is, in order of completion, just the texts that have finished there, each
--- with the address of the phone that it was typed at and the characters that were typed. (Both lists have the newest first.)
+-- After every orderly run the store of each phone is, in order of completion, just the texts that
+-- have finished there, each with the address of the phone that it was typed at and the characters
+-- that were typed. (Both lists have the newest first.)
 abbrev pub StoresStand : Type 0
 StoresStand =
     (limits : Limits) (phones : List AddressValue) (past : List (Event × Told)) (m : Machine)

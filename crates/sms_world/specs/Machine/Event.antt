@@ -13,7 +13,8 @@ use Rattle.sms_party.specs.Sent.{Place}
 pub data Event : Type 0 where
   -- someone types these characters at a phone, to this address
   Compose : (phone : ℕ) → (target : AddressValue) → (characters : List ℕ) → Event
-  -- the packet of this number, counted from 1, comes to its destination: once more, if it came before
+  -- the packet of this number, counted from 1, comes to its destination: once more, if it came
+  -- before
   Carry : (packet : ℕ) → Event
   -- a phone has waited for its answer for too long
   Timeout : (phone : ℕ) → Event
@@ -24,7 +25,8 @@ pub data Event : Type 0 where
   -- octets come that nobody put out
   Inject : Place → (octets : List ℕ) → Event
 
--- An event as the machine meets it: a typed text with its cut into segments, octets with the message as which they are read.
+-- An event as the machine meets it: a typed text with its cut into segments, octets with the
+-- message as which they are read.
 pub data Act : Type 0 where
   Composes : (phone : ℕ) → (target : AddressValue) → (characters : List ℕ) → (pieces : List Units)
       → Act
@@ -34,7 +36,8 @@ pub data Act : Type 0 where
   Ticks : (seconds : ℕ) → Act
   Injects : Place → Message → Act
 
--- The event is this act, where texts are cut for concatenation references of this width. (Each event is just one act.)
+-- The event is this act, where texts are cut for concatenation references of this width. (Each
+-- event is just one act.)
 abbrev pub Is : Width → Event → Act → Type 0
 Is width (Compose phone target characters) act =
     (pieces : List Units) × IsText characters × IsCut width characters pieces

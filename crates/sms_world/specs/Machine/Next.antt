@@ -1,6 +1,7 @@
--- What the machine does at an event, where memory is ample: by cases of the event. Each party does what its own
--- definition says (the sender, the centre, the receiver); this file says which of them an event is for, and keeps what is
--- put out. Lists of what was have the newest entry first; what is put out at one event has its first packet first.
+-- What the machine does at an event, where memory is ample: by cases of the event. Each party does
+-- what its own definition says (the sender, the centre, the receiver); this file says which of them
+-- an event is for, and keeps what is put out. Lists of what was have the newest entry first; what
+-- is put out at one event has its first packet first.
 use Rattle.std.specs.Prelude.{ℕ, zero, suc, ◌+◌, true, false, if◌then◌else◌, nat_lt, List, [], ◌∷◌, length, Option, Some, None, Ok, Err}
 use Rattle.sms_party.specs.Message.{Origin}
 use Rattle.sms_party.specs.declared.message.Message.{Message}
@@ -103,8 +104,8 @@ pushed phone d = of_centre phone (origin_of (d.after.line phone).latest) None d
 
 -- ---- a message comes
 
--- To a phone: flag 1 of the transaction identifier (3GPP TS 24.007, 11.2.3.1.3) says that the phone opened the
--- transaction, so its sender is meant; flag 0 that the centre did, so its receiver is.
+-- To a phone: flag 1 of the transaction identifier (3GPP TS 24.007, 11.2.3.1.3) says that the phone
+-- opened the transaction, so its sender is meant; flag 0 that the centre did, so its receiver is.
 unfoldable pub comes_to_phone : Machine → ℕ → Message → Option Origin → Next
 comes_to_phone m phone NotCp origin = stays m (Err (Party dropped.NotCp))
 comes_to_phone m phone (Note flag value) origin = stays m (Ok Noted)

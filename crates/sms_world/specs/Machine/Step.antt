@@ -1,4 +1,5 @@
--- What may come of an event, and runs: lists of events with what was answered to each. Runs have the newest event first.
+-- What may come of an event, and runs: lists of events with what was answered to each. Runs have
+-- the newest event first.
 use Rattle.std.specs.Prelude.{◌≡◌, ◌⊎◌, Bool, true, false, nat_lt, List, [], ◌∷◌, length, is_some, Err}
 use Rattle.sms_party.specs.declared.outcome.Dropped.TheVariants as dropped
 use Rattle.sms_party.specs.Sent.{Sent}
@@ -21,7 +22,8 @@ takes_memory m (Injects place message) = nat_lt (phone_of place) (length m.phone
 abbrev pub no_memory : Told
 no_memory = Err (Party dropped.Memory)
 
--- The machine does what it does where memory is ample; or, where the event takes memory, there is none, and nothing changes.
+-- The machine does what it does where memory is ample; or, where the event takes memory, there is
+-- none, and nothing changes.
 abbrev pub Acts : Machine → Act → Told → List Sent → Machine → Type 0
 Acts old act told put new =
     ((next old act).answer ≡ told × (next old act).put ≡ put × (next old act).after ≡ new)
@@ -32,8 +34,8 @@ abbrev pub Step : Machine → Event → Told → List Sent → Machine → Type 
 Step old event told put new =
     (act : Act) × Is (width_of old.senders.wide) event act × Acts old act told put new
 
--- A run from the first state to the last, in which the condition holds at each event, of the machine as it is when the
--- event comes.
+-- A run from the first state to the last, in which the condition holds at each event, of the
+-- machine as it is when the event comes.
 abbrev pub RunWith : (Machine → Event → Type 0) → Machine → List (Event × Told) → Machine → Type 0
 RunWith Keeps first [] last = first ≡ last
 RunWith Keeps first (e ∷ past) last =

@@ -1,5 +1,6 @@
--- What an event brings, where it carries a packet that was put out. The origin is the segment of a typed text that the
--- message is of; each SMS-SUBMIT and SMS-DELIVER that a party has put out has one, unless it comes of injected octets.
+-- What an event brings, where it carries a packet that was put out. The origin is the segment of a
+-- typed text that the message is of; each SMS-SUBMIT and SMS-DELIVER that a party has put out has
+-- one, unless it comes of injected octets.
 use Rattle.std.specs.Prelude.{◌≡◌, ℕ, true, false, Option, Some}
 use Rattle.sms_tpdu.specs.Submit.{Submission}
 use Rattle.sms_tpdu.specs.Deliver.{Delivery}
@@ -46,8 +47,8 @@ pub record BringsDelivery (m : Machine) (event : Event) (phone : ℕ) (d : Deliv
         about = about;
       })
 
--- The event brings an RP-ACK or RP-ERROR with this transaction value and reference to a phone's sender. It answers the
--- sender's putting out of this number, counted from 0.
+-- The event brings an RP-ACK or RP-ERROR with this transaction value and reference to a phone's
+-- sender. It answers the sender's putting out of this number, counted from 0.
 pub record BringsAnswer (m : Machine) (event : Event) (phone : ℕ) (tag : Tag)
     (about : Option ℕ) : Type 0 where
   pub number : ℕ

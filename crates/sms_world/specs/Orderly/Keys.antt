@@ -14,17 +14,17 @@ use Rattle.sms_world.specs.Texts.Taken.{IsOpen}
 use Rattle.sms_world.specs.Texts.Finished.{IsAmongLast}
 use Rattle.sms_world.specs.Orderly.Brought.{BringsDelivery}
 
--- The deliveries of the text have the key of this one: its originating address, and the width, the reference and the maximum
--- of its concatenation (3GPP TS 23.040, 9.2.3.24.1 and 9.2.3.24.8).
+-- The deliveries of the text have the key of this one: its originating address, and the width, the
+-- reference and the maximum of its concatenation (3GPP TS 23.040, 9.2.3.24.1 and 9.2.3.24.8).
 pub record HasKey (phones : List AddressValue) (t : Text) (d : Delivery) (c : Concat) : Type 0 where
   pub origin : address_of phones t.phone ≡ d.origin
   pub width : t.width ≡ c.width
   pub reference : t.set_reference ≡ c.reference
   pub maximum : length t.pieces ≡ c.maximum
 
--- Where a delivery of a segment of a concatenated text comes to a phone, no other text with its key is open there, or among
--- the last that finished there, as many as the phone remembers. (Of texts in one segment nothing is asked: their keys
--- differ, since stamps do.)
+-- Where a delivery of a segment of a concatenated text comes to a phone, no other text with its key
+-- is open there, or among the last that finished there, as many as the phone remembers. (Of texts
+-- in one segment nothing is asked: their keys differ, since stamps do.)
 abbrev pub NoKeyIsUsedAgain : Machine → Event → Type 0
 NoKeyIsUsedAgain m event =
     (phone : ℕ) (d : Delivery) (o : Origin) (c : Concat) → BringsDelivery m event phone d (Some o)

@@ -8,8 +8,9 @@ use Rattle.sms_world.specs.Machine.{Machine}
 use Rattle.sms_world.specs.Machine.Event.{Event}
 use Rattle.sms_world.specs.Orderly.Brought.{BringsSubmission}
 
--- An SMS-SUBMIT that comes to the centre after one of the same segment of the same text was accepted asks for the rejection
--- of duplicates (TP-RD is 1; 3GPP TS 23.040, 9.2.3.25), and comes before the accepted one's validity ends.
+-- An SMS-SUBMIT that comes to the centre after one of the same segment of the same text was
+-- accepted asks for the rejection of duplicates (TP-RD is 1; 3GPP TS 23.040, 9.2.3.25), and comes
+-- before the accepted one's validity ends.
 abbrev pub RepeatsAskForRejection : Machine → Event → Type 0
 RepeatsAskForRejection m event =
     (phone : ℕ) (s : Submission) (o : Origin) → BringsSubmission m event phone s (Some o)

@@ -1,5 +1,5 @@
--- The texts that have finished at a phone: those of which it has taken every segment, in order of completion, the one that
--- was completed last first.
+-- The texts that have finished at a phone: those of which it has taken every segment, in order of
+-- completion, the one that was completed last first.
 use Rattle.std.specs.Prelude.{◌≡◌, ℕ, true, List, take}
 use Rattle.sms_join.specs.Arrivals.{completed, is_listed}
 use Rattle.sms_world.specs.Machine.{Machine}

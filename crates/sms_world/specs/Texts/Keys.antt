@@ -1,5 +1,6 @@
--- The key by which the deliveries of a text are known as one message (3GPP TS 23.040, 9.2.3.24.1 and 9.2.3.24.8), and its
--- segments, as the laws of the joiner ask for them. Lists have the newest entry first.
+-- The key by which the deliveries of a text are known as one message (3GPP TS 23.040, 9.2.3.24.1
+-- and 9.2.3.24.8), and its segments, as the laws of the joiner ask for them. Lists have the newest
+-- entry first.
 use Rattle.std.specs.Prelude.{ℕ, Bool, false, ◌&&◌, if◌then◌else◌, ◌==◌, nat_lt, List, [], ◌∷◌, length, Option, Some, None}
 use Rattle.sms_field.specs.AddressValue.{AddressValue}
 use Rattle.sms_join.specs.declared.key.Key.{Key}
@@ -26,7 +27,8 @@ abbrev pub stamp_in : Option ℕ → List ℕ
 stamp_in None = []
 stamp_in (Some stamp) = stamp_octets stamp
 
--- A text of more than one segment has originator, width, reference and maximum; a text of one has originator and stamp.
+-- A text of more than one segment has originator, width, reference and maximum; a text of one has
+-- originator and stamp.
 abbrev pub key_in : List AddressValue → List Acceptance → ℕ → Option Text → Key
 key_in phones accepted n None = Single (address_of [] 0) []
 key_in phones accepted n (Some t) =

@@ -13,6 +13,7 @@ abbrev pub entry_in : List AddressValue → Option Text → Entry
 entry_in phones None = record { origin = address_of [] 0; characters = [] }
 entry_in phones (Some t) = record { origin = address_of phones t.phone; characters = t.characters }
 
--- Each text that has finished at the phone, in order of completion, the one that was completed last first.
+-- Each text that has finished at the phone, in order of completion, the one that was completed last
+-- first.
 unfoldable pub stands : Machine → ℕ → List Entry
 stands m phone = map (λ n. entry_in m.phones (nth m.senders.texts n)) (finished m phone)

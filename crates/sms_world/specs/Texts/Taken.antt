@@ -1,5 +1,6 @@
--- What a phone has taken: the segments of typed texts whose SMS-DELIVER came to it and was answered with an RP-ACK. Segments
--- count from 1. Where an open set is dropped by age, what was taken of its text no longer counts.
+-- What a phone has taken: the segments of typed texts whose SMS-DELIVER came to it and was answered
+-- with an RP-ACK. Segments count from 1. Where an open set is dropped by age, what was taken of its
+-- text no longer counts.
 use Rattle.std.specs.Prelude.{◌≡◌, ℕ, true, false}
 use Rattle.sms_join.specs.Arrivals.{has_piece, is_done, has_text}
 use Rattle.sms_world.specs.Machine.{Machine}

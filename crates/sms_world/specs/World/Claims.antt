@@ -29,8 +29,8 @@ use Rattle.sms_world.specs.World.Steps.{Steps}
 
 -- ---- once
 
--- The phone's store is, in order of completion, exactly the texts typed to it of which every segment was taken, each once,
--- whole and as typed.
+-- The phone's store is, in order of completion, exactly the texts typed to it of which every
+-- segment was taken, each once, whole and as typed.
 pub record StoreIsWhole (world : WorldValue) (m : Machine) (phone : ℕ) : Type 0 where
   pub as_typed : store_in world.parties.phones phone ≡ reverse (stands m phone)
   pub finished : FinishedAre m phone
@@ -42,9 +42,9 @@ StoresAreWhole world =
     → OrderlyRun (start limits phones) past m → StandsFor world m
     → (phone : ℕ) → phone < length world.parties.phones → StoreIsWhole world m phone
 
--- A delivery that an event brings to a phone is of a segment of a text that was typed to the phone; and it is refused only
--- where a stated table is full or memory runs out. So it is in every orderly run whose last state the old world stands for,
--- where the event comes in order.
+-- A delivery that an event brings to a phone is of a segment of a text that was typed to the phone;
+-- and it is refused only where a stated table is full or memory runs out. So it is in every orderly
+-- run whose last state the old world stands for, where the event comes in order.
 abbrev pub RefusesOnlyWhereFull : Event → WorldValue → Told → WorldValue → Type 0
 RefusesOnlyWhereFull event old told new =
     (limits : Limits) (phones : List AddressValue) (past : List (Event × Told)) (m : Machine)
@@ -55,8 +55,8 @@ RefusesOnlyWhereFull event old told new =
 
 -- ---- accepted at most once
 
--- No two accepted submissions are of one segment, after every run in which nothing is injected and repeats ask for
--- rejection in time.
+-- No two accepted submissions are of one segment, after every run in which nothing is injected and
+-- repeats ask for rejection in time.
 abbrev pub AcceptsOnce : WorldValue → Type 0
 AcceptsOnce world =
     (limits : Limits) (phones : List AddressValue) (past : List (Event × Told)) (m : Machine)
@@ -67,15 +67,16 @@ AcceptsOnce world =
 
 -- ---- what accepted means
 
--- Text n is the one of this number that ended at its phone, and the centre has accepted each of its segments.
+-- Text n is the one of this number that ended at its phone, and the centre has accepted each of its
+-- segments.
 pub record WasAccepted (m : Machine) (phone number n : ℕ) : Type 0 where
   pub ended : slice_get (reverse (m.senders.sender phone).ended) (number - 1) ≡ Some (n, true)
   pub accepted : (s : ℕ) → 0 < s → s ≤ size_in m.senders.texts n
       → (a : Acceptance) × Contains m.centre.accepted a
       × (a.origin ≡ Some (record { text = n; segment = s }))
 
--- A text that is shown as accepted was, after every run in which answers and rejections are of what they seem to be of, and
--- nothing is injected.
+-- A text that is shown as accepted was, after every run in which answers and rejections are of what
+-- they seem to be of, and nothing is injected.
 abbrev pub AcceptedWereAccepted : WorldValue → Type 0
 AcceptedWereAccepted world =
     (limits : Limits) (phones : List AddressValue) (past : List (Event × Told)) (m : Machine)
@@ -84,8 +85,9 @@ AcceptedWereAccepted world =
     → status_among (statuses_at world.parties.phones phone) number ≡ Some Accepted
     → (n : ℕ) × WasAccepted m phone number n
 
--- Where the limits ask for rejection from the first putting out on, any copy of a submission may come as long as the
--- accepted one has not ended: every event then asks for rejection in time. So it is after every run, injections or not.
+-- Where the limits ask for rejection from the first putting out on, any copy of a submission may
+-- come as long as the accepted one has not ended: every event then asks for rejection in time. So
+-- it is after every run, injections or not.
 abbrev pub CopiesMayComeInTime : WorldValue → Type 0
 CopiesMayComeInTime world =
     (limits : Limits) (phones : List AddressValue) (past : List (Event × Told)) (m : Machine)

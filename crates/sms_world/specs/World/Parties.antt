@@ -27,8 +27,8 @@ on_way up phone [] = []
 on_way up phone (octets ∷ packets) =
     record { is_up = up; phone = phone; octets = octets } ∷ on_way up phone packets
 
--- The parties did this, and put out packets of this way, two at most. Or they dropped what came, for this reason; or
--- memory ran out, and they stand for what they stood for.
+-- The parties did this, and put out packets of this way, two at most. Or they dropped what came,
+-- for this reason; or memory ran out, and they stand for what they stood for.
 abbrev pub Answers : Bool → ℕ → Machine → Next → Result Step Dropped → PartiesValue → Type 0
 Answers up phone m d (Ok step) new =
     (d.answer ≡ Ok step.outcome) × (length (packets_of step) ≤ 2)
@@ -60,8 +60,9 @@ Pushes now phone old result new =
 abbrev pub place_at : Bool → ℕ → Place
 place_at up phone = if up then Centre phone else Phone phone
 
--- Octets come to the centre from a phone, or to a phone: they are read as a message, and it does what it does with the
--- message, whatever segment the message is of and whichever putting out it answers.
+-- Octets come to the centre from a phone, or to a phone: they are read as a message, and it does
+-- what it does with the message, whatever segment the message is of and whichever putting out it
+-- answers.
 abbrev pub Receives : ℕ → Bool → ℕ → List ℕ → PartiesValue → Result Step Dropped → PartiesValue
     → Type 0
 Receives now up phone octets old (Err dropped.Memory) new =

@@ -27,7 +27,8 @@ ArePacketsOf [] [] = Unit {0}
 ArePacketsOf (p ∷ packets) (x ∷ sent) = IsPacketOf p x × ArePacketsOf packets sent
 ArePacketsOf _ _ = ⊥
 
--- The parties stand for those of the machine: the centre for its centre, and each phone for its sender and its receiver.
+-- The parties stand for those of the machine: the centre for its centre, and each phone for its
+-- sender and its receiver.
 pub record PartiesStand (v : PartiesValue) (m : Machine) : Type 0 where
   pub centre_stands : centre.StandsFor m.limits.held m.phones m.clock v.centre m.centre
   pub as_many : length v.phones ≡ length m.phones
@@ -36,16 +37,16 @@ pub record PartiesStand (v : PartiesValue) (m : Machine) : Type 0 where
   pub receivers_stand : (p : ℕ) (phone : PhoneValue) → slice_get v.phones p ≡ Some phone
       → receiver.StandsFor (receiver_limits m.limits) phone.receiver (m.receiver p)
 
--- The world stands for a state of the machine: limits and clock are the same, its parties stand for the machine's, and its
--- packets are those of all that was ever put out.
+-- The world stands for a state of the machine: limits and clock are the same, its parties stand for
+-- the machine's, and its packets are those of all that was ever put out.
 pub record StandsFor (v : WorldValue) (m : Machine) : Type 0 where
   pub limits_are : m.limits ≡ v.limits
   pub clock_is : m.clock ≡ v.clock
   pub parties_stand : PartiesStand v.parties m
   pub packets_are : ArePacketsOf v.packets (reverse m.sent)
 
--- What is true of every world: its clock stands before the end of 2099, each packet is of one of its phones, and there is a
--- state of the machine for which it stands.
+-- What is true of every world: its clock stands before the end of 2099, each packet is of one of
+-- its phones, and there is a state of the machine for which it stands.
 pub record IsWorld (v : WorldValue) : Type 0 where
   pub clock : v.clock < end_of_2099
   pub ways : AllByRecursion (λ p. p.phone < length v.parties.phones) v.packets

@@ -33,8 +33,8 @@ event_of (given.Inject up phone octets) = Inject (place_at up phone) octets
 abbrev pub PutsMore : WorldValue → WorldValue → Type 0
 PutsMore old new = (packets : List PacketValue) × (new.packets ≡ old.packets ++ packets)
 
--- From a state of the machine there is a step, with this answer, to a state that the new world stands for; and the packets
--- that are new carry what the step puts out.
+-- From a state of the machine there is a step, with this answer, to a state that the new world
+-- stands for; and the packets that are new carry what the step puts out.
 abbrev pub StepsFrom : Machine → Event → WorldValue → Told → WorldValue → Type 0
 StepsFrom m event old told new =
     (put : List Sent) × (n : Machine) × Step m event told put n × StandsFor new n
@@ -51,12 +51,14 @@ told_past [] told = []
 told_past (e ∷ events) [] = []
 told_past (e ∷ events) (t ∷ told) = told_past events told ++ (event_of e, t) ∷ []
 
--- There is a run from the first state, of these events with these answers, to a state that the world stands for.
+-- There is a run from the first state, of these events with these answers, to a state that the
+-- world stands for.
 abbrev pub Runs : Limits → List AddressValue → List script.Event → List Told → WorldValue → Type 0
 Runs limits phones events told world =
     (m : Machine) × Run (start limits phones) (told_past events told) m × StandsFor world m
 
--- The k-th packet carries the k-th message, if as many were put out, in each state that the world stands for.
+-- The k-th packet carries the k-th message, if as many were put out, in each state that the world
+-- stands for.
 abbrev pub IsOctetsOf : Option Sent → Option (List ℕ) → Type 0
 IsOctetsOf None None = Unit {0}
 IsOctetsOf (Some x) (Some octets) = Carries octets x.message

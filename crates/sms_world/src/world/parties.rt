@@ -176,8 +176,8 @@ impl Parties {
         }
     }
 
-    /// The clock has moved: the centre forgets what has ended, and every phone drops the sets that are old. It takes no
-    /// memory.
+    /// The clock has moved: the centre forgets what has ended, and every phone drops the sets that
+    /// are old. It takes no memory.
     pub(crate) fn advance(&mut self, now: u64)
         ensures moves { MovesTo now self.old self.new }
         ensures phones { length self.new.phones ≡ length self.old.phones }

@@ -13,7 +13,8 @@ use sms_field::{Cursor, Fault};
 use std::alloc::{AllocError, Global};
 use std::marker::Model;
 
-/// A user data header that lies in a unit's octets. Contracts see it as the octets after its length octet.
+/// A user data header that lies in a unit's octets. Contracts see it as the octets after its length
+/// octet.
 #[derive(Drop)]
 pub struct HeaderView<'a> {
     octets: &'a [u8],
@@ -48,7 +49,8 @@ impl<'a> HeaderView<'a> {
         self.octets
     }
 
-    /// Sees a length octet and the header after it at the front of the octets, and says how many octets they take.
+    /// Sees a length octet and the header after it at the front of the octets, and says how many
+    /// octets they take.
     pub fn read(input: &'a [u8]) -> Result<(HeaderView<'a>, usize), Fault<UnitFault>>
         ensures found { IfOk result (λ x. Reads header x.0 input.now x.1) }
         ensures refused { IfErr result (IsFaultOf header Short input.now) }
