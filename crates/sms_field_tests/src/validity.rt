@@ -7,7 +7,7 @@ use rows::{EXAMPLES, RANGES, Steps};
 use sms_field::{Stamp, Validity, ValidityFault};
 use std::process::Abort;
 
-/// The period of an octet ends so many seconds after its start.
+/// The period of an octet ends as many seconds after its start.
 fn ends(rt: &impl Abort, octet: u8, end: u64) {
     is(rt, octet, Validity::Relative(octet).ends(0), Ok(end));
 }
@@ -28,7 +28,7 @@ fn ranges(rt: HostRuntime) {
     }
 }
 
-/// The period of an octet, begun at 1000, ends so many seconds later.
+/// The period of an octet, begun at 1000, ends as many seconds later.
 fn ends_after(rt: &impl Abort, octet: u8, seconds: u64) {
     let end = Validity::Relative(octet).ends(1_000).ok();
     is(rt, octet, end, seconds.checked_add(1_000));

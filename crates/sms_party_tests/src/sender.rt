@@ -47,7 +47,7 @@ fn stands(rt: &impl Abort, sender: &Sender, text: usize, wanted: Option<Status>)
     assert_eq!(rt; sender.status(text), wanted);
 }
 
-/// So many texts were typed.
+/// As many texts were typed as wanted.
 fn were_typed(rt: &impl Abort, sender: &Sender, wanted: usize) {
     assert_eq!(rt; sender.typed(), wanted);
 }

@@ -42,7 +42,7 @@ fn unpacked_bit_by_bit(octets: &[u8], fill: usize, count: usize) -> [u8; 40]
     septets
 }
 
-/// So many septets at most.
+/// There are at most 40 septets.
 fn are_few(rt: &impl Abort, septets: &[u8])
     ensures { length septets.now ≤ 40 }
 {
