@@ -15,5 +15,5 @@ returns c =
     record {
       written = octets;
       spells_body = refl;
-      parts = c.in_ok-put_units.ensures.added ∙ ap (λ (l : List ℕ). l ++ octets) (c.in_ok-put_place.ensures ∙ ap (λ (l : List ℕ). l ++ header) pushed) ∙ ap (λ (n : ℕ). n ∷ (header ++ octets)) is;
+      parts = c.in_ok-put_units.ensures.ok ∙ ap (λ (l : List ℕ). l ++ octets) (c.in_ok-put_place.ensures ∙ ap (λ (l : List ℕ). l ++ header) pushed) ∙ ap (λ (n : ℕ). n ∷ (header ++ octets)) is;
     }
