@@ -24,10 +24,11 @@ use std::marker::Model;
 /// An address with up to 20 digits, or with a name where the type of number is 5.
 #[derive(Debug, PartialEq, Eq, Hash, Drop)]
 pub struct Address {
-    /// 0 to 7; 1 is international, 5 alphanumeric.
+    /// Type-of-number: 0 to 7; 1 is international, 5 alphanumeric.
     pub type_of_number: u8,
-    /// The numbering plan, 0 to 15; 1 is that of telephones.
+    /// Numbering-plan-identification: 0 to 15; 1 is that of telephones.
     pub plan: u8,
+    /// Address-Value: digits, or a name.
     pub symbols: Symbols,
 }
 
