@@ -8,7 +8,7 @@ use mir.Val.{to_z, of_z, SFits}
 use Rattle.sms_field.specs.Bit.{bit}
 use Rattle.sms_field.specs.declared.stamp.StampDate.{StampDate}
 use Rattle.sms_field.specs.Days.{IsDay, days_before}
-use Rattle.sms_field.specs.StampDate.{HasTwoDigits, number_in, quarters_in, date_in, IsDate}
+use Rattle.sms_field.specs.StampDate.{HasTwoDigits, value_in, quarters_in, date_in, IsDate}
 use Rattle.sms_field.specs.Moment.{local_seconds, MomentIs}
 use Rattle.sms_field.specs.Stamping.{zone_octet, IsStampAt}
 use Rattle.sms_field.proofs.DayLemmas.{days_before_bound}
@@ -45,12 +45,12 @@ module _ (moment time year month day : ℕ) (quarters : ℤ) (o₀ o₁ o₂ o�
   abbrev stamp : List ℕ
   stamp = o₀ ∷ o₁ ∷ o₂ ∷ o₃ ∷ o₄ ∷ o₅ ∷ zone_octet quarters ∷ []
 
-  pub stamp_is : IsDay year month day → time < 86_400 → HasTwoDigits o₀ → HasTwoDigits o₁ → HasTwoDigits o₂ → HasTwoDigits o₃ → HasTwoDigits o₄ → HasTwoDigits o₅ → number_in o₀ ≡ year - 2000 → number_in o₁ ≡ month → number_in o₂ ≡ day → number_in o₃ ≡ time / 3_600 → number_in o₄ ≡ time / 60 % 60 → number_in o₅ ≡ time % 60 → negsuc 78 ≤ℤ quarters → quarters ≤ℤ pos 79 → pos (days_before year month day * 86_400 + time) ≡ pos moment +ℤ pos 900 *ℤ quarters → IsStampAt moment quarters stamp
+  pub stamp_is : IsDay year month day → time < 86_400 → HasTwoDigits o₀ → HasTwoDigits o₁ → HasTwoDigits o₂ → HasTwoDigits o₃ → HasTwoDigits o₄ → HasTwoDigits o₅ → value_in o₀ ≡ year - 2000 → value_in o₁ ≡ month → value_in o₂ ≡ day → value_in o₃ ≡ time / 3_600 → value_in o₄ ≡ time / 60 % 60 → value_in o₅ ≡ time % 60 → negsuc 78 ≤ℤ quarters → quarters ≤ℤ pos 79 → pos (days_before year month day * 86_400 + time) ≡ pos moment +ℤ pos 900 *ℤ quarters → IsStampAt moment quarters stamp
   stamp_is is_day short d₀ d₁ d₂ d₃ d₄ d₅ n₀ n₁ n₂ n₃ n₄ n₅ low high sum =
       let zone = zone_reads quarters low high in
-      let y : year ≡ 2000 + number_in o₀ = omega (arith, n₀, is_day.0.0) in
-      let there : IsDay (2000 + number_in o₀) (number_in o₁) (number_in o₂) = subst (λ (k : ℕ). IsDay k (number_in o₁) (number_in o₂)) y (subst (λ (k : ℕ). IsDay year k (number_in o₂)) (sym n₁) (subst (λ (k : ℕ). IsDay year month k) (sym n₂) is_day)) in
-      let days : days_before (2000 + number_in o₀) (number_in o₁) (number_in o₂) ≡ days_before year month day = ap (λ (k : ℕ). days_before k (number_in o₁) (number_in o₂)) (sym y) ∙ ap (λ (k : ℕ). days_before year k (number_in o₂)) n₁ ∙ ap (λ (k : ℕ). days_before year month k) n₂ in
+      let y : year ≡ 2000 + value_in o₀ = omega (arith, n₀, is_day.0.0) in
+      let there : IsDay (2000 + value_in o₀) (value_in o₁) (value_in o₂) = subst (λ (k : ℕ). IsDay k (value_in o₁) (value_in o₂)) y (subst (λ (k : ℕ). IsDay year k (value_in o₂)) (sym n₁) (subst (λ (k : ℕ). IsDay year month k) (sym n₂) is_day)) in
+      let days : days_before (2000 + value_in o₀) (value_in o₁) (value_in o₂) ≡ days_before year month day = ap (λ (k : ℕ). days_before k (value_in o₁) (value_in o₂)) (sym y) ∙ ap (λ (k : ℕ). days_before year k (value_in o₂)) n₁ ∙ ap (λ (k : ℕ). days_before year month k) n₂ in
       let seconds : local_seconds (date_in stamp) ≡ days_before year month day * 86_400 + time = omega (arith, days, n₃, n₄, n₅) in
       let equal : pos moment ≡ pos (local_seconds (date_in stamp)) -ℤ pos 900 *ℤ quarters = rw seconds (omega (arith, ints, sum)) in
       record {

@@ -7,14 +7,14 @@ use Rattle.std.proofs.Common.{lit<}
 use Rattle.jiff_core.proofs.CalendarLemmas.{days_in_month_bounds}
 use Rattle.sms_field.specs.Days.{IsDay, days_before}
 use Rattle.sms_field.specs.Stamp.{IsStamp}
-use Rattle.sms_field.specs.StampDate.{HasTwoDigits, number_in, quarters_in, date_in, IsDate}
+use Rattle.sms_field.specs.StampDate.{HasTwoDigits, value_in, quarters_in, date_in, IsDate}
 use Rattle.sms_field.specs.Moment.{MomentIs, local_seconds}
 use Rattle.sms_field.specs.Stamping.{IsStampAt}
 use Rattle.sms_field.specs.Validity.{AbsoluteEndIs}
 use Rattle.sms_field.specs.declared.stamp.StampDate.{StampDate}
 use Rattle.sms_field.specs.declared.validity.Validity.TheVariants.{Absent, Relative, Enhanced, Absolute}
 use Rattle.sms_field.specs.declared.validity.ValidityFault.{ValidityFault}
-use Rattle.sms_field.specs.Times.{Day, year_after, two_digits, stamp_of_day, stamp_octets, has_two_digits, is_day, is_time, is_date, not_negative, moment_of, end_at, StampIsOne, StampIsThere, MomentIsOne, MomentIsThere, EndIsOne, MomentComesBack, MomentComesBackOfZone0}
+use Rattle.sms_field.specs.Times.{Day, year_after, digits_octet, stamp_of_day, stamp_octets, has_two_digits, is_day, is_time, is_date, not_negative, moment_of, end_at, StampIsOne, StampIsThere, MomentIsOne, MomentIsThere, EndIsOne, MomentComesBack, MomentComesBackOfZone0}
 use Rattle.sms_field.proofs.DayWalk.{day_is, day_there}
 use Rattle.sms_field.proofs.MomentLaws.{stamp_is}
 
@@ -23,16 +23,16 @@ use Rattle.sms_field.proofs.MomentLaws.{stamp_is}
 seven : (a b c d e f g i j k l m n o : ℕ) → a ≡ i → b ≡ j → c ≡ k → d ≡ l → e ≡ m → f ≡ n → g ≡ o → ◌≡◌ {A = List ℕ} (a ∷ b ∷ c ∷ d ∷ e ∷ f ∷ g ∷ []) (i ∷ j ∷ k ∷ l ∷ m ∷ n ∷ o ∷ [])
 seven a b c d e f g i j k l m n o p q r s t u v = cc
 
-digits_by : (a b o : ℕ) → a < 10 → b < 10 → o ≡ b * 16 + a → o ≡ two_digits (a * 10 + b)
+digits_by : (a b o : ℕ) → a < 10 → b < 10 → o ≡ b * 16 + a → o ≡ digits_octet (a * 10 + b)
 digits_by a b o h k e = omega arith
 
 rest : (y m d moment h mi se : ℕ) → moment % 86400 / 3600 ≡ h → moment % 86400 / 60 % 60 ≡ mi → moment % 86400 % 60 ≡ se
-    → stamp_of_day (record { year = 2000 + y; month = m; day = d }) (moment % 86400) ≡ two_digits y ∷ two_digits m ∷ two_digits d ∷ two_digits h ∷ two_digits mi ∷ two_digits se ∷ 0 ∷ []
+    → stamp_of_day (record { year = 2000 + y; month = m; day = d }) (moment % 86400) ≡ digits_octet y ∷ digits_octet m ∷ digits_octet d ∷ digits_octet h ∷ digits_octet mi ∷ digits_octet se ∷ 0 ∷ []
 rest y m d moment h mi se p q r =
     let s : (2000 + y) - 2000 ≡ y = omega arith in
-    seven _ _ _ _ _ _ _ _ _ _ _ _ _ _ (ap two_digits s) refl refl (ap two_digits p) (ap two_digits q) (ap two_digits r) refl
+    seven _ _ _ _ _ _ _ _ _ _ _ _ _ _ (ap digits_octet s) refl refl (ap digits_octet p) (ap digits_octet q) (ap digits_octet r) refl
 
-digits_back : (o : ℕ) → HasTwoDigits o → o ≡ two_digits (number_in o)
+digits_back : (o : ℕ) → HasTwoDigits o → o ≡ digits_octet (value_in o)
 digits_back o h =
     let a : o % 16 < 10 = h.0 in
     let b : o / 16 < 10 = h.1 in
@@ -60,10 +60,10 @@ unfolding stamp_octets
 stamp_by moment a b c d e f g is =
     let date = is.is_moment.is_date in
     let local : moment ≡ local_seconds (date_in (a ∷ b ∷ c ∷ d ∷ e ∷ f ∷ g ∷ [])) = no_zone _ _ _ (ap quarters_in is.zone) is.is_moment.seconds in
-    let t = time_parts moment (days_before (2000 + number_in a) (number_in b) (number_in c)) (number_in d) (number_in e) (number_in f) date.before_24 date.minute_60 date.second_60 local in
-    let day : year_after 100 2000 (moment / 86400) ≡ record { year = 2000 + number_in a; month = number_in b; day = number_in c } = ap (year_after 100 2000) t.day ∙ day_is (2000 + number_in a) (number_in b) (number_in c) date.exists in
+    let t = time_parts moment (days_before (2000 + value_in a) (value_in b) (value_in c)) (value_in d) (value_in e) (value_in f) date.before_24 date.minute_60 date.second_60 local in
+    let day : year_after 100 2000 (moment / 86400) ≡ record { year = 2000 + value_in a; month = value_in b; day = value_in c } = ap (year_after 100 2000) t.day ∙ day_is (2000 + value_in a) (value_in b) (value_in c) date.exists in
     seven a b c d e f g _ _ _ _ _ _ _ (digits_back a date.year) (digits_back b date.month) (digits_back c date.day) (digits_back d date.hour) (digits_back e date.minute) (digits_back f date.second) is.zone
-    ∙ sym (ap (λ (x : Day). stamp_of_day x (moment % 86400)) day ∙ rest (number_in a) (number_in b) (number_in c) moment _ _ _ t.hour t.minute t.second)
+    ∙ sym (ap (λ (x : Day). stamp_of_day x (moment % 86400)) day ∙ rest (value_in a) (value_in b) (value_in c) moment _ _ _ t.hour t.minute t.second)
 
 pub stamp_is_one : StampIsOne
 stamp_is_one moment (a ∷ b ∷ c ∷ d ∷ e ∷ f ∷ g ∷ []) fits is = stamp_by moment a b c d e f g is
@@ -106,10 +106,10 @@ date_true s h =
     both _ _ (two _ h.year) (both _ _ (two _ h.month) (both _ _ (two _ h.day) (both _ _ (two _ h.hour) (both _ _ (two _ h.minute) (both _ _ (two _ h.second)
     (both _ _ (lt-ltb _ _ h.zone) (both _ _ (day_true (date_in s) h.exists) (time_true (date_in s) h.before_24 h.minute_60 h.second_60))))))))
 
-year_fits : (o : ℕ) → HasTwoDigits o → 2000 + number_in o ≤ 2099
+year_fits : (o : ℕ) → HasTwoDigits o → 2000 + value_in o ≤ 2099
 year_fits o h = let a : o % 16 < 10 = h.0 in let b : o / 16 < 10 = h.1 in omega arith
 
-year_from : (o : ℕ) → 2000 ≤ 2000 + number_in o
+year_from : (o : ℕ) → 2000 ≤ 2000 + value_in o
 year_from o = omega arith
 
 true_date : (s : List ℕ) → is_date s ≡ true → IsDate s
@@ -178,13 +178,13 @@ end_is_one (Absolute stamp) accepted end h = absolute_is stamp end h
 
 -- ---- what is computed of a moment is its stamp
 
-digits_there : (n : ℕ) → n < 100 → HasTwoDigits (two_digits n)
+digits_there : (n : ℕ) → n < 100 → HasTwoDigits (digits_octet n)
 digits_there n h = (omega arith, omega arith)
 
-number_there : (n : ℕ) → n < 100 → number_in (two_digits n) ≡ n
+number_there : (n : ℕ) → n < 100 → value_in (digits_octet n) ≡ n
 number_there n h = omega arith
 
-octet_there : (n : ℕ) → n < 100 → two_digits n < 256
+octet_there : (n : ℕ) → n < 100 → digits_octet n < 256
 octet_there n h = omega arith
 
 record AreTwoDigits (year month day time : ℕ) : Type 0 where

@@ -24,16 +24,15 @@ symbols_by false count = do
 abbrev pub symbols_of : ℕ → ℕ → Field Symbols FieldFault
 symbols_of kind count = symbols_by (kind == alphanumeric) count
 
--- Address-Length, the number of semi-octets; Type-of-Address, of which bits 6 to 4 are the type of
--- number and bits 3 to 0 the plan; Address-Value, the symbols
 unfoldable pub address : Field AddressValue FieldFault
 address = do
-  -- too_long: the number is above 20
+  -- Address-Length, the number of semi-octets of Address-Value; above 20: too_long
   count ← octet_by Short (up_to 20 too_long)
-  kind ← octet Short
+  -- Type-of-Address: bits 6 to 4 Type-of-number, bits 3 to 0 Numbering-plan-identification
+  address_type ← octet Short
   -- Address-Value
-  symbols ← symbols_by (kind / 16 % 8 == alphanumeric) count
-  always (record { kind = kind / 16 % 8; plan = kind % 16; symbols = symbols })
+  symbols ← symbols_by (address_type / 16 % 8 == alphanumeric) count
+  always (record { kind = address_type / 16 % 8; plan = address_type % 16; symbols = symbols })
 
 abbrev pub symbols_length : Symbols → ℕ
 symbols_length (Digits values) = length values

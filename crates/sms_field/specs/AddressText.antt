@@ -1,5 +1,5 @@
 -- The text of an address. Its digits are shown as 3GPP TS 23.040, 9.1.2.3 has them, an
--- international number (9.1.2.5) after +; a name is its own text.
+-- international telephone number (9.1.2.5) after +; a name is its own text.
 use Rattle.std.specs.Prelude.{ℕ, List, [], ◌∷◌, ◌++◌, length, Option, Some, None, Result, Ok, Err, ◌==◌, nat_le, if◌then◌else◌}
 use Rattle.sms_text.specs.SeptetsOfText.{septets_of_text}
 use Rattle.sms_text.specs.TextOfSeptets.{text_of_septets}

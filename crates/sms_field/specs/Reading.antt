@@ -21,8 +21,8 @@ pub record IsReadable {V : Type 0} (reads : V → List ℕ → ℕ → Type 0) (
   pub used : ℕ
   pub read : reads value input used
 
--- Some continuation has a reading: octets that can follow, since numbers above 255 can not. Of the
--- front it need not be said that it consists of octets, since it comes from an input of a reader.
+-- Some octets after the front make it readable: octets, so below 256. The front is of a reader's
+-- input, whose elements are octets already.
 pub record IsViable {V : Type 0} (reads : V → List ℕ → ℕ → Type 0) (front : List ℕ) : Type 0 where
   pub more : List ℕ
   pub are_octets : IsOctets more

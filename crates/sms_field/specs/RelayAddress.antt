@@ -25,19 +25,23 @@ relay_digits (suc (suc n)) = do
   others ← relay_digits (suc n)
   always (two.0 ∷ two.1 ∷ others)
 
--- no address; or an octet whose bits 6 to 4 are the Type of number and bits 3 to 0 the Numbering
--- plan identification, and the Number digits
+-- no address; or its type, its plan and its digits
 unfoldable pub relay_part : Bool → ℕ → Field (Option RelayAddressValue) FieldFault
 relay_part true count = always None
 relay_part false count = do
-  kind ← octet Short
+  -- bits 6 to 4 Type of number, bits 3 to 0 Numbering plan identification
+  address_type ← octet Short
+  -- Number digits
   values ← relay_digits count
-  always (Some (record { kind = kind / 16 % 8; plan = kind % 16; digits = values }))
+  always (Some (record {
+    kind = address_type / 16 % 8;
+    plan = address_type % 16;
+    digits = values;
+  }))
 
--- the Length, which is the number of octets that follow: 0 is no address
 unfoldable pub relay_address : Field (Option RelayAddressValue) FieldFault
 relay_address = do
-  -- too_long: the number is above 11
+  -- Length, the number of octets that follow; 0 is no address; above 11: too_long
   count ← octet_by Short (up_to 11 too_long)
   relay_part (count == 0) (count - 1)
 

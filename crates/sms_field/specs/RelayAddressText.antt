@@ -1,5 +1,5 @@
 -- The text of a relay address: its digits as 3GPP TS 23.040, 9.1.2.3 has them, an international
--- number after +.
+-- telephone number after +.
 use Rattle.std.specs.Prelude.{ℕ, List, [], ◌∷◌, ◌++◌, Result, Ok, Err, ◌==◌, if◌then◌else◌}
 use Rattle.sms_field.specs.DigitText.{text_of_digits, digits_of_text}
 use Rattle.sms_field.specs.AddressText.{plus, prefix, few_digits}

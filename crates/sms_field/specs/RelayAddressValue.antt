@@ -4,8 +4,11 @@ use Rattle.sms_field.specs.Digits.{AreDigits}
 
 -- the type of number, the plan, and digits whatever the type is
 pub record RelayAddressValue : Type 0 where
+  -- Type of number
   pub kind : ℕ
+  -- Numbering plan identification
   pub plan : ℕ
+  -- Number digits
   pub digits : List ℕ
 
 pub record HasRelaySpelling (a : RelayAddressValue) : Type 0 where

@@ -8,9 +8,9 @@ use Rattle.sms_field.specs.declared.stamp.StampDate.{StampDate}
 abbrev pub HasTwoDigits : ℕ → Type 0
 HasTwoDigits octet = (octet % 16 < 10) × (octet / 16 < 10)
 
--- the number of its two digits, the tens in the low half
-abbrev pub number_in : ℕ → ℕ
-number_in octet = octet % 16 * 10 + octet / 16
+-- the value of its two digits, the tens in the low half
+abbrev pub value_in : ℕ → ℕ
+value_in octet = octet % 16 * 10 + octet / 16
 
 -- the local time's distance from UTC in quarters of an hour: bit 3 is the sign, set to the west,
 -- and bits 0 to 2 are the tens
@@ -21,12 +21,12 @@ quarters_in zone =
 -- what the seven octets say; the year is one of 2000 to 2099
 abbrev pub date_in : List ℕ → StampDate
 date_in stamp = record {
-  year = 2000 + number_in (slice_index stamp 0);
-  month = number_in (slice_index stamp 1);
-  day = number_in (slice_index stamp 2);
-  hour = number_in (slice_index stamp 3);
-  minute = number_in (slice_index stamp 4);
-  second = number_in (slice_index stamp 5);
+  year = 2000 + value_in (slice_index stamp 0);
+  month = value_in (slice_index stamp 1);
+  day = value_in (slice_index stamp 2);
+  hour = value_in (slice_index stamp 3);
+  minute = value_in (slice_index stamp 4);
+  second = value_in (slice_index stamp 5);
   quarters = quarters_in (slice_index stamp 6);
 }
 

@@ -44,15 +44,15 @@ year_after (suc n) year days =
     then month_after 12 year 1 days
     else year_after n (year + 1) (days - days_in_year (pos year))
 
--- two decimal digits, the tens in the low half
-abbrev pub two_digits : ℕ → ℕ
-two_digits value = value % 10 * 16 + value / 10
+-- the octet of a value below 100: two decimal digits, the tens in the low half
+abbrev pub digits_octet : ℕ → ℕ
+digits_octet value = value % 10 * 16 + value / 10
 
 -- year, month, day, hour, minute, second, and the zone, which is 0
 abbrev pub stamp_of_day : Day → ℕ → List ℕ
 stamp_of_day d time =
-    two_digits (d.year - 2000) ∷ two_digits d.month ∷ two_digits d.day
-    ∷ two_digits (time / 3_600) ∷ two_digits (time / 60 % 60) ∷ two_digits (time % 60) ∷ 0 ∷ []
+    digits_octet (d.year - 2000) ∷ digits_octet d.month ∷ digits_octet d.day
+    ∷ digits_octet (time / 3_600) ∷ digits_octet (time / 60 % 60) ∷ digits_octet (time % 60) ∷ 0 ∷ []
 
 -- the stamp of a moment in zone 0
 unfoldable pub stamp_octets : ℕ → List ℕ

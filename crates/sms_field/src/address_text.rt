@@ -8,10 +8,10 @@ ghost use Rattle.sms_field.specs.DigitText.{digits_of_text, text_of_digits};
 ghost use Rattle.sms_field.specs.AddressText.{plus, prefix, address_text, few_digits, telephone as telephone_with, telephone_of, name_of, without_plus, address_of_text};
 ghost use Rattle.sms_field.specs.AddressFaults.{Gives};
 
-use crate::address::Address;
-use crate::digits::{Digits, digits_of, push_digits};
+use crate::address::{ALPHANUMERIC, Address};
+use crate::digits::{DIGITS_MAX, Digits, digits_of, push_digits};
 use crate::fault::{AddressFault, TextFault};
-use crate::name::Name;
+use crate::name::{Name, SEPTETS_MAX};
 use crate::symbols::Symbols;
 use sms_text::{gsm_of, text_of_gsm};
 use std::alloc::{AllocError, Global};
@@ -31,7 +31,7 @@ pub fn digits_of_telephone(alloc: Global, text: &str) -> Result<Digits, TextFaul
     let Some(values) = digits_of(alloc, text)? else {
         return Err(TextFault::Address(AddressFault::BadDigit));
     };
-    if values.len() > 20 {
+    if values.len() > DIGITS_MAX {
         return Err(TextFault::Address(AddressFault::AddressTooLong));
     }
     Ok(Digits::new(values))
@@ -82,11 +82,11 @@ fn name(alloc: Global, text: &str) -> Result<Address, TextFault>
     let Some(septets) = gsm_of(alloc, text)? else {
         return Err(TextFault::Address(AddressFault::BadDigit));
     };
-    if septets.len() > 11 {
+    if septets.len() > SEPTETS_MAX {
         return Err(TextFault::Address(AddressFault::AddressTooLong));
     }
     Ok(Address {
-        type_of_number: 5,
+        type_of_number: ALPHANUMERIC,
         plan: 0,
         symbols: Symbols::Name(Name::new(septets)),
     })

@@ -12,7 +12,7 @@ ghost use Rattle.sms_field.specs.DigitOctets.{digits};
 
 use crate::address::{ALPHANUMERIC, Address};
 use crate::cursor::Cursor;
-use crate::digits::{Digits, both_digits_of, low_digit_of};
+use crate::digits::{DIGITS_MAX, Digits, both_digits_of, low_digit_of};
 use crate::fault::{AddressFault, FieldFault};
 use crate::name::Name;
 use crate::refusal::Fault;
@@ -117,26 +117,29 @@ impl<'a> AddressView<'a> {
         ensures read { Sees address input.old result input.new }
         ensures fits { IfOk result HasSpelling }
     {
-        let count = input.take_octet_up_to(20, FieldFault::Address(AddressFault::AddressTooLong))?;
-        let kind = input.take_octet()?;
-        let type_of_number = kind / 16 % 8;
+        let count = input.take_octet_up_to(
+            DIGITS_MAX as u8,
+            FieldFault::Address(AddressFault::AddressTooLong),
+        )?;
+        let address_type = input.take_octet()?;
+        let type_of_number = address_type / 16 % 8;
         let octets = symbols_seen_at(input, type_of_number, count)?;
         Ok(AddressView {
             type_of_number,
-            plan: kind % 16,
+            plan: address_type % 16,
             count,
             octets,
         })
     }
 
-    /// 0 to 7; 1 is international, 5 alphanumeric.
+    /// Type-of-number: 0 to 7; 1 is international, 5 alphanumeric.
     pub fn type_of_number(&self) -> u8
         ensures { result ≡ self.now.kind }
     {
         self.type_of_number
     }
 
-    /// The numbering plan, 0 to 15; 1 is that of telephones.
+    /// Numbering-plan-identification: 0 to 15; 1 is that of telephones.
     pub fn plan(&self) -> u8
         ensures { result ≡ self.now.plan }
     {

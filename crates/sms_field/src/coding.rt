@@ -18,7 +18,7 @@ pub enum Alphabet {
     Compressed,
 }
 
-/// The alphabet that a data coding scheme names (3GPP TS 23.038, 4).
+/// The alphabet that a TP-DCS names (3GPP TS 23.038, 4).
 #[tactic(auto, unfolding(crate::specs::Coding::alphabet_at))]
 pub fn alphabet_of(dcs: u8) -> Alphabet
     ensures { result ≡ alphabet_at dcs }

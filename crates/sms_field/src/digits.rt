@@ -18,6 +18,9 @@ use std::alloc::{AllocError, Global};
 use std::hash::{Hash, Hasher};
 use std::marker::Model;
 
+/// The most digits of an address.
+pub(crate) const DIGITS_MAX: usize = 20;
+
 /// Up to 20 digits, each 0 to 14.
 #[derive(Debug, Drop)]
 pub struct Digits {
@@ -185,7 +188,7 @@ pub fn digits_of(alloc: Global, text: &str) -> Result<Option<Vec<u8>>, AllocErro
     ensures digits { IfOk result (λ found. IfSome found
         (λ digits. AllByRecursion (λ digit. digit < 15) digits.items)) }
 {
-    let mut digits = Vec::with_capacity(alloc, text.len().min(20))?;
+    let mut digits = Vec::with_capacity(alloc, text.len().min(DIGITS_MAX))?;
     for c in text.chars() {
         let Some(digit) = digit_of(c) else {
             return Ok(None);

@@ -1,22 +1,26 @@
 //! Time stamps as moments (3GPP TS 23.040, 9.2.3.11): seconds from 2000-01-01 00:00:00 UTC.
 
 ghost use Rattle.std.specs.Prelude.{◌≡◌, ◌↔◌, ◌+◌, ◌*◌, ◌<◌, ◌*ℤ◌, ◌≤ℤ◌, pos, negsuc, IsSome, IfSome};
-ghost use Rattle.sms_field.specs.StampDate.{HasTwoDigits, number_in};
+ghost use Rattle.sms_field.specs.StampDate.{HasTwoDigits, value_in};
 ghost use Rattle.sms_field.specs.Moment.{MomentIs};
 ghost use Rattle.sms_field.specs.Stamp.{IsStamp};
 ghost use Rattle.sms_field.specs.Times.{stamp_octets, moment_of};
 ghost use Rattle.sms_field.specs.Stamping.{HasStamp, IsStampAt, zone_octet};
 
+use crate::bit::bit_weight;
 use crate::calendar::{date_of, days_since_2000};
 use crate::stamp::Stamp;
 
+/// The first moment after 2099, in seconds since the beginning of 2000, UTC.
+pub const END_OF_2099: u64 = 3_155_760_000;
+
 /// Two decimal digits in an octet, the tens in the low half.
-fn octet_of(number: u8) -> u8
-    requires { number < 100 }
+fn octet_of(value: u8) -> u8
+    requires { value < 100 }
     ensures digits { HasTwoDigits result }
-    ensures value { number_in result ≡ number }
+    ensures value { value_in result ≡ value }
 {
-    number % 10 * 16 + number / 10
+    value % 10 * 16 + value / 10
 }
 
 /// The octet of a zone, which has the sign in bit 3.
@@ -25,9 +29,8 @@ fn octet_of_zone(quarters: i8) -> u8
     requires east { quarters ≤ℤ pos 79 }
     ensures { result ≡ zone_octet quarters }
 {
-    let number = quarters.unsigned_abs();
-    let sign = if quarters < 0 { 8 } else { 0 };
-    number % 10 * 16 + sign + number / 10
+    let value = quarters.unsigned_abs();
+    value % 10 * 16 + bit_weight(3, quarters < 0) + value / 10
 }
 
 /// The seconds of a zone, given in quarters of an hour.
@@ -60,10 +63,10 @@ impl Stamp {
             return None;
         }
         let local = seconds.checked_add_signed(seconds_of_zone(quarters))?;
-        let (days, time) = (local / 86_400, local % 86_400);
-        if days >= 36_525 {
+        if local >= END_OF_2099 {
             return None;
         }
+        let (days, time) = (local / 86_400, local % 86_400);
         let (year, month, day) = date_of(days);
         Some(Stamp::new([
             octet_of((year - 2000) as u8),

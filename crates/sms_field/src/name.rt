@@ -14,6 +14,9 @@ use std::alloc::{AllocError, Global};
 use std::hash::{Hash, Hasher};
 use std::marker::Model;
 
+/// The most septets of a name.
+pub(crate) const SEPTETS_MAX: usize = 11;
+
 /// A name: up to 11 septets of the 7-bit default alphabet.
 #[derive(Debug, Drop)]
 pub struct Name {

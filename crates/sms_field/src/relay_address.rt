@@ -35,10 +35,11 @@ use std::marker::Model;
 /// An address of the relay layer: up to 20 digits, whatever the type of number is.
 #[derive(Debug, Drop)]
 pub struct RpAddress {
-    /// 0 to 7; 1 is international.
+    /// Type of number: 0 to 7; 1 is international.
     pub type_of_number: u8,
-    /// The numbering plan, 0 to 15; 1 is that of telephones.
+    /// Numbering plan identification: 0 to 15; 1 is that of telephones.
     pub plan: u8,
+    /// Number digits.
     pub digits: Digits,
 }
 

@@ -1,6 +1,6 @@
 //! Addresses of the relay layer, seen in a message's octets (3GPP TS 24.011, 8.2.5.1 and 8.2.5.2).
 
-ghost use Rattle.std.specs.Prelude.{◌≡◌, ◌≤◌, ◌/◌, ◌%◌, length, IfOk, IfErr};
+ghost use Rattle.std.specs.Prelude.{◌≡◌, ◌≤◌, ◌/◌, ◌%◌, length, MatchResult, IsOk, IfOk, IfErr, None};
 ghost use Rattle.sms_field.specs.Field.{octet_by};
 ghost use Rattle.sms_field.specs.Answer.{Sees, SeesAs};
 ghost use Rattle.sms_field.specs.Reading.{Reads};
@@ -41,19 +41,23 @@ impl<'a> Model for RpAddressView<'a> {
     ghost invariant = { λ a. IsRelayAddressIn a.type_of_number a.plan a.count a.octets.now };
 }
 
+/// The octet, where it can be the last one of digits.
+fn last_octet(octet: u8) -> Result<u8, FieldFault>
+    ensures { MatchResult result (λ last. last_digits octet ≡ Ok (last_digits_in last))
+        (λ why. last_digits octet ≡ Err why) }
+{
+    if octet % 16 < 15 {
+        Ok(octet)
+    } else {
+        Err(FieldFault::Address(AddressFault::BadDigit))
+    }
+}
+
 /// The last octet of the digits.
 fn last_octet_at(input: &mut Cursor) -> Result<u8, Fault<FieldFault>>
     ensures { SeesAs last_digits_in (octet_by Short last_digits) input.old result input.new }
 {
-    let place = input.place();
-    let octet = input.take_octet()?;
-    if octet % 16 == 15 {
-        return Err(Fault {
-            place,
-            why: FieldFault::Address(AddressFault::BadDigit),
-        });
-    }
-    Ok(octet)
+    input.take_octet_by(last_octet)
 }
 
 /// The octets of digits, as many as are counted.
@@ -89,15 +93,15 @@ fn digit_count(octets: &[u8]) -> u8
 }
 
 /// The address of a type octet and of digits.
-fn address_seen<'a>(kind: u8, octets: &'a [u8]) -> RpAddressView<'a>
+fn address_seen<'a>(address_type: u8, octets: &'a [u8]) -> RpAddressView<'a>
     requires few { length octets.now ≤ 10 }
     requires digits { AreDigits (relay_digits_in octets.now) }
-    ensures { result ≡ relay_address_in (kind / 16 % 8) (kind % 16)
+    ensures { result ≡ relay_address_in (address_type / 16 % 8) (address_type % 16)
         (relay_count octets.now) octets.now }
 {
     RpAddressView {
-        type_of_number: kind / 16 % 8,
-        plan: kind % 16,
+        type_of_number: address_type / 16 % 8,
+        plan: address_type % 16,
         count: digit_count(octets),
         octets,
     }
@@ -125,19 +129,19 @@ impl<'a> RpAddressView<'a> {
         if count == 0 {
             return Ok(None);
         }
-        let kind = input.take_octet()?;
+        let address_type = input.take_octet()?;
         let octets = relay_digits_seen_at(input, count - 1)?;
-        Ok(Some(address_seen(kind, octets)))
+        Ok(Some(address_seen(address_type, octets)))
     }
 
-    /// 0 to 7; 1 is international.
+    /// Type of number: 0 to 7; 1 is international.
     pub fn type_of_number(&self) -> u8
         ensures { result ≡ self.now.kind }
     {
         self.type_of_number
     }
 
-    /// The numbering plan, 0 to 15; 1 is that of telephones.
+    /// Numbering plan identification: 0 to 15; 1 is that of telephones.
     pub fn plan(&self) -> u8
         ensures { result ≡ self.now.plan }
     {
@@ -160,7 +164,8 @@ impl<'a> RpAddressView<'a> {
         alloc: Global,
         view: &Option<RpAddressView<'_>>,
     ) -> Result<Option<RpAddress>, AllocError>
-        ensures { IfOk result (λ address. address ≡ view.now) }
+        ensures value { IfOk result (λ address. address ≡ view.now) }
+        ensures none { view.now ≡ None → IsOk result }
     {
         match view {
             Some(view) => Ok(Some(view.to_value(alloc)?)),

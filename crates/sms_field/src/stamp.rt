@@ -7,7 +7,7 @@ ghost use Rattle.sms_field.specs.Reading.{Reads};
 ghost use Rattle.sms_field.specs.Answer.{Sees};
 ghost use Rattle.sms_field.specs.WholeAnswer.{IsFaultOf, SeesExactly};
 ghost use Rattle.sms_field.specs.Stamp.{stamp, IsStamp};
-ghost use Rattle.sms_field.specs.StampDate.{HasTwoDigits, number_in, quarters_in, date_in, IsDate};
+ghost use Rattle.sms_field.specs.StampDate.{HasTwoDigits, value_in, quarters_in, date_in, IsDate};
 
 use crate::bit::has_bit;
 use crate::calendar::is_day;
@@ -16,7 +16,7 @@ use crate::fault::FieldFault;
 use crate::refusal::{Fault, Reason};
 use std::marker::Model;
 
-/// A time stamp: seven octets, kept as they came.
+/// A time stamp, as TP-SCTS: seven octets, kept as they came.
 #[derive(Clone, Copy, Debug, PartialEq, Eq, Hash)]
 pub struct Stamp {
     octets: [u8; 7],
@@ -35,7 +35,7 @@ impl Model for Stamp {
     ghost invariant = { λ s. IsStamp s.octets };
 }
 
-/// A date and time of day where it was local, and the distance of its zone.
+/// A local date and time of day, and how far its zone lies from UTC.
 #[derive(Clone, Copy, Debug, PartialEq, Eq)]
 pub struct StampDate {
     /// 2000 to 2099.
@@ -54,10 +54,10 @@ pub struct StampDate {
     pub quarters: i8,
 }
 
-/// The number of two decimal digits, the tens in the low half.
+/// The value of two decimal digits, the tens in the low half.
 fn two_digits(octet: u8) -> Option<u8>
     ensures found { IsSome result ↔ HasTwoDigits octet }
-    ensures value { IfSome result (λ n. n ≡ number_in octet) }
+    ensures value { IfSome result (λ n. n ≡ value_in octet) }
 {
     let (tens, units) = (octet % 16, octet / 16);
     if tens < 10 && units < 10 {

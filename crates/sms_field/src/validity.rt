@@ -7,7 +7,7 @@ ghost use Rattle.sms_field.specs.Validity.{relative_seconds, EndIs};
 use crate::stamp::Stamp;
 use thiserror::Error;
 
-/// How long a service centre keeps a message that it cannot deliver.
+/// TP-VP: how long a service centre keeps a message that it cannot deliver.
 #[derive(Clone, Copy, Debug, PartialEq, Eq)]
 pub enum Validity {
     /// None is given; the service centre's own period holds.
@@ -48,9 +48,10 @@ fn seconds_of(relative: u8) -> u64
 }
 
 impl Validity {
-    /// The moment at which the period of a message ends that was accepted at a moment.
+    /// The moment at which the validity period ends of a message that was accepted at `accepted`,
+    /// which is below 2^63. Both are seconds from 2000-01-01 00:00:00 UTC.
     ///
-    /// Moments are seconds from 2000-01-01 00:00:00 UTC.
+    /// An enhanced period has no end, nor has an absolute one whose stamp has no moment.
     pub fn ends(&self, accepted: u64) -> Result<u64, ValidityFault>
         requires { accepted < 2 ^ 63 }
         ensures is { EndIs self.now accepted result }

@@ -3,7 +3,7 @@
 mod rows;
 
 use crate::found::is;
-use rows::{EXAMPLES, RANGES, Steps};
+use rows::{RANGES, Steps};
 use sms_field::{Stamp, Validity, ValidityFault};
 use std::process::Abort;
 
@@ -36,8 +36,9 @@ fn ends_after(rt: &impl Abort, octet: u8, seconds: u64) {
 
 #[test]
 fn ends_of_ranges(rt: HostRuntime) {
-    for row in EXAMPLES {
-        ends_after(&rt, row.octet, row.seconds);
+    for row in RANGES {
+        ends_after(&rt, row.first, row.seconds);
+        ends_after(&rt, row.last, row.last_seconds);
     }
 }
 

@@ -2,9 +2,9 @@ use Rattle.std.proofs.Common.{rules}
 use Rattle.sms_field.specs.Address.{address}
 use Rattle.sms_field.proofs.address_view.AddressView.read_at.Goals as goal
 
-pub returns-in_err-kind-clause-read : goal.returns-in_err-kind-clause-read
+pub returns-in_err-address_type-clause-read : goal.returns-in_err-address_type-clause-read
 unfolding address
-returns-in_err-kind-clause-read c = search rules
+returns-in_err-address_type-clause-read c = search rules
 
 pub symbols_seen_at-requires : goal.symbols_seen_at-requires
 symbols_seen_at-requires c = search rules

@@ -4,4 +4,4 @@ use Rattle.sms_field.proofs.relay_address.RpAddress.read.Goals as goal
 pub returns-clause-exact : goal.returns-clause-exact
 returns-clause-exact c v n r =
     let same = c.in_ok-view.ensures.exact v n r in
-    (c.in_ok-some_to_value.ensures ∙ same.0, same.1)
+    (c.in_ok-some_to_value.ensures.value ∙ same.0, same.1)
