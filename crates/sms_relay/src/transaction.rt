@@ -12,9 +12,9 @@ const SMS: u8 = 9;
 /// The transaction of a CP message (3GPP TS 24.011, 8.1.2).
 #[derive(Clone, Copy)]
 pub struct Transaction {
-    /// The message goes to the side that opened the transaction.
+    /// TI flag: the message goes to the side that opened the transaction.
     pub flag: bool,
-    /// 0 to 6.
+    /// TI value, 0 to 6.
     pub value: u8,
 }
 

@@ -33,11 +33,12 @@ pub enum CpBodyView<'a> {
 /// A message of the connection, in its octets. Contracts see it as the message.
 #[derive(Drop)]
 pub struct CpView<'a> {
-    /// The flag of the transaction identifier: the message goes to the side that opened the
+    /// TI flag, of the transaction identifier: the message goes to the side that opened the
     /// transaction.
     pub flag: bool,
-    /// The value of the transaction identifier, 0 to 6.
+    /// TI value, of the transaction identifier, 0 to 6.
     pub value: u8,
+    /// What the message holds, whose kind the message type tells.
     pub body: CpBodyView<'a>,
 }
 

@@ -27,14 +27,17 @@ const NO_ADDRESS: u8 = 0;
 /// What an RP message holds, where it lies. User data are at most 233 octets.
 #[derive(Drop)]
 pub enum RpBodyView<'a> {
-    /// RP-DATA (3GPP TS 24.011, 7.3.1): the address of the service centre, which is RP-Destination
-    /// Address from a phone and RP-Originator Address to one, and RP-User Data, a transfer unit.
+    /// RP-DATA (3GPP TS 24.011, 7.3.1).
     Transfer {
+        /// The address of the service centre: RP-Destination Address from a phone, and
+        /// RP-Originator Address to one.
         address: Option<RpAddressView<'a>>,
+        /// RP-User Data, a transfer unit.
         user: OctetsView<'a>,
     },
     /// RP-ACK (7.3.3).
     Ack {
+        /// RP-User Data, if there are any.
         user: Option<OctetsView<'a>>,
     },
     /// RP-ERROR (7.3.4).
@@ -43,6 +46,7 @@ pub enum RpBodyView<'a> {
         cause: u8,
         /// The diagnostic field of RP-Cause.
         diagnostic: Option<u8>,
+        /// RP-User Data, if there are any.
         user: Option<OctetsView<'a>>,
     },
 }
@@ -54,6 +58,7 @@ pub struct RpView<'a> {
     pub side: Side,
     /// RP-Message Reference, which an answer repeats to tell what it answers.
     pub reference: u8,
+    /// What the message holds, whose kind RP-MTI tells too.
     pub body: RpBodyView<'a>,
 }
 

@@ -25,7 +25,8 @@ pub fn octets_of_length(alphabet: Alphabet, count: u8) -> usize
     }
 }
 
-/// How much of TP-UDL a header takes, from its octets with their length octet.
+/// How much of TP-UDL a header takes, from its octets with their length octet. `octets` is at most
+/// 256.
 pub fn length_of_header(alphabet: Alphabet, octets: usize) -> usize
     requires { octets ≤ 256 }
     ensures { result ≡ lengths.length_of_header alphabet octets }
