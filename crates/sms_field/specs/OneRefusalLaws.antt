@@ -8,7 +8,7 @@ use Rattle.sms_field.specs.OctetLists.{octets_back, octets_front}
 use Rattle.sms_field.specs.Field.{Field, ◌>>=◌, always, octet, octet_by, octets_of, map_reason, up_to}
 use Rattle.sms_field.specs.ChainLaws.{same_back}
 use Rattle.sms_field.specs.Mapped.{mapped}
-use Rattle.sms_field.specs.Optional.{tagged}
+use Rattle.sms_field.specs.Optional.{part_if, tagged}
 use Rattle.sms_field.specs.Reading.{Reads, IsReadable, IsViable, BreaksAt}
 use Rattle.sms_field.specs.OneRefusal.{HasOneRefusal, HasOneReason, ReadsOneWay, IsKnown}
 use Rattle.sms_field.specs.DigitOctets.{low_digit, both_digits, digits}
@@ -65,6 +65,10 @@ one_way_chain {A} {B} first second one others v w xs ys rest left p q e =
     let k = others p.choice v w p.back q.back rest left p.of_second (subst (λ (a : A). (second a).reads w q.back left) h.0 q.of_second) what_follows in
     (k.0, q.parts ∙ ap (λ (l : List ℕ). l ++ q.back) h.1 ∙ ap (λ (l : List ℕ). p.front ++ l) k.1 ∙ sym p.parts)
 
+pub one_way_part : {V W : Type 0} (there : Bool) (part : Field V W) → ReadsOneWay part → ReadsOneWay (part_if there part)
+one_way_part {V} {W} false part one = one_way_always W _
+one_way_part {V} {W} true part one = one_way_chain _ _ one (λ value. one_way_always W _)
+
 -- ---- one reason
 
 pub one_reason_always : {V : Type 0} (W : Type 0) (value : V) → HasOneReason (always {V = V} {W = W} value)
@@ -110,6 +114,10 @@ one_reason_chain {A} {B} {W} first second way one others front octet why because
     let what_follows : s.rest ≡ r.rest = sym (same_back r.octets r.rest s.rest (whole ∙ ap (λ (l : List ℕ). l ++ s.rest) h.1)) in
     let moved : (second r.value).reason r.rest octet because = subst (λ (l : List ℕ). (second r.value).reason l octet because) what_follows (subst (λ (a : A). (second a).reason s.rest octet because) h.0 q.reason) in
     others r.value r.rest octet why because p.reason moved
+
+pub one_reason_part : {V W : Type 0} (there : Bool) (part : Field V W) → ReadsOneWay part → HasOneReason part → HasOneReason (part_if there part)
+one_reason_part false part way one = λ front octet why because p q. absurd p
+one_reason_part true part way one = one_reason_chain _ _ way one (λ value. λ front octet why because p q. absurd p)
 
 -- ---- one refusal
 

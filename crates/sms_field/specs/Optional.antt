@@ -1,6 +1,16 @@
--- A part that is there exactly where the next octet is its tag.
-use Rattle.std.specs.Prelude.{◌≡◌, ◌≢◌, ℕ, ◌+◌, List, [], ◌∷◌, Option, Some, None, ◌==◌, if◌then◌else◌}
-use Rattle.sms_field.specs.Field.{Field, Outcome, found, refused}
+-- Parts that may be there: where an earlier octet says so, or exactly where the next octet is their
+-- tag.
+use Rattle.std.specs.Prelude.{◌≡◌, ◌≢◌, ℕ, ◌+◌, Bool, true, false, List, [], ◌∷◌, Option, Some, None, ◌==◌, if◌then◌else◌}
+use Rattle.sms_field.specs.Field.{Field, Outcome, found, refused, ◌>>=◌, always}
+
+-- a part that is there or not, as is known before
+abbrev pub part_if : {V W : Type 0} → Bool → Field V W → Field (Option V) W
+part_if false part = always None
+part_if true part = do
+  value ← part
+  always (Some value)
+
+-- ---- after a tag
 
 -- nothing follows, or another octet than the tag
 abbrev pub LacksTag : ℕ → List ℕ → Type 0

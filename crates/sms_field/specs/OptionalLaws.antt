@@ -1,11 +1,25 @@
--- An optional part is lawful where the part is. It is not self-contained, so it stands last in a
--- unit.
+-- An optional part is lawful where the part is. One after a tag is not self-contained, so it stands
+-- last in a unit.
 use Rattle.std.proofs.Common.{◌≡◌, ℕ, ◌+◌, ◌<◌, Bool, true, false, cond, List, [], ◌∷◌, ◌++◌, Option, Some, None, refl, sym, ap, subst, ◌∙◌, arith, inl, inr}
 use Rattle.std.specs.Prelude.{◌==◌}
 use Rattle.std.proofs.lemmas.Bool.{eqb-true, eqb-false}
 use Rattle.sms_text.specs.Octets.{IsOctets}
-use Rattle.sms_field.specs.Field.{Outcome, found, refused, Field, HasReading, CanContinue, IsReading, IsAnswer, IsLawful}
-use Rattle.sms_field.specs.Optional.{LacksTag, ReadsTagged, some_found, tagged_at, after_tag, tagged}
+use Rattle.sms_field.specs.Field.{Outcome, found, refused, Field, HasReading, CanContinue, IsReading, IsAnswer, IsSelfContained, IsLawful}
+use Rattle.sms_field.specs.ChainLaws.{chain_lawful, chain_self_contained}
+use Rattle.sms_field.specs.SingleLaws.{always_self, always_lawful}
+use Rattle.sms_field.specs.Optional.{part_if, LacksTag, ReadsTagged, some_found, tagged_at, after_tag, tagged}
+
+-- ---- parts that are there or not
+
+pub part_if_self : {V W : Type 0} (there : Bool) (part : Field V W) → IsSelfContained part → IsSelfContained (part_if there part)
+part_if_self {V} {W} false part self = always_self W _
+part_if_self {V} {W} true part self = chain_self_contained _ _ self (λ value. always_self W _)
+
+pub part_if_lawful : {V W : Type 0} (short : W) (there : Bool) (part : Field V W) → IsSelfContained part → IsLawful short part → IsLawful short (part_if there part)
+part_if_lawful short false part self law = always_lawful short _
+part_if_lawful short true part self law = chain_lawful _ _ short self law (λ value _ _ _. always_lawful short _)
+
+-- ---- parts after a tag
 
 tag_stands : (tag : ℕ) (xs left : List ℕ) → tag ∷ xs ≡ left → LacksTag tag left → ⊥
 tag_stands tag xs [] e q = absurd cc

@@ -1,10 +1,11 @@
 -- What is known of the values of chains and single fields.
-use Rattle.std.proofs.Common.{ℕ, List, ◌++◌, Option, Some, None, sym, subst}
+use Rattle.std.proofs.Common.{ℕ, Bool, true, false, List, ◌++◌, Option, Some, None, sym, subst}
+use Rattle.std.specs.Prelude.{IfSome}
 use Rattle.sms_text.specs.Octets.{IsOctets}
 use Rattle.sms_field.specs.OctetLists.{octets_back, octets_front}
 use Rattle.sms_field.specs.Field.{Field, ◌>>=◌, always, octets_of, map_reason}
 use Rattle.sms_field.specs.Mapped.{mapped}
-use Rattle.sms_field.specs.Optional.{tagged}
+use Rattle.sms_field.specs.Optional.{part_if, tagged}
 use Rattle.sms_field.specs.Reading.{Reads}
 use Rattle.sms_field.specs.ReadValues.{Has, Any, AreOptionalOctets}
 
@@ -27,6 +28,10 @@ has_map_reason P name f h = h
 
 pub has_mapped : {V X W : Type 0} (Q : V → Type 0) (P : X → Type 0) (make : V → X) (f : Field V W) → Has Q f → ((v : V) → Q v → P (make v)) → Has P (mapped make f)
 has_mapped Q P make f n m = λ v octets rest are r. subst P (sym r.2) (m r.0 (n r.0 octets rest are r.1))
+
+pub has_part : {V W : Type 0} (P : V → Type 0) (there : Bool) (part : Field V W) → Has P part → Has (λ (o : Option V). IfSome o P) (part_if there part)
+has_part {V} {W} P false part h = has_always W (λ (o : Option V). IfSome o P) None tt
+has_part {V} {W} P true part h = has_chain P (λ (o : Option V). IfSome o P) _ _ h (λ value p. has_always W (λ (o : Option V). IfSome o P) (Some value) p)
 
 has_tagged_by : {W : Type 0} (tag : ℕ) (f : Field (List ℕ) W) → Has IsOctets f → (o : Option (List ℕ)) (octets rest : List ℕ) → IsOctets octets → (tagged tag f).reads o octets rest → AreOptionalOctets o
 has_tagged_by tag f n None octets rest are r = tt

@@ -3,7 +3,7 @@ use Rattle.std.proofs.Common.{◌≡◌, ⊎_elim, ℕ, zero, suc, Bool, true, f
 use Rattle.std.specs.Prelude.{nat_le}
 use Rattle.sms_field.specs.Field.{Field, ◌>>=◌, always, octet, octet_by, octets_of, map_reason, up_to}
 use Rattle.sms_field.specs.Mapped.{mapped}
-use Rattle.sms_field.specs.Optional.{tagged}
+use Rattle.sms_field.specs.Optional.{part_if, tagged}
 use Rattle.sms_field.specs.Reading.{Reads, IsReadable, IsViable, BreaksAt, IsRefused}
 use Rattle.sms_field.specs.Reasons.{Never, StartsAs}
 use Rattle.sms_field.specs.declared.refusal.Refusal.TheVariants.{At}
@@ -30,6 +30,10 @@ never_map_reason why name f n = λ front octet h. n h.0 h.2
 
 pub never_mapped : {V X W : Type 0} (why : W) (make : V → X) (f : Field V W) → Never why f → Never why (mapped make f)
 never_mapped why make f n = n
+
+pub never_part : {V W : Type 0} (why : W) (there : Bool) (part : Field V W) → Never why part → Never why (part_if there part)
+never_part why false part n = λ front octet h. h
+never_part why true part n = never_chain why _ _ n (λ value. λ front octet h. h)
 
 never_after_tag : {V W : Type 0} (why : W) (tag : ℕ) (f : Field V W) → Never why f → (front : List ℕ) (octet : ℕ) → (tagged tag f).reason front octet why → ⊥
 never_after_tag why tag f n [] octet h = h

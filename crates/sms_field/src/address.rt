@@ -9,6 +9,7 @@ ghost use Rattle.sms_field.specs.declared.fault.FieldFault.TheVariants.{Short};
 ghost use Rattle.sms_field.specs.Reading.{Reads};
 ghost use Rattle.sms_field.specs.Answer.{Takes};
 ghost use Rattle.sms_field.specs.WholeAnswer.{IsRefusedBy, ReadsExactly};
+ghost use Rattle.sms_field.specs.SameAddress.{same_address};
 
 use crate::address_view::AddressView;
 use crate::cursor::Cursor;
@@ -73,6 +74,15 @@ impl Address {
             plan: self.plan,
             symbols: self.symbols.copy(alloc)?,
         })
+    }
+
+    /// Whether two addresses are the same: of one type of number and numbering plan, and with the
+    /// same digits or name.
+    #[tactic(auto, unfolding(crate::specs::SameAddress::same_address))]
+    pub fn is_same(&self, other: &Address) -> bool
+        ensures { result ≡ same_address self.now other.now }
+    {
+        self == other
     }
 
     /// The octets of the address: how many semi-octets there are, the type octet with bit 7 set,

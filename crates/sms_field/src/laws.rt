@@ -1,5 +1,6 @@
 //! What follows from the definitions alone. Each function is empty: its contract is the law.
 
+ghost use Rattle.std.specs.Prelude.{◌≡◌};
 ghost use Rattle.sms_field.specs.NamePacking.{NamesArePacked, OnlyNamesArePacked};
 ghost use Rattle.sms_field.specs.Address.{address};
 ghost use Rattle.sms_field.specs.AddressValue.{HasSpelling};
@@ -12,9 +13,10 @@ ghost use Rattle.sms_field.specs.Reading.{Reads};
 ghost use Rattle.sms_field.specs.ReadValues.{Has, ChainHas};
 ghost use Rattle.sms_field.specs.Reasons.{ChainNever};
 ghost use Rattle.sms_field.specs.SameAddress.{SameIsEqual, SameIsReflexive, SameIsSymmetric, SameIsTransitive};
-ghost use Rattle.sms_field.specs.Times.{StampIsOne, StampIsThere, MomentIsOne, MomentIsThere, EndIsOne, MomentComesBack, MomentComesBackOfZone0};
+ghost use Rattle.sms_field.specs.Times.{end_of_2099, StampIsOne, StampIsThere, MomentIsOne, MomentIsThere, EndIsOne, MomentComesBack, MomentComesBackOfZone0};
 
 use crate::chain::Chain;
+use crate::moment::END_OF_2099;
 
 /// A lawful field.
 pub trait Lawful<V, W> {
@@ -77,10 +79,12 @@ pub fn names_are_packed()
     ensures only { OnlyNamesArePacked }
 {}
 
-/// The stamp of a moment in zone 0 is the one that is computed.
+/// The stamp of a moment in zone 0 is the one that is computed, and each moment before the end of
+/// 2099 has one.
 pub fn stamps_are_computed()
     ensures one { StampIsOne }
     ensures there { StampIsThere }
+    ensures end { END_OF_2099 ≡ end_of_2099 }
 {}
 
 /// The moment of a stamp is the one that is computed.

@@ -30,6 +30,7 @@ pub use coding::{Alphabet, alphabet_of};
 pub use cursor::Cursor;
 pub use digits::Digits;
 pub use fault::{AddressFault, FieldFault, TextFault};
+pub use moment::END_OF_2099;
 pub use name::Name;
 pub use octets::Octets;
 pub use refusal::{Fault, Reason, Refusal};

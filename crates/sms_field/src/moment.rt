@@ -10,6 +10,9 @@ ghost use Rattle.sms_field.specs.Stamping.{HasStamp, IsStampAt, zone_octet};
 use crate::calendar::{date_of, days_since_2000};
 use crate::stamp::Stamp;
 
+/// The first moment after 2099, in seconds since the beginning of 2000, UTC.
+pub const END_OF_2099: u64 = 3_155_760_000;
+
 /// Two decimal digits in an octet, the tens in the low half.
 fn octet_of(number: u8) -> u8
     requires { number < 100 }
@@ -60,10 +63,10 @@ impl Stamp {
             return None;
         }
         let local = seconds.checked_add_signed(seconds_of_zone(quarters))?;
-        let (days, time) = (local / 86_400, local % 86_400);
-        if days >= 36_525 {
+        if local >= END_OF_2099 {
             return None;
         }
+        let (days, time) = (local / 86_400, local % 86_400);
         let (year, month, day) = date_of(days);
         Some(Stamp::new([
             octet_of((year - 2000) as u8),

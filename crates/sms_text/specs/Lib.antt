@@ -8,6 +8,6 @@ pub mod TextOfSeptets
 pub mod FrontLaws
 pub mod TextLaws
 pub mod Utf16
-pub mod WideLaws
+pub mod Utf16Laws
 pub mod Words
 pub mod Same

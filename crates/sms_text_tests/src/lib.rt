@@ -10,4 +10,4 @@ mod found;
 #[cfg(test)]
 mod packing;
 #[cfg(test)]
-mod wide;
+mod ucs2;

@@ -5,7 +5,7 @@ use Rattle.sms_field.specs.Bit.{bit}
 use Rattle.sms_field.specs.Coding.{alphabet_at}
 use Rattle.sms_field.specs.Field.{Field, octet, map_reason, up_to}
 use Rattle.sms_field.specs.OneRefusal.{HasOneReason, ReadsOneWay, IsKnown}
-use Rattle.sms_field.specs.OneRefusalLaws.{one_way_always, one_way_octet, one_way_by, one_way_octets, one_way_chain, one_way_address, one_reason_by, one_reason_octet, one_reason_octets, one_reason_map_reason, one_reason_chain, one_reason_address, one_refusal}
+use Rattle.sms_field.specs.OneRefusalLaws.{one_way_always, one_way_octet, one_way_by, one_way_octets, one_way_chain, one_way_part, one_way_address, one_reason_by, one_reason_octet, one_reason_octets, one_reason_map_reason, one_reason_chain, one_reason_part, one_reason_address, one_refusal}
 use Rattle.sms_field.specs.declared.coding.Alphabet.{Alphabet}
 use Rattle.sms_tpdu.specs.Refusals.{IsRefusedOnce}
 use Rattle.sms_tpdu.specs.Fault.{unit_fault}
@@ -17,7 +17,7 @@ use Rattle.sms_tpdu.specs.Submit.ValidityPeriod.{validity}
 use Rattle.sms_tpdu.specs.UserData.{user_data, length_with_header, header_length}
 use Rattle.sms_tpdu.specs.UserData.Header.{header}
 use Rattle.sms_tpdu.specs.UserData.Lengths.{greatest_length, octets_of_length}
-use Rattle.sms_tpdu.specs.Report.{report_length, report_data, part_if, report_alphabet, parts}
+use Rattle.sms_tpdu.specs.Report.{report_length, report_data, report_alphabet, parts}
 use Rattle.sms_tpdu.specs.Report.Octet.{submit_report, deliver_report}
 use Rattle.sms_tpdu.specs.Report.ParameterIndicator.{AreFurther, further, indicator}
 use Rattle.sms_tpdu.specs.Report.SubmitAck.{submit_ack}
@@ -134,14 +134,6 @@ unfolding report_data
 one_reason_data alphabet =
     one_reason_chain _ _ (one_way_by Short (report_length alphabet)) (one_reason_by Short (report_length alphabet)) (λ count.
     one_reason_chain _ _ (one_way_octets Short (octets_of_length alphabet count)) (one_reason_octets Short (octets_of_length alphabet count)) (λ octets. λ f o w b p q. absurd p))
-
-one_way_part : {V : Type 0} (there : Bool) (part : Field V UnitFault) → ReadsOneWay part → ReadsOneWay (part_if there part)
-one_way_part false part one = one_way_always UnitFault _
-one_way_part true part one = one_way_chain _ _ one (λ value. one_way_always UnitFault _)
-
-one_reason_part : {V : Type 0} (there : Bool) (part : Field V UnitFault) → ReadsOneWay part → HasOneReason part → HasOneReason (part_if there part)
-one_reason_part false part way one = λ f o w b p q. absurd p
-one_reason_part true part way one = one_reason_chain _ _ way one (λ value. λ f o w b p q. absurd p)
 
 one_way_parts : (there : Indicator) → ReadsOneWay (parts there)
 unfolding parts

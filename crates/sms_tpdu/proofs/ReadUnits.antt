@@ -8,12 +8,12 @@ use Rattle.sms_field.specs.AddressValue.{HasSpelling}
 use Rattle.sms_field.specs.Coding.{alphabet_at}
 use Rattle.sms_field.specs.ReadAddressLaws.{has_octet, has_stamp, has_up_to, has_address}
 use Rattle.sms_field.specs.ReadValues.{Has, Any}
-use Rattle.sms_field.specs.ReadValueLaws.{has_chain}
+use Rattle.sms_field.specs.ReadValueLaws.{has_chain, has_part}
 use Rattle.sms_field.specs.Stamp.{IsStamp}
 use Rattle.sms_field.specs.declared.coding.Alphabet.{Alphabet}
 use Rattle.sms_field.specs.declared.coding.Alphabet.TheVariants.{Gsm7, EightBit, Ucs2, Compressed}
 use Rattle.sms_tpdu.specs.Deliver.{deliver, IsDeliverable}
-use Rattle.sms_tpdu.specs.Report.{report_length, report_data, IsReportData, part_if, report_alphabet, parts, AreParts}
+use Rattle.sms_tpdu.specs.Report.{report_length, report_data, IsReportData, report_alphabet, parts, AreParts}
 use Rattle.sms_tpdu.specs.Report.DeliverAck.{deliver_ack, IsDeliverAck}
 use Rattle.sms_tpdu.specs.Report.DeliverError.{deliver_error, IsDeliverError}
 use Rattle.sms_tpdu.specs.Report.SubmitAck.{submit_ack, IsSubmitAck}
@@ -139,10 +139,6 @@ has_report_data alphabet =
     has_chain (AreFew alphabet) (IsReportData alphabet) _ _ (has_report_length alphabet) (λ count few.
     has_chain (AreCounted (octets_of_length alphabet count)) (IsReportData alphabet) _ _ (has_counted Short (octets_of_length alphabet count)) (λ octets h.
     λ v others rest are r. subst (IsReportData alphabet) (sym r.0) (record { small = few_counted alphabet count few; counted = h.0; few = subst (λ (n : ℕ). n ≤ 159) (sym h.0) few; octets = h.1 })))
-
-has_part : {V W : Type 0} (P : V → Type 0) (there : Bool) (part : Field V W) → Has P part → Has (λ (o : Option V). IfSome o P) (part_if there part)
-has_part P false part h = λ v octets rest are r. subst (λ o. IfSome o P) (sym r.0) tt
-has_part P true part h = has_chain P (λ o. IfSome o P) _ _ h (λ value p. λ v octets rest are r. subst (λ o. IfSome o P) (sym r.0) p)
 
 abbrev IsSmall : Option ℕ → Type 0
 IsSmall o = IfSome o (λ n. n < 256)

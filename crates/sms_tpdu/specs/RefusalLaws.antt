@@ -5,7 +5,7 @@ use Rattle.sms_field.specs.Address.{address}
 use Rattle.sms_field.specs.Coding.{alphabet_at}
 use Rattle.sms_field.specs.ReadableLaws.{unread}
 use Rattle.sms_field.specs.Reasons.{Never}
-use Rattle.sms_field.specs.ReasonLaws.{never_chain, never_by, never_map_reason, up_to_apart, starts_as, no_other, starts_apart}
+use Rattle.sms_field.specs.ReasonLaws.{never_chain, never_part, never_by, never_map_reason, up_to_apart, starts_as, no_other, starts_apart}
 use Rattle.sms_field.specs.declared.coding.Alphabet.{Alphabet}
 use Rattle.sms_field.specs.declared.fault.AddressFault.TheVariants as addresses
 use Rattle.sms_field.specs.declared.fault.FieldFault.{FieldFault}
@@ -18,7 +18,7 @@ use Rattle.sms_tpdu.specs.Submit.{submit}
 use Rattle.sms_tpdu.specs.Submit.Flags.{submit_flags}
 use Rattle.sms_tpdu.specs.Submit.ValidityPeriod.{validity}
 use Rattle.sms_tpdu.specs.UserData.{user_data, length_with_header, header_length}
-use Rattle.sms_tpdu.specs.Report.{report_length, report_data, part_if, report_alphabet, parts}
+use Rattle.sms_tpdu.specs.Report.{report_length, report_data, report_alphabet, parts}
 use Rattle.sms_tpdu.specs.Report.Octet.{submit_report, deliver_report}
 use Rattle.sms_tpdu.specs.Report.ParameterIndicator.{indicator}
 use Rattle.sms_tpdu.specs.Report.SubmitAck.{submit_ack}
@@ -87,16 +87,12 @@ never_report_data alphabet =
     never_chain _ _ _ (never_by _ Short (report_length alphabet) (λ o e. report_apart _ o e)) (λ count.
     never_chain _ _ _ (λ f o h. h) (λ octets. λ f o h. h))
 
-never_part : {V : Type 0} (there : Bool) (part : Field V UnitFault) → Never WrongType part → Never WrongType (part_if there part)
-never_part false part n = λ f o h. h
-never_part true part n = never_chain _ _ _ n (λ value. λ f o h. h)
-
 never_parts : (there : Indicator) → Never WrongType (parts there)
 unfolding parts
 never_parts there =
-    never_chain _ _ _ (never_part there.pid (octet Short) (λ f o h. h)) (λ pid.
-    never_chain _ _ _ (never_part there.dcs (octet Short) (λ f o h. h)) (λ dcs.
-    never_chain _ _ _ (never_part there.user (report_data (report_alphabet dcs)) (never_report_data (report_alphabet dcs))) (λ user.
+    never_chain _ _ _ (never_part WrongType there.pid (octet Short) (λ f o h. h)) (λ pid.
+    never_chain _ _ _ (never_part WrongType there.dcs (octet Short) (λ f o h. h)) (λ dcs.
+    never_chain _ _ _ (never_part WrongType there.user (report_data (report_alphabet dcs)) (never_report_data (report_alphabet dcs))) (λ user.
     λ f o h. h)))
 
 -- ---- the units

@@ -15,6 +15,7 @@ pub mod DeliverError
 pub mod DeliverErrorLaws
 use Rattle.std.specs.Prelude.{ℕ, ◌<◌, Bool, true, false, List, [], ◌∷◌, ◌++◌, Option, Some, None, is_some, IfSome, ◌≡◌, ◌≤◌, length, Result, Ok, Err, nat_le, if◌then◌else◌}
 use Rattle.sms_field.specs.Field.{Field, ◌>>=◌, always, octet, octet_by, octets_of}
+use Rattle.sms_field.specs.Optional.{part_if}
 use Rattle.sms_field.specs.Coding.{alphabet_at}
 use Rattle.sms_field.specs.declared.coding.Alphabet.{Alphabet}
 use Rattle.sms_field.specs.declared.coding.Alphabet.TheVariants.{Gsm7}
@@ -50,12 +51,6 @@ data_in count octets = record { length = count; octets = octets }
 
 abbrev pub report_data_octets : ReportData → List ℕ
 report_data_octets user = user.length ∷ user.octets
-
-abbrev pub part_if : {V W : Type 0} → Bool → Field V W → Field (Option V) W
-part_if false part = always None
-part_if true part = do
-  value ← part
-  always (Some value)
 
 -- without a data coding scheme it is the 7-bit alphabet
 abbrev pub report_alphabet : Option ℕ → Alphabet

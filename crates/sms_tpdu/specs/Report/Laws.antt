@@ -11,7 +11,9 @@ use Rattle.sms_field.specs.OctetLists.{octets-append}
 use Rattle.sms_field.specs.SingleLaws.{always_self, always_lawful, octet_self, octet_lawful, octet_by_self, octet_by_lawful, octets_of_self, octets_of_lawful, apart_else}
 use Rattle.sms_tpdu.specs.UserData.Lengths.{octets_of_length}
 use Rattle.sms_field.specs.ChainReading.{chained, ended}
-use Rattle.sms_tpdu.specs.Report.{Parts, report_length, report_data, IsReportData, report_data_octets, part_if, report_alphabet, parts, indicator_of, AreParts, octet_if_some, data_if_some, parts_octets}
+use Rattle.sms_field.specs.Optional.{part_if}
+use Rattle.sms_field.specs.OptionalLaws.{part_if_self, part_if_lawful}
+use Rattle.sms_tpdu.specs.Report.{Parts, report_length, report_data, IsReportData, report_data_octets, report_alphabet, parts, indicator_of, AreParts, octet_if_some, data_if_some, parts_octets}
 use Rattle.sms_tpdu.specs.declared.report.indicator.Indicator.{Indicator}
 use Rattle.sms_tpdu.specs.declared.report.ReportData.{ReportData}
 use Rattle.sms_tpdu.specs.declared.fault.UnitFault.{UnitFault}
@@ -53,14 +55,6 @@ report_data_again alphabet user rest fits =
     (refl, refl))
 
 -- ---- parts that are there or not
-
-part_if_self : {V W : Type 0} (there : Bool) (part : Field V W) → IsSelfContained part → IsSelfContained (part_if there part)
-part_if_self {V} {W} false part self = always_self W _
-part_if_self {V} {W} true part self = chain_self_contained _ _ self (λ value. always_self W _)
-
-part_if_lawful : {V W : Type 0} (short : W) (there : Bool) (part : Field V W) → IsSelfContained part → IsLawful short part → IsLawful short (part_if there part)
-part_if_lawful short false part self law = always_lawful short _
-part_if_lawful short true part self law = chain_lawful _ _ short self law (λ value _ _ _. always_lawful short _)
 
 octet_again : (value : Option ℕ) (rest : List ℕ) → (part_if (is_some value) (octet Short)).reads value (octet_if_some value) rest
 octet_again None rest = (refl, refl)

@@ -5,7 +5,8 @@ ghost use Rattle.sms_field.specs.Field.{octet, octet_by};
 ghost use Rattle.sms_field.specs.Answer.{Sees};
 ghost use Rattle.sms_tpdu.specs.UserData.Lengths as lengths;
 ghost use Rattle.sms_tpdu.specs.Report as formats;
-ghost use Rattle.sms_tpdu.specs.Report.{report_data, IsReportData, part_if, AreParts};
+ghost use Rattle.sms_field.specs.Optional.{part_if};
+ghost use Rattle.sms_tpdu.specs.Report.{report_data, IsReportData, AreParts};
 ghost use Rattle.sms_tpdu.specs.declared.fault.UnitFault.TheVariants.{Short};
 
 use crate::fault::UnitFault;

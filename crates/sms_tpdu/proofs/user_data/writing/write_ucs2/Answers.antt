@@ -1,6 +1,6 @@
 use Rattle.std.proofs.Common.{◌≡◌, ◌+◌, ◌*◌, ◌++◌, ◌∷◌, [], ℕ, List, length, refl, ap, ◌∙◌, arith}
 use Rattle.sms_text.specs.Utf16.{octets_high_first}
-use Rattle.sms_text.specs.WideLaws.{length-octets_high_first}
+use Rattle.sms_text.specs.Utf16Laws.{length-octets_high_first}
 use Rattle.sms_tpdu.specs.UserData.{header_octets}
 use Rattle.sms_tpdu.specs.UserData.Lent.{place_header}
 use Rattle.sms_tpdu.proofs.user_data.writing.write_ucs2.Goals as goal
@@ -15,5 +15,5 @@ returns c =
     record {
       written = octets;
       spells_body = refl;
-      parts = c.in_ok-put_units.ensures.added ∙ ap (λ (l : List ℕ). l ++ octets) (c.in_ok-put_place.ensures ∙ ap (λ (l : List ℕ). l ++ header) pushed) ∙ ap (λ (n : ℕ). n ∷ (header ++ octets)) is;
+      parts = c.in_ok-put_units.ensures.ok ∙ ap (λ (l : List ℕ). l ++ octets) (c.in_ok-put_place.ensures ∙ ap (λ (l : List ℕ). l ++ header) pushed) ∙ ap (λ (n : ℕ). n ∷ (header ++ octets)) is;
     }

@@ -99,24 +99,24 @@ fn spells(
 }
 
 /// A text, its units, and their octets.
-struct Wide {
+struct Ucs2 {
     text: &'static str,
     units: &'static [u16],
     octets: &'static [u8],
 }
 
-static WIDE: [Wide; 3] = [
-    Wide {
+static UCS2: [Ucs2; 3] = [
+    Ucs2 {
         text: "",
         units: &[],
         octets: &[],
     },
-    Wide {
+    Ucs2 {
         text: "AЖ",
         units: &[0x41, 0x416],
         octets: &[0x00, 0x41, 0x04, 0x16],
     },
-    Wide {
+    Ucs2 {
         text: "😀",
         units: &[0xD83D, 0xDE00],
         octets: &[0xD8, 0x3D, 0xDE, 0x00],
@@ -124,8 +124,8 @@ static WIDE: [Wide; 3] = [
 ];
 
 #[test]
-fn wide_texts(rt: HostRuntime) -> Result<(), Fail> {
-    for row in WIDE.as_slice() {
+fn ucs2_texts(rt: HostRuntime) -> Result<(), Fail> {
+    for row in UCS2.as_slice() {
         spells(&rt, rt.alloc(), row.text, row.units, row.octets)?;
     }
     Ok(())
