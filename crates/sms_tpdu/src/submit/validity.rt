@@ -69,10 +69,8 @@ fn enhanced_at(input: &mut Cursor) -> Result<[u8; 7], Fault<UnitFault>>
     ensures in_range { IfOk result IsStamp }
     ensures read { Sees (octets_of Short 7) input.old result input.new }
 {
-    let octets = input.take_octets(7)?;
-    Ok([
-        octets[0], octets[1], octets[2], octets[3], octets[4], octets[5], octets[6],
-    ])
+    let stamp = Stamp::read_at(input)?;
+    Ok(stamp.octets())
 }
 
 /// TP-VP in a format.

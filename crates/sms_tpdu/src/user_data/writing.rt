@@ -17,7 +17,7 @@ use crate::user_data::header::{Header, put_element};
 use crate::user_data::lengths::{fill_bits, length_of_header};
 use crate::user_data::lent::UnitsView;
 use sms_field::Alphabet;
-use sms_text::{pack_into, put_units};
+use sms_text::{pack_into, put_units, room_for_septets};
 use std::alloc::{AllocError, Global};
 
 /// How many octets a header has, with its length octet; 0 where there is none.
@@ -38,10 +38,7 @@ fn room_for_body(body: &Body) -> usize
     ensures few { result ≤ 2 ^ 63 }
 {
     match body {
-        Body::Septets(septets) => {
-            let count = septets.as_slice().len();
-            count - count / 8 + 1
-        }
+        Body::Septets(septets) => { room_for_septets(septets.as_slice().len()) }
         Body::Octets(octets) => octets.as_slice().len(),
     }
 }
@@ -141,8 +138,7 @@ fn write_septets(
         (user_after place (body.Septets septets.now)) octets.items) }
 {
     let taken = octets_of_place(place);
-    let count = septets.len();
-    let mut out = Vec::with_capacity(alloc, 1 + taken + count - count / 8 + 1)?;
+    let mut out = Vec::with_capacity(alloc, 1 + taken + room_for_septets(septets.len()))?;
     out.push(length_of_septets(taken, septets))?;
     put_place(&mut out, place)?;
     put_septets(&mut out, taken, septets)?;
