@@ -4,7 +4,7 @@ ghost use Rattle.std.specs.Prelude.{◌≡◌, ◌<◌, IfOk};
 ghost use Rattle.sms_relay.specs.Transaction.{transaction, transaction_octet};
 
 use crate::fault::RelayFault;
-use sms_field::has_bit;
+use sms_field::{bit_weight, has_bit};
 
 /// The protocol discriminator of short messages.
 const SMS: u8 = 9;
@@ -42,7 +42,6 @@ impl Transaction {
         requires { self.value < 7 }
         ensures { result ≡ transaction_octet self }
     {
-        let flag = if self.flag { 128 } else { 0 };
-        flag + 16 * self.value + SMS
+        bit_weight(7, self.flag) + 16 * self.value + SMS
     }
 }
