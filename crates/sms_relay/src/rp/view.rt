@@ -1,12 +1,13 @@
 //! RP messages, seen in their octets.
 
-ghost use Rattle.std.specs.Prelude.{◌≡◌, IfOk, IfErr};
+ghost use Rattle.std.specs.Prelude.{◌≡◌, None, IfOk, IfErr, IsOk};
 ghost use Rattle.sms_field.specs.Answer.{SeesAs};
 ghost use Rattle.sms_field.specs.Reading.{Reads};
 ghost use Rattle.sms_field.specs.WholeAnswer.{IsFaultOf, SeesExactly};
 ghost use Rattle.sms_relay.specs.RpValue.{IsRpBody};
 ghost use Rattle.sms_relay.specs.Rp.{rp_data, rp_error, rp_body, rp_message};
 ghost use Rattle.sms_relay.specs.RpSeen.{seen_rp_body};
+ghost use Rattle.sms_relay.specs.declared.rp.view.RpBodyView.TheVariants as seen;
 ghost use Rattle.sms_relay.specs.declared.fault.RelayFault.TheVariants.{Short};
 
 use crate::address::address_seen_at;
@@ -137,7 +138,8 @@ fn body_at<'a>(input: &mut Cursor<'a>, named: RpType) -> Result<RpBodyView<'a>, 
 impl<'a> RpBodyView<'a> {
     /// The body itself.
     pub fn to_value(&self, alloc: Global) -> Result<RpBody, AllocError>
-        ensures { IfOk result (λ body. body ≡ seen_rp_body self.now) }
+        ensures is { IfOk result (λ body. body ≡ seen_rp_body self.now) }
+        ensures ack { self.now ≡ seen.Ack None → IsOk result }
     {
         match self {
             RpBodyView::Transfer { address, user } => {
