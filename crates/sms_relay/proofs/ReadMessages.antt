@@ -1,5 +1,5 @@
 -- What is read of octets has a spelling: messages of the connection and of the relay.
-use Rattle.std.proofs.Common.{◌≡◌, ℕ, ◌/◌, ◌%◌, ◌<◌, ◌≤◌, Bool, true, false, cond, eqb, List, length, Option, Some, None, Ok, Err, refl, sym, subst, arith}
+use Rattle.std.proofs.Common.{◌≡◌, ℕ, ◌/◌, ◌%◌, ◌<◌, ◌≤◌, Bool, true, false, cond, eqb, List, length, Option, Some, None, IfSome, Ok, Err, refl, sym, subst, arith}
 use Rattle.std.proofs.lemmas.Bool.{eqb-false}
 use Rattle.sms_text.specs.Octets.{IsOctets}
 use Rattle.sms_field.specs.Bit.{bit}
@@ -7,14 +7,14 @@ use Rattle.sms_field.specs.Field.{octet, octet_by, octets_of}
 use Rattle.sms_field.specs.Optional.{tagged}
 use Rattle.sms_field.specs.ReadAddressLaws.{has_octet, has_up_to, has_relay_address}
 use Rattle.sms_field.specs.ReadValues.{Has, Any}
-use Rattle.sms_field.specs.ReadValueLaws.{has_chain, has_mapped}
+use Rattle.sms_field.specs.ReadValueLaws.{has_chain, has_mapped, has_part}
 use Rattle.sms_field.specs.RelayAddressValue.{HasOptionalSpelling}
 use Rattle.sms_relay.specs.Transaction.{transaction}
 use Rattle.sms_relay.specs.CpValue.{IsCpBody, IsCpMessage}
 use Rattle.sms_relay.specs.Cp.{cp_body, cp_message}
 use Rattle.sms_relay.specs.RpValue.{IsRpBody, IsRpMessage}
 use Rattle.sms_relay.specs.RpUserData.{user_data, user_data_tag, IsUserData, IsOptionalUserData}
-use Rattle.sms_relay.specs.RpCause.{diagnostic, rp_cause, IsDiagnostic, IsCause}
+use Rattle.sms_relay.specs.RpCause.{rp_cause, IsCause}
 use Rattle.sms_relay.specs.Rp.{rp_message, rp_value, rp_data, rp_error, rp_body}
 use Rattle.sms_relay.specs.declared.side.Side.{Side}
 use Rattle.sms_relay.specs.declared.side.Side.TheVariants.{FromPhone, ToPhone}
@@ -91,11 +91,6 @@ has_data ToPhone =
     has_chain Any IsRpBody _ _ (λ v octets rest are r. tt) (λ destination _.
     has_chain IsUserData IsRpBody _ _ has_user (λ user fits. λ v octets rest are r. subst IsRpBody (sym r.0) (spelled, fits))))
 
-has_added : (more : Bool) → Has IsDiagnostic (diagnostic more)
-unfolding diagnostic
-has_added false = λ v octets rest are r. subst IsDiagnostic (sym r.0) tt
-has_added true = has_chain (λ octet. octet < 256) IsDiagnostic _ _ (has_octet Short) (λ octet small. λ v octets rest are r. subst IsDiagnostic (sym r.0) small)
-
 abbrev IsReason : ℕ × Option ℕ → Type 0
 IsReason reason = IsCause reason.0 reason.1
 
@@ -104,7 +99,7 @@ unfolding rp_cause
 has_cause =
     has_chain Any IsReason _ _ (λ v octets rest are r. tt) (λ more _.
     has_chain Any IsReason _ _ (λ v octets rest are r. tt) (λ cause _.
-    has_chain IsDiagnostic IsReason _ _ (has_added more) (λ added h. λ v octets rest are r. subst IsReason (sym r.0) (omega arith, h))))
+    has_chain (λ (added : Option ℕ). IfSome added (λ octet. octet < 256)) IsReason _ _ (has_part (λ octet. octet < 256) more (octet Short) (has_octet Short)) (λ added h. λ v octets rest are r. subst IsReason (sym r.0) (omega arith, h))))
 
 has_body : (k : RpKind) (side : Side) → Has IsRpBody (rp_body k side)
 unfolding rp_body rp_error

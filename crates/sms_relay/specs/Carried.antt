@@ -45,9 +45,9 @@ Carries flag value message packet = CarriesRelay flag value (relay_of message) p
 -- a packet carries at most one message
 abbrev pub OneMessageIsCarried : Type 0
 OneMessageIsCarried =
-    (flag other : Bool) (value number : ℕ) (m n : Carried) (packet : List ℕ)
-    → Carries flag value m packet → Carries other number n packet
-    → (other ≡ flag) × (number ≡ value) × (n ≡ m)
+    (flag other : Bool) (value another : ℕ) (m n : Carried) (packet : List ℕ)
+    → Carries flag value m packet → Carries other another n packet
+    → (other ≡ flag) × (another ≡ value) × (n ≡ m)
 
 -- how a unit that may be left out is written
 abbrev pub SpellsOptional : {V : Type 0} → (V → List ℕ → Type 0) → Option V → Option (List ℕ)

@@ -31,6 +31,7 @@ cp_message = do
   named ← octet_by Short transaction
   -- message type; another type: UnknownType
   kind ← octet_by Short cp_kind
+  -- CP-User Data, or CP-Cause
   content ← cp_body kind
   always (record { flag = named.flag; value = named.value; body = content })
 

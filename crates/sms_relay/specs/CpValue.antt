@@ -4,13 +4,15 @@ use Rattle.sms_text.specs.Octets.{IsOctets}
 use Rattle.sms_relay.specs.declared.cp.CpBody.{CpBody}
 use Rattle.sms_relay.specs.declared.cp.CpBody.TheVariants.{Transfer, Ack, Fail}
 
--- the transaction's flag and value, and the body
 pub record CpValue : Type 0 where
+  -- TI flag
   pub flag : Bool
+  -- TI value
   pub value : ℕ
+  -- CP-User Data, or CP-Cause
   pub body : CpBody
 
--- user data have a length octet
+-- CP-User Data have a length octet
 abbrev pub IsCpBody : CpBody → Type 0
 IsCpBody (Transfer octets) = (length octets ≤ 255) × IsOctets octets
 IsCpBody Ack = Unit {0}

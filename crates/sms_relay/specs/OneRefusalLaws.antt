@@ -1,17 +1,17 @@
 -- A message has one refusal: one place, and one reason.
-use Rattle.std.proofs.Common.{inl, inr, Bool, true, false, refl}
-use Rattle.sms_field.specs.Field.{map_reason, up_to}
-use Rattle.sms_field.specs.OneRefusal.{HasOneRefusal, HasOneReason, ReadsOneWay, IsKnown}
-use Rattle.sms_field.specs.OneRefusalLaws.{one_way_always, one_way_octet, one_way_by, one_way_octets, one_way_chain, one_way_relay_address, one_reason_by, one_reason_octet, one_reason_octets, one_reason_map_reason, one_reason_mapped, one_reason_tagged, one_reason_chain, one_reason_relay_address, one_refusal}
-use Rattle.sms_field.specs.Reading.{Reads}
+use Rattle.std.proofs.Common.{inl, inr, refl}
+use Rattle.sms_field.specs.Field.{octet, map_reason, up_to}
+use Rattle.sms_field.specs.OneRefusal.{HasOneReason, ReadsOneWay, IsKnown}
+use Rattle.sms_field.specs.OneRefusalLaws.{one_way_always, one_way_octet, one_way_by, one_way_octets, one_way_part, one_way_chain, one_way_relay_address, one_reason_by, one_reason_octet, one_reason_octets, one_reason_map_reason, one_reason_mapped, one_reason_tagged, one_reason_part, one_reason_chain, one_reason_relay_address, one_refusal}
 use Rattle.sms_field.specs.RelayAddress.{relay_address}
+use Rattle.sms_tpdu.specs.Refusals.{IsRefusedOnce}
 use Rattle.sms_relay.specs.Fault.{relay_fault}
 use Rattle.sms_relay.specs.Transaction.{transaction}
 use Rattle.sms_relay.specs.CpKind.{cp_kind}
 use Rattle.sms_relay.specs.Cp.{cp_body, cp_message}
 use Rattle.sms_relay.specs.RpKind.{rp_type}
 use Rattle.sms_relay.specs.RpUserData.{user_data, user_data_tag, optional_user_data}
-use Rattle.sms_relay.specs.RpCause.{has_diagnostic, diagnostic, rp_cause}
+use Rattle.sms_relay.specs.RpCause.{has_diagnostic, rp_cause}
 use Rattle.sms_relay.specs.Rp.{rp_message, rp_value, rp_data, rp_error, rp_body}
 use Rattle.sms_relay.specs.declared.side.Side.{Side}
 use Rattle.sms_relay.specs.declared.side.Side.TheVariants.{FromPhone, ToPhone}
@@ -53,7 +53,7 @@ one_reason_cp =
     one_reason_chain _ _ (one_way_by Short cp_kind) (one_reason_by Short cp_kind) (λ k.
     one_reason_chain _ _ (one_way_cp_body k) (one_reason_cp_body k) (λ content. λ f o w b p q. absurd p)))
 
-pub cp_refused_once : HasOneRefusal (Reads cp_message) cp_message.reason Short
+pub cp_refused_once : IsRefusedOnce Short cp_message
 cp_refused_once = one_refusal Short cp_message is_short one_reason_cp
 
 -- ---- the relay
@@ -83,26 +83,16 @@ one_reason_data ToPhone =
     one_reason_chain _ _ (one_way_by Short (up_to 0 BadAddress)) (one_reason_by Short (up_to 0 BadAddress)) (λ destination.
     one_reason_chain _ _ one_way_user one_reason_user (λ user. λ f o w b p q. absurd p)))
 
-one_way_diagnostic : (more : Bool) → ReadsOneWay (diagnostic more)
-unfolding diagnostic
-one_way_diagnostic false = one_way_always RelayFault _
-one_way_diagnostic true = one_way_chain _ _ (one_way_octet Short) (λ octet. one_way_always RelayFault _)
-
-one_reason_diagnostic : (more : Bool) → HasOneReason (diagnostic more)
-unfolding diagnostic
-one_reason_diagnostic false = λ f o w b p q. absurd p
-one_reason_diagnostic true = one_reason_chain _ _ (one_way_octet Short) (one_reason_octet Short) (λ octet. λ f o w b p q. absurd p)
-
 one_way_cause : ReadsOneWay rp_cause
 unfolding rp_cause
-one_way_cause = one_way_chain _ _ (one_way_by Short has_diagnostic) (λ more. one_way_chain _ _ (one_way_octet Short) (λ cause. one_way_chain _ _ (one_way_diagnostic more) (λ added. one_way_always RelayFault _)))
+one_way_cause = one_way_chain _ _ (one_way_by Short has_diagnostic) (λ more. one_way_chain _ _ (one_way_octet Short) (λ cause. one_way_chain _ _ (one_way_part more (octet Short) (one_way_octet Short)) (λ added. one_way_always RelayFault _)))
 
 one_reason_cause : HasOneReason rp_cause
 unfolding rp_cause
 one_reason_cause =
     one_reason_chain _ _ (one_way_by Short has_diagnostic) (one_reason_by Short has_diagnostic) (λ more.
     one_reason_chain _ _ (one_way_octet Short) (one_reason_octet Short) (λ cause.
-    one_reason_chain _ _ (one_way_diagnostic more) (one_reason_diagnostic more) (λ added. λ f o w b p q. absurd p)))
+    one_reason_chain _ _ (one_way_part more (octet Short) (one_way_octet Short)) (one_reason_part more (octet Short) (one_way_octet Short) (one_reason_octet Short)) (λ added. λ f o w b p q. absurd p)))
 
 one_reason_body : (k : RpKind) (side : Side) → HasOneReason (rp_body k side)
 unfolding rp_body rp_error
@@ -117,5 +107,5 @@ one_reason_rp =
     one_reason_chain _ _ (one_way_octet Short) (one_reason_octet Short) (λ reference.
     one_reason_mapped (rp_value named.side reference) (rp_body named.kind named.side) (one_reason_body named.kind named.side)))
 
-pub rp_refused_once : HasOneRefusal (Reads rp_message) rp_message.reason Short
+pub rp_refused_once : IsRefusedOnce Short rp_message
 rp_refused_once = one_refusal Short rp_message is_short one_reason_rp

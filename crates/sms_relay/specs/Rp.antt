@@ -43,6 +43,7 @@ unfoldable pub rp_error : Field RpBody RelayFault
 rp_error = do
   -- RP-Cause
   reason ← rp_cause
+  -- RP-User Data, if there are any
   mapped (body.Fail reason.0 reason.1) optional_user_data
 
 unfoldable pub rp_body : RpKind → Side → Field RpBody RelayFault
@@ -59,6 +60,7 @@ rp_message = do
   named ← octet_by Short rp_type
   -- RP-Message Reference
   reference ← octet Short
+  -- what the type has after it
   mapped (rp_value named.side reference) (rp_body named.kind named.side)
 
 abbrev pub kind_of : RpBody → RpKind

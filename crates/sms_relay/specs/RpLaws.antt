@@ -3,8 +3,8 @@ use Rattle.std.proofs.Common.{◌≡◌, ℕ, ◌%◌, ◌<◌, ◌≤◌, ◌==
 use Rattle.std.proofs.lemmas.Bool.{le-leb}
 use Rattle.sms_text.specs.Octets.{IsOctets}
 use Rattle.sms_field.specs.Bit.{bit}
-use Rattle.sms_field.specs.Field.{octet_by, map_reason, up_to, IsLawful, IsSelfContained}
-use Rattle.sms_field.specs.OptionalLaws.{tagged_lawful}
+use Rattle.sms_field.specs.Field.{octet, octet_by, map_reason, up_to, IsLawful, IsSelfContained}
+use Rattle.sms_field.specs.OptionalLaws.{part_if_self, part_if_lawful, tagged_lawful}
 use Rattle.sms_field.specs.OctetLists.{octets-append}
 use Rattle.sms_field.specs.ChainReading.{chained, ended}
 use Rattle.sms_field.specs.ChainLaws.{chain_lawful, chain_self_contained}
@@ -19,7 +19,7 @@ use Rattle.sms_relay.specs.FaultLaws.{fault_apart}
 use Rattle.sms_field.specs.MappedLaws.{mapped_lawful}
 use Rattle.sms_relay.specs.RpKind.{type_of_bits, rp_type, type_octet}
 use Rattle.sms_relay.specs.RpUserData.{user_data, optional_user_data, user_data_tag, user_octets, optional_user_octets, IsUserData, IsOptionalUserData, SpellsUserData, SpellsOptionalUserData}
-use Rattle.sms_relay.specs.RpCause.{has_diagnostic, diagnostic, rp_cause, cause_octets, IsCause, SpellsCause}
+use Rattle.sms_relay.specs.RpCause.{has_diagnostic, rp_cause, cause_octets, IsCause, SpellsCause}
 use Rattle.sms_relay.specs.RpValue.{RpValue, IsRpBody, IsRpMessage}
 use Rattle.sms_relay.specs.Rp.{rp_data, rp_error, rp_body, rp_message, kind_of, rp_data_octets, rp_body_octets, rp_octets, SpellsRp, LacksUserData, MayFollowBody, MayFollow}
 use Rattle.sms_relay.specs.declared.side.Side.{Side}
@@ -75,35 +75,25 @@ cause_apart_by false false e = cc
 cause_apart : (o : ℕ) → has_diagnostic o ≡ Err Short → ⊥
 cause_apart o e = cause_apart_by (o == 1) (o == 2) e
 
-diagnostic_self : (more : Bool) → IsSelfContained (diagnostic more)
-unfolding diagnostic
-diagnostic_self false = always_self RelayFault _
-diagnostic_self true = chain_self_contained _ _ (octet_self Short) (λ o. always_self RelayFault _)
-
-diagnostic_lawful : (more : Bool) → IsLawful Short (diagnostic more)
-unfolding diagnostic
-diagnostic_lawful false = always_lawful Short _
-diagnostic_lawful true = chain_lawful _ _ Short (octet_self Short) (octet_lawful Short) (λ o _ _ _. always_lawful Short _)
-
 cause_self : IsSelfContained rp_cause
 unfolding rp_cause
 cause_self =
     chain_self_contained _ _ (octet_by_self Short has_diagnostic) (λ more.
     chain_self_contained _ _ (octet_self Short) (λ cause.
-    chain_self_contained _ _ (diagnostic_self more) (λ added. always_self RelayFault _)))
+    chain_self_contained _ _ (part_if_self more (octet Short) (octet_self Short)) (λ added. always_self RelayFault _)))
 
 cause_lawful : IsLawful Short rp_cause
 unfolding rp_cause
 cause_lawful =
     chain_lawful _ _ Short (octet_by_self Short has_diagnostic) (octet_by_lawful Short has_diagnostic (1, lit< tt, _, refl) cause_apart) (λ more _ _ _.
     chain_lawful _ _ Short (octet_self Short) (octet_lawful Short) (λ cause _ _ _.
-    chain_lawful _ _ Short (diagnostic_self more) (diagnostic_lawful more) (λ added _ _ _. always_lawful Short _)))
+    chain_lawful _ _ Short (part_if_self more (octet Short) (octet_self Short)) (part_if_lawful Short more (octet Short) (octet_self Short) (octet_lawful Short)) (λ added _ _ _. always_lawful Short _)))
 
 cause_is : (cause : ℕ) → cause < 128 → cause ≡ cause % 128
 cause_is cause fits = omega arith
 
 cause_again : (cause : ℕ) (added : Option ℕ) (rest : List ℕ) → IsCause cause added → rp_cause.reads (cause, added) (cause_octets cause added) rest
-unfolding rp_cause diagnostic
+unfolding rp_cause
 cause_again cause None rest fits =
     let value : ℕ × Option ℕ = (cause, None) in
     chained _ _ false value (1 ∷ []) (cause ∷ []) rest (1, refl, refl) (

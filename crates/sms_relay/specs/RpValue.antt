@@ -12,6 +12,7 @@ pub record RpValue : Type 0 where
   pub side : Side
   -- RP-Message Reference
   pub reference : ℕ
+  -- the address of the service centre and RP-User Data, RP-User Data, or RP-Cause and RP-User Data
   pub body : RpBody
 
 abbrev pub IsRpBody : RpBody → Type 0

@@ -7,8 +7,8 @@ use Rattle.sms_relay.specs.declared.transaction.Transaction.{Transaction}
 use Rattle.sms_relay.specs.declared.fault.RelayFault.{RelayFault}
 use Rattle.sms_relay.specs.declared.fault.RelayFault.TheVariants.{NotSms, BadTransaction}
 
--- the low half is 9, the protocol of short messages; bit 7 is the flag, bits 6 to 4 are the value,
--- of which 7 is reserved
+-- the low half is 9, the protocol of short messages; bit 7 is the TI flag, bits 6 to 4 are the TI
+-- value, of which 7 is reserved
 abbrev pub transaction : ℕ → Result Transaction RelayFault
 transaction octet =
     if octet % 16 == 9

@@ -1,9 +1,9 @@
 -- An RP message tells an unknown type by its first octet, and its reference is the second.
 use Rattle.std.proofs.Common.{◌≡◌, ℕ, Bool, true, false, cond, List, ◌∷◌, ◌++◌, Ok, Err, ap, ◌∙◌}
-use Rattle.sms_field.specs.Field.{octet_by, up_to}
+use Rattle.sms_field.specs.Field.{octet, octet_by, up_to}
 use Rattle.sms_field.specs.ReadableLaws.{unread}
 use Rattle.sms_field.specs.Reasons.{Never}
-use Rattle.sms_field.specs.ReasonLaws.{never_chain, never_by, never_map_reason, never_tagged, up_to_apart, starts_as, no_other, starts_apart}
+use Rattle.sms_field.specs.ReasonLaws.{never_chain, never_part, never_by, never_map_reason, never_tagged, up_to_apart, starts_as, no_other, starts_apart}
 use Rattle.sms_field.specs.RelayAddress.{relay_address}
 use Rattle.sms_field.specs.declared.fault.FieldFault.{FieldFault}
 use Rattle.sms_field.specs.declared.fault.FieldFault.TheVariants as fields
@@ -11,7 +11,7 @@ use Rattle.sms_relay.specs.Fault.{relay_fault}
 use Rattle.sms_relay.specs.RpKind.{rp_type}
 use Rattle.sms_relay.specs.RpValue.{RpValue}
 use Rattle.sms_relay.specs.RpUserData.{user_data, user_data_tag}
-use Rattle.sms_relay.specs.RpCause.{has_diagnostic, diagnostic, rp_cause}
+use Rattle.sms_relay.specs.RpCause.{has_diagnostic, rp_cause}
 use Rattle.sms_relay.specs.Rp.{rp_message, rp_data, rp_error, rp_body}
 use Rattle.sms_relay.specs.Types.{TellsUnknownTypes, ReferenceIsSecond}
 use Rattle.sms_relay.specs.declared.side.Side.{Side}
@@ -43,14 +43,9 @@ cause_apart true b e = cc
 cause_apart false true e = cc
 cause_apart false false e = cc
 
-never_diagnostic : (more : Bool) → Never UnknownType (diagnostic more)
-unfolding diagnostic
-never_diagnostic false = λ f o h. h
-never_diagnostic true = never_chain _ _ _ (λ f o h. h) (λ o. λ f o h. h)
-
 never_cause : Never UnknownType rp_cause
 unfolding rp_cause
-never_cause = never_chain _ _ _ (never_by _ Short has_diagnostic (λ o e. cause_apart _ _ e)) (λ more. never_chain _ _ _ (λ f o h. h) (λ cause. never_chain _ _ _ (never_diagnostic more) (λ added. λ f o h. h)))
+never_cause = never_chain _ _ _ (never_by _ Short has_diagnostic (λ o e. cause_apart _ _ e)) (λ more. never_chain _ _ _ (λ f o h. h) (λ cause. never_chain _ _ _ (never_part UnknownType more (octet Short) (λ f o h. h)) (λ added. λ f o h. h)))
 
 never_body : (k : RpKind) (side : Side) → Never UnknownType (rp_body k side)
 unfolding rp_body rp_error

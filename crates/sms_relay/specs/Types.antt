@@ -1,5 +1,5 @@
--- Which octets are refused as of no known type: those whose first octet, or second of a CP message,
--- names none (3GPP TS 24.011, 8.1.3 and 8.2.2).
+-- An RP message is refused as of an unknown type just where its first octet names none (3GPP TS
+-- 24.011, 8.2.2).
 use Rattle.std.specs.Prelude.{◌≡◌, ℕ, List, ◌∷◌}
 use Rattle.sms_text.specs.Octets.{IsOctets}
 use Rattle.sms_field.specs.Field.{Field}

@@ -18,13 +18,7 @@ pub fn address_seen_at<'a>(
     ensures fits { IfOk result HasOptionalSpelling }
     ensures read { Sees (map_reason relay_fault relay_address) input.old result input.new }
 {
-    match RpAddressView::read_at(input) {
-        Ok(address) => Ok(address),
-        Err(Fault { place, why }) => Err(Fault {
-            place,
-            why: why.into(),
-        }),
-    }
+    RpAddressView::read_at(input).map_err(Fault::map_reason)
 }
 
 /// Adds the octets of an address, or of none.

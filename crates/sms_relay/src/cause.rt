@@ -1,9 +1,9 @@
 //! The cause of an RP-ERROR.
 
 ghost use Rattle.std.specs.Prelude.{◌≡◌, ◌++◌, IfOk, OnOk};
-ghost use Rattle.sms_field.specs.Answer.{Sees, SeesAs};
+ghost use Rattle.sms_field.specs.Answer.{SeesAs};
 ghost use Rattle.sms_relay.specs.RpCause as formats;
-ghost use Rattle.sms_relay.specs.RpCause.{diagnostic, rp_cause, cause_octets, IsCause, IsDiagnostic};
+ghost use Rattle.sms_relay.specs.RpCause.{rp_cause, cause_octets, IsCause};
 
 use crate::fault::RelayFault;
 use sms_field::{Cursor, Fault};
@@ -20,19 +20,6 @@ fn has_diagnostic(length: u8) -> Result<bool, RelayFault>
     }
 }
 
-/// A diagnostic, or none.
-#[tactic(auto, unfolding(crate::specs::RpCause::diagnostic))]
-fn diagnostic_at(input: &mut Cursor, more: bool) -> Result<Option<u8>, Fault<RelayFault>>
-    ensures fits { IfOk result IsDiagnostic }
-    ensures read { Sees (diagnostic more) input.old result input.new }
-{
-    if !more {
-        return Ok(None);
-    }
-    let octet = input.take_octet()?;
-    Ok(Some(octet))
-}
-
 /// A cause, 0 to 127, and its diagnostic if it has one.
 #[tactic(auto, unfolding(crate::specs::RpCause::rp_cause))]
 pub fn cause_at(input: &mut Cursor) -> Result<(u8, Option<u8>), Fault<RelayFault>>
@@ -41,7 +28,7 @@ pub fn cause_at(input: &mut Cursor) -> Result<(u8, Option<u8>), Fault<RelayFault
 {
     let more = input.take_octet_by(has_diagnostic)?;
     let cause = input.take_octet()?;
-    let diagnostic = diagnostic_at(input, more)?;
+    let diagnostic = input.take_octet_if(more)?;
     Ok((cause % 128, diagnostic))
 }
 

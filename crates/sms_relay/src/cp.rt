@@ -29,11 +29,12 @@ pub enum CpBody {
 /// A message of the connection between phone and network (3GPP TS 24.011, 7.2).
 #[derive(Drop)]
 pub struct CpMessage {
-    /// The flag of the transaction identifier: the message goes to the side that opened the
+    /// TI flag, of the transaction identifier: the message goes to the side that opened the
     /// transaction.
     pub flag: bool,
-    /// The value of the transaction identifier, 0 to 6.
+    /// TI value, of the transaction identifier, 0 to 6.
     pub value: u8,
+    /// What the message holds, whose kind the message type tells.
     pub body: CpBody,
 }
 

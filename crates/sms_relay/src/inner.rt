@@ -1,7 +1,8 @@
 //! What is found in a CP message.
 
-ghost use Rattle.std.specs.Prelude.{◌≡◌, IfOk};
+ghost use Rattle.std.specs.Prelude.{◌≡◌, IfOk, IsOk};
 ghost use Rattle.sms_relay.specs.InnerSeen.{seen_inner};
+ghost use Rattle.sms_relay.specs.declared.inner.InnerView.TheVariants as seen;
 
 use crate::fault::RelayFault;
 use crate::rp::RpMessage;
@@ -34,7 +35,8 @@ pub enum InnerView<'a> {
 impl<'a> InnerView<'a> {
     /// What is found itself.
     pub fn to_value(&self, alloc: Global) -> Result<Inner, AllocError>
-        ensures { IfOk result (λ inner. inner ≡ seen_inner self.now) }
+        ensures is { IfOk result (λ inner. inner ≡ seen_inner self.now) }
+        ensures empty { self.now ≡ seen.Empty → IsOk result }
     {
         match self {
             InnerView::Empty => Ok(Inner::Empty),

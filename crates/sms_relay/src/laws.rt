@@ -1,9 +1,8 @@
 //! What follows from the definitions alone. Each function is empty: its contract is the law.
 
 ghost use Rattle.sms_field.specs.Field.{octet_by};
-ghost use Rattle.sms_field.specs.OneRefusal.{HasOneRefusal};
-ghost use Rattle.sms_field.specs.Reading.{Reads};
 ghost use Rattle.sms_field.specs.ReadValues.{Has};
+ghost use Rattle.sms_tpdu.specs.Refusals.{IsRefusedOnce};
 ghost use Rattle.sms_tpdu.specs.Sizes.{HasEachSpelling};
 ghost use Rattle.sms_tpdu.specs.UnitLaws.{AreUnitLaws};
 ghost use Rattle.sms_relay.specs.Carried.{OneMessageIsCarried};
@@ -42,8 +41,8 @@ pub fn parts_are_fields()
 
 /// An input is refused as a message at one place and for one reason.
 pub fn messages_are_refused_once()
-    ensures cp { HasOneRefusal (Reads cp_message) cp_message.reason Short }
-    ensures rp { HasOneRefusal (Reads rp_message) rp_message.reason Short }
+    ensures cp { IsRefusedOnce Short cp_message }
+    ensures rp { IsRefusedOnce Short rp_message }
 {}
 
 /// Octets are refused as an RP message of no known type just where their first octet names none.

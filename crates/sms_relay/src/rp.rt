@@ -22,14 +22,17 @@ use std::marker::Model;
 /// What an RP message holds. User data are at most 233 octets.
 #[derive(Drop)]
 pub enum RpBody {
-    /// RP-DATA (3GPP TS 24.011, 7.3.1): the address of the service centre, which is RP-Destination
-    /// Address from a phone and RP-Originator Address to one, and RP-User Data, a transfer unit.
+    /// RP-DATA (3GPP TS 24.011, 7.3.1).
     Transfer {
+        /// The address of the service centre: RP-Destination Address from a phone, and
+        /// RP-Originator Address to one.
         address: Option<RpAddress>,
+        /// RP-User Data, a transfer unit.
         user: Octets,
     },
     /// RP-ACK (7.3.3).
     Ack {
+        /// RP-User Data, if there are any.
         user: Option<Octets>,
     },
     /// RP-ERROR (7.3.4).
@@ -38,6 +41,7 @@ pub enum RpBody {
         cause: u8,
         /// The diagnostic field of RP-Cause.
         diagnostic: Option<u8>,
+        /// RP-User Data, if there are any.
         user: Option<Octets>,
     },
 }
@@ -49,6 +53,7 @@ pub struct RpMessage {
     pub side: Side,
     /// RP-Message Reference, which an answer repeats to tell what it answers.
     pub reference: u8,
+    /// What the message holds, whose kind RP-MTI tells too.
     pub body: RpBody,
 }
 

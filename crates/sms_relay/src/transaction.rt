@@ -4,7 +4,7 @@ ghost use Rattle.std.specs.Prelude.{◌≡◌, ◌<◌, IfOk};
 ghost use Rattle.sms_relay.specs.Transaction.{transaction, transaction_octet};
 
 use crate::fault::RelayFault;
-use sms_field::has_bit;
+use sms_field::{bit_weight, has_bit};
 
 /// The protocol discriminator of short messages.
 const SMS: u8 = 9;
@@ -12,9 +12,9 @@ const SMS: u8 = 9;
 /// The transaction of a CP message (3GPP TS 24.011, 8.1.2).
 #[derive(Clone, Copy)]
 pub struct Transaction {
-    /// The message goes to the side that opened the transaction.
+    /// TI flag: the message goes to the side that opened the transaction.
     pub flag: bool,
-    /// 0 to 6.
+    /// TI value, 0 to 6.
     pub value: u8,
 }
 
@@ -42,7 +42,6 @@ impl Transaction {
         requires { self.value < 7 }
         ensures { result ≡ transaction_octet self }
     {
-        let flag = if self.flag { 128 } else { 0 };
-        flag + 16 * self.value + SMS
+        bit_weight(7, self.flag) + 16 * self.value + SMS
     }
 }

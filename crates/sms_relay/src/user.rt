@@ -35,8 +35,7 @@ pub fn user_data_at<'a>(input: &mut Cursor<'a>) -> Result<OctetsView<'a>, Fault<
     ensures read { Sees user_data input.old result input.new }
 {
     let count = input.take_octet_up_to(USER_DATA_MAX, RelayFault::DataTooLong)?;
-    let octets = octets_at(input, count)?;
-    Ok(octets)
+    octets_at(input, count)
 }
 
 /// User data after their tag, or none where no tag stands.

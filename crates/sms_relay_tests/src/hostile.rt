@@ -255,14 +255,19 @@ fn agree_with(alloc: Global, octets: &[u8], place: usize, octet: u8) -> Result<b
     all_agree(alloc, &changed)
 }
 
-/// Whether all agree, whatever octet stands at a place.
-fn agree_at(alloc: Global, octets: &[u8], place: usize) -> Result<bool, Fail> {
+/// All agree, whatever octet stands at a place.
+fn agree_at(
+    rt: &impl Abort,
+    alloc: Global,
+    octets: &[u8],
+    says: &str,
+    place: usize,
+) -> Result<(), Fail> {
     for octet in 0..=255u8 {
-        if !agree_with(alloc, octets, place, octet)? {
-            return Ok(false);
-        }
+        let told = agree_with(alloc, octets, place, octet)?;
+        is(rt, (says, place, octet), told, true);
     }
-    Ok(true)
+    Ok(())
 }
 
 /// Tries each length, and each octet at each place.
@@ -274,12 +279,7 @@ fn try_each_place(rt: &impl Abort, alloc: Global, octets: &[u8], says: &str) -> 
             all_agree(alloc, &octets[..place])?,
             true,
         );
-        is(
-            rt,
-            (says, "changed", place),
-            agree_at(alloc, octets, place)?,
-            true,
-        );
+        agree_at(rt, alloc, octets, says, place)?;
     }
     Ok(())
 }

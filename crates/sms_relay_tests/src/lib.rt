@@ -8,4 +8,6 @@ mod hostile;
 #[cfg(test)]
 mod packets;
 #[cfg(test)]
+mod shared;
+#[cfg(test)]
 mod written;

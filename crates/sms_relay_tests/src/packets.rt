@@ -331,13 +331,27 @@ fn centre_of(alloc: Global, row: &Transfer) -> Result<Option<RpAddress>, Fail> {
     }
 }
 
+/// The value of the transaction of a row.
+fn value_of(rt: &impl Abort, row: &Transfer) -> u8
+    ensures { result < 7 }
+{
+    let value = row.value;
+    assert!(rt; value < 7, "{}", row.says);
+    value
+}
+
 /// The packet of a transfer.
-fn transferred<U: Unit>(alloc: Global, row: &Transfer, unit: &U) -> Result<Vec<u8>, Fail> {
+fn transferred<U: Unit>(
+    rt: &impl Abort,
+    alloc: Global,
+    row: &Transfer,
+    unit: &U,
+) -> Result<Vec<u8>, Fail> {
     let centre = centre_of(alloc, row)?;
     let packet = wrap_transfer(
         alloc,
         row.flag,
-        row.value % 7,
+        value_of(rt, row),
         row.side,
         row.reference,
         centre.as_ref(),
@@ -347,24 +361,28 @@ fn transferred<U: Unit>(alloc: Global, row: &Transfer, unit: &U) -> Result<Vec<u
 }
 
 /// The cause of an answer.
-fn cause_of(row: &Answer) -> Option<u8>
+fn cause_of(rt: &impl Abort, row: &Answer) -> Option<u8>
     ensures { ForSome result (λ cause. cause < 128) }
 {
-    match row.cause {
-        Some(cause) if cause < 128 => Some(cause),
-        _ => None,
-    }
+    let cause = row.cause?;
+    assert!(rt; cause < 128, "{}", row.says);
+    Some(cause)
 }
 
 /// The packet of an answer.
-fn answered<U: Unit>(alloc: Global, row: &Answer, unit: &U) -> Result<Vec<u8>, Fail> {
+fn answered<U: Unit>(
+    rt: &impl Abort,
+    alloc: Global,
+    row: &Answer,
+    unit: &U,
+) -> Result<Vec<u8>, Fail> {
     let packet = wrap_answer(
         alloc,
         true,
         3,
         row.side,
         row.reference,
-        cause_of(row),
+        cause_of(rt, row),
         Some(unit),
     )?;
     Ok(packet)
@@ -380,49 +398,63 @@ fn unit_of<U: Unit>(alloc: Global, octets: &[u8]) -> Result<U, Fail> {
 
 /// Whether a unit comes back out of a transfer.
 fn is_transferred<U: Unit>(
+    rt: &impl Abort,
     alloc: Global,
     row: &Transfer,
     unit: &U,
     octets: &[u8],
 ) -> Result<bool, Fail> {
-    let packet = transferred(alloc, row, unit)?;
+    let packet = transferred(rt, alloc, row, unit)?;
     holds(alloc, &packet, row.says, octets)
 }
 
 /// Whether a unit comes back out of an answer.
 fn is_answered<U: Unit>(
+    rt: &impl Abort,
     alloc: Global,
     row: &Answer,
     unit: &U,
     octets: &[u8],
 ) -> Result<bool, Fail> {
-    let packet = answered(alloc, row, unit)?;
+    let packet = answered(rt, alloc, row, unit)?;
     holds(alloc, &packet, row.says, octets)
 }
 
-/// Whether a unit comes back out of each transfer and each answer.
-fn is_carried<U: Unit>(alloc: Global, unit: &U, octets: &[u8]) -> Result<bool, Fail> {
-    let [up, down] = &TRANSFERS;
-    let [taken, failed] = &ANSWERS;
-    Ok(
-        is_transferred(alloc, up, unit, octets)?
-            && is_transferred(alloc, down, unit, octets)?
-            && is_answered(alloc, taken, unit, octets)?
-            && is_answered(alloc, failed, unit, octets)?,
-    )
-}
-
-/// Whether the unit that is read from octets comes back out of each transfer and each answer.
-fn comes_back<U: Unit>(alloc: Global, octets: &[u8]) -> Result<bool, Fail> {
-    let unit = unit_of::<U>(alloc, octets)?;
-    is_carried(alloc, &unit, octets)
-}
-
-/// The unit that is read from octets comes back.
-fn is_back<U: Unit>(rt: &impl Abort, alloc: Global, name: &str, octets: &[u8]) -> Result<(), Fail> {
-    let told = comes_back::<U>(alloc, octets)?;
-    is(rt, name, told, true);
+/// A unit comes back out of each transfer.
+fn is_back_of_transfers<U: Unit>(
+    rt: &impl Abort,
+    alloc: Global,
+    name: &str,
+    unit: &U,
+    octets: &[u8],
+) -> Result<(), Fail> {
+    for row in TRANSFERS.as_slice() {
+        let told = is_transferred(rt, alloc, row, unit, octets)?;
+        is(rt, (name, row.says), told, true);
+    }
     Ok(())
+}
+
+/// A unit comes back out of each answer.
+fn is_back_of_answers<U: Unit>(
+    rt: &impl Abort,
+    alloc: Global,
+    name: &str,
+    unit: &U,
+    octets: &[u8],
+) -> Result<(), Fail> {
+    for row in ANSWERS.as_slice() {
+        let told = is_answered(rt, alloc, row, unit, octets)?;
+        is(rt, (name, row.says), told, true);
+    }
+    Ok(())
+}
+
+/// The unit that is read from octets comes back out of each transfer and each answer.
+fn is_back<U: Unit>(rt: &impl Abort, alloc: Global, name: &str, octets: &[u8]) -> Result<(), Fail> {
+    let unit = unit_of::<U>(alloc, octets)?;
+    is_back_of_transfers(rt, alloc, name, &unit, octets)?;
+    is_back_of_answers(rt, alloc, name, &unit, octets)
 }
 
 #[test]
@@ -453,33 +485,36 @@ fn wraps_an_acknowledgement_without_a_unit(rt: HostRuntime) -> Result<(), Fail> 
     Ok(())
 }
 
-/// A CP message that has user data of a number of octets, and three octets before them.
+/// A CP message whose user data have so many octets, with three octets before them.
 fn long(alloc: Global, count: u8) -> Result<Vec<u8>, Fail> {
     let mut octets = Vec::from_slice(alloc, &[0x09, 0x01, count])?;
-    octets.extend_from_slice(&[7; 255])?;
+    octets.extend_from_slice(&[7; 255][..usize::from(count)])?;
     Ok(octets)
 }
 
-/// What wrapping a CP message answers.
-fn refusal_of(alloc: Global, unit: &CpMessage) -> Option<WrapFault> {
-    match wrap_transfer(alloc, false, 0, Side::FromPhone, 0, None, unit) {
-        Ok(_) => None,
-        Err(fault) => Some(fault),
-    }
+/// A CP message, in a transfer.
+fn wrapped(alloc: Global, octets: &[u8]) -> Result<Result<Vec<u8>, WrapFault>, Fail> {
+    let unit = unit_of::<CpMessage>(alloc, octets)?;
+    Ok(wrap_transfer(alloc, false, 0, Side::FromPhone, 0, None, &unit))
 }
 
-/// What wrapping a CP message answers that has user data of a number of octets, and three octets
-/// before them.
-fn wrapped_long(alloc: Global, count: u8) -> Result<Option<WrapFault>, Fail> {
-    let octets = long(alloc, count)?;
-    let (unit, _) = CpMessage::read(alloc, &octets)?;
-    Ok(refusal_of(alloc, &unit))
+/// Whether a CP message of these octets comes back out of a transfer.
+fn is_wrapped(alloc: Global, octets: &[u8]) -> Result<bool, Fail> {
+    let packet = wrapped(alloc, octets)??;
+    holds(alloc, &packet, "data FromPhone 0 none", octets)
 }
 
 #[test]
 fn wraps_233_octets(rt: HostRuntime) -> Result<(), Fail> {
-    is(&rt, 230, wrapped_long(rt.alloc(), 230)?, None);
-    let refused = wrapped_long(rt.alloc(), 231)?;
-    is(&rt, 231, refused, Some(WrapFault::DataTooLong));
+    let octets = long(rt.alloc(), 230)?;
+    is(&rt, octets.len(), is_wrapped(rt.alloc(), &octets)?, true);
+    Ok(())
+}
+
+#[test]
+fn refuses_to_wrap_234_octets(rt: HostRuntime) -> Result<(), Fail> {
+    let octets = long(rt.alloc(), 231)?;
+    let refused = wrapped(rt.alloc(), &octets)?.err();
+    is(&rt, octets.len(), refused, Some(WrapFault::DataTooLong));
     Ok(())
 }

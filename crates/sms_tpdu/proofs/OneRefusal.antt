@@ -3,7 +3,7 @@ use Rattle.std.proofs.Common.{◌≡◌, inl, inr, ℕ, ◌+◌, ◌-◌, Bool, 
 use Rattle.sms_field.specs.Address.{address}
 use Rattle.sms_field.specs.Bit.{bit}
 use Rattle.sms_field.specs.Coding.{alphabet_at}
-use Rattle.sms_field.specs.Field.{Field, octet, map_reason, up_to}
+use Rattle.sms_field.specs.Field.{octet, map_reason, up_to}
 use Rattle.sms_field.specs.OneRefusal.{HasOneReason, ReadsOneWay, IsKnown}
 use Rattle.sms_field.specs.OneRefusalLaws.{one_way_always, one_way_octet, one_way_by, one_way_octets, one_way_chain, one_way_part, one_way_address, one_reason_by, one_reason_octet, one_reason_octets, one_reason_map_reason, one_reason_chain, one_reason_part, one_reason_address, one_refusal}
 use Rattle.sms_field.specs.declared.coding.Alphabet.{Alphabet}
@@ -188,23 +188,23 @@ one_reason_header = one_reason_chain _ _ (one_way_by Short (up_to 139 HeaderTooL
 
 -- ---- one refusal
 
-pub submit_refused_once : IsRefusedOnce submit
+pub submit_refused_once : IsRefusedOnce Short submit
 submit_refused_once = one_refusal Short submit is_short one_reason_submit
 
-pub deliver_refused_once : IsRefusedOnce deliver
+pub deliver_refused_once : IsRefusedOnce Short deliver
 deliver_refused_once = one_refusal Short deliver is_short one_reason_deliver
 
-pub submit_ack_refused_once : IsRefusedOnce submit_ack
+pub submit_ack_refused_once : IsRefusedOnce Short submit_ack
 submit_ack_refused_once = one_refusal Short submit_ack is_short one_reason_submit_ack
 
-pub submit_error_refused_once : IsRefusedOnce submit_error
+pub submit_error_refused_once : IsRefusedOnce Short submit_error
 submit_error_refused_once = one_refusal Short submit_error is_short one_reason_submit_error
 
-pub deliver_ack_refused_once : IsRefusedOnce deliver_ack
+pub deliver_ack_refused_once : IsRefusedOnce Short deliver_ack
 deliver_ack_refused_once = one_refusal Short deliver_ack is_short one_reason_deliver_ack
 
-pub deliver_error_refused_once : IsRefusedOnce deliver_error
+pub deliver_error_refused_once : IsRefusedOnce Short deliver_error
 deliver_error_refused_once = one_refusal Short deliver_error is_short one_reason_deliver_error
 
-pub header_refused_once : IsRefusedOnce header
+pub header_refused_once : IsRefusedOnce Short header
 header_refused_once = one_refusal Short header is_short one_reason_header

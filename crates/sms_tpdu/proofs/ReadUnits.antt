@@ -3,7 +3,7 @@ use Rattle.std.proofs.Common.{◌≡◌, ℕ, suc, ◌+◌, ◌-◌, ◌<◌, �
 use Rattle.std.specs.Prelude.{IfSome}
 use Rattle.std.proofs.lemmas.Bool.{leb-true}
 use Rattle.sms_text.specs.Octets.{IsOctets}
-use Rattle.sms_field.specs.Field.{Field, octet, octet_by, octets_of}
+use Rattle.sms_field.specs.Field.{octet, octet_by, octets_of}
 use Rattle.sms_field.specs.AddressValue.{HasSpelling}
 use Rattle.sms_field.specs.Coding.{alphabet_at}
 use Rattle.sms_field.specs.ReadAddressLaws.{has_octet, has_stamp, has_up_to, has_address}

@@ -1,5 +1,5 @@
 -- Each unit tells other types by the first octet.
-use Rattle.std.proofs.Common.{◌≡◌, ℕ, Bool, true, false, cond, List, Option, Some, None, Result, Ok, Err}
+use Rattle.std.proofs.Common.{◌≡◌, ℕ, Bool, true, false, cond, Result, Ok, Err}
 use Rattle.sms_field.specs.Field.{Field, octet, octet_by, ◌>>=◌}
 use Rattle.sms_field.specs.Address.{address}
 use Rattle.sms_field.specs.Coding.{alphabet_at}

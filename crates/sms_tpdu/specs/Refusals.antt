@@ -29,5 +29,5 @@ pub record TellsOtherTypes {V F : Type 0} (field : Field V UnitFault)
       → ¬ IsReadable (Reads field) octets
 
 -- an input is refused at one place and for one reason
-abbrev pub IsRefusedOnce : {V : Type 0} → Field V UnitFault → Type 0
-IsRefusedOnce field = HasOneRefusal (Reads field) field.reason Short
+abbrev pub IsRefusedOnce : {V W : Type 0} → W → Field V W → Type 0
+IsRefusedOnce short field = HasOneRefusal (Reads field) field.reason short

@@ -57,10 +57,13 @@ abbrev pub report_alphabet : Option ℕ → Alphabet
 report_alphabet None = Gsm7
 report_alphabet (Some dcs) = alphabet_at dcs
 
--- the parts that may be there: TP-PID, TP-DCS, and TP-UDL with TP-UD
+-- the parts that may be there
 pub record Parts : Type 0 where
+  -- TP-PID
   pub pid : Option ℕ
+  -- TP-DCS
   pub dcs : Option ℕ
+  -- TP-UDL and TP-UD
   pub user : Option ReportData
 
 unfoldable pub parts : Indicator → Field Parts UnitFault

@@ -1,5 +1,5 @@
 -- How long each unit is as it is written.
-use Rattle.std.proofs.Common.{◌≡◌, ℕ, ◌+◌, ◌-◌, ◌*◌, ◌/◌, ◌≤◌, List, [], ◌∷◌, ◌++◌, length, replicate, Option, Some, None, refl, sym, ap, subst, ◌∙◌, arith, length-append}
+use Rattle.std.proofs.Common.{ℕ, ◌+◌, ◌*◌, ◌≤◌, List, ◌∷◌, ◌++◌, length, replicate, Option, Some, None, ap, arith, length-append}
 use Rattle.std.specs.Prelude.{IfSome}
 use Rattle.std.proofs.lemmas.List.{length-replicate}
 use Rattle.sms_text.specs.Bits.{PackedPlain, septet_bits}
@@ -12,11 +12,11 @@ use Rattle.sms_field.specs.declared.coding.Alphabet.TheVariants.{Gsm7, EightBit,
 use Rattle.sms_field.specs.declared.validity.Validity.{Validity}
 use Rattle.sms_field.specs.declared.validity.Validity.TheVariants as period
 use Rattle.sms_tpdu.specs.Sizes.{greatest_size, IsWithin}
-use Rattle.sms_tpdu.specs.UserData.Lengths.{length_of_header, fill_bits}
+use Rattle.sms_tpdu.specs.UserData.Lengths.{fill_bits}
 use Rattle.sms_tpdu.specs.UserData.{header_octets, BodyFits, FitsAlphabet, SpellsBody, SpellsUserData}
 use Rattle.sms_tpdu.specs.Submit.ValidityPeriod.{validity_octets, IsInRange}
-use Rattle.sms_tpdu.specs.Submit.{Submission, SpellsSubmit}
-use Rattle.sms_tpdu.specs.Deliver.{Delivery, SpellsDeliver}
+use Rattle.sms_tpdu.specs.Submit.{SpellsSubmit}
+use Rattle.sms_tpdu.specs.Deliver.{SpellsDeliver}
 use Rattle.sms_tpdu.specs.Report.{Parts, IsReportData, report_alphabet, AreParts, octet_if_some, data_if_some, parts_octets}
 use Rattle.sms_tpdu.specs.Report.SubmitAck.{SubmitAckValue, SpellsSubmitAck}
 use Rattle.sms_tpdu.specs.Report.SubmitAck as ack

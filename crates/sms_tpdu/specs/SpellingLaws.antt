@@ -1,12 +1,10 @@
 -- Each value has a spelling.
 use Rattle.std.proofs.Common.{ℕ, List, ◌∷◌, ◌++◌, length, refl}
 use Rattle.sms_field.specs.Address.{address_octets}
-use Rattle.sms_field.specs.Coding.{alphabet_at}
 use Rattle.sms_field.specs.NameSpelling.{plain_octets, plain_octets_are, plainly_packed}
-use Rattle.sms_field.specs.declared.coding.Alphabet.{Alphabet}
 use Rattle.sms_tpdu.specs.Sizes.{HasEachSpelling}
 use Rattle.sms_tpdu.specs.UserData.Lengths.{fill_bits}
-use Rattle.sms_tpdu.specs.UserData.{header_octets, FitsAlphabet, data_length, SpellsBody, SpellsUserData}
+use Rattle.sms_tpdu.specs.UserData.{header_octets, data_length, SpellsBody, SpellsUserData}
 use Rattle.sms_tpdu.specs.UserData.Header.{IsHeader, SpellsHeader}
 use Rattle.sms_tpdu.specs.Submit.ValidityPeriod.{validity_octets}
 use Rattle.sms_tpdu.specs.Submit.Flags.{submit_octet}

@@ -15,11 +15,5 @@ pub fn address_seen_at<'a>(input: &mut Cursor<'a>) -> Result<AddressView<'a>, Fa
     ensures read { Sees (map_reason unit_fault address) input.old result input.new }
     ensures fits { IfOk result HasSpelling }
 {
-    match AddressView::read_at(input) {
-        Ok(address) => Ok(address),
-        Err(Fault { place, why }) => Err(Fault {
-            place,
-            why: why.into(),
-        }),
-    }
+    AddressView::read_at(input).map_err(Fault::map_reason)
 }

@@ -16,7 +16,7 @@ use sms_field::{Address, Cursor, Refusal, Stamp};
 use std::alloc::{AllocError, Global};
 use std::marker::Model;
 
-/// A message on its way to a phone (TS 23.040, 9.2.2.1).
+/// SMS-DELIVER: a message on its way from a service centre to a phone (TS 23.040, 9.2.2.1).
 #[derive(Drop)]
 pub struct Deliver {
     /// TP-MMS: more messages wait in the service centre.

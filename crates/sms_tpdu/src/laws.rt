@@ -14,6 +14,7 @@ ghost use Rattle.sms_tpdu.specs.Report.DeliverAck.{deliver_ack, IsDeliverAck, Sp
 ghost use Rattle.sms_tpdu.specs.Report.DeliverError.{deliver_error, IsDeliverError, SpellsDeliverError};
 ghost use Rattle.sms_tpdu.specs.UserData.ConcatenationFound.{ElementsAreOne, ConcatIsThere, ConcatIsOne, ConcatIsPlace};
 ghost use Rattle.sms_tpdu.specs.UserData.Header.{header, IsHeader, SpellsHeader};
+ghost use Rattle.sms_tpdu.specs.declared.fault.UnitFault.TheVariants.{Short};
 
 /// A unit is refused as one of another type just where its first octet is that of one.
 pub fn other_types_are_told()
@@ -27,13 +28,13 @@ pub fn other_types_are_told()
 
 /// An input is refused as a unit, or as a header, at one place and for one reason.
 pub fn units_are_refused_once()
-    ensures submit { IsRefusedOnce submit }
-    ensures deliver { IsRefusedOnce deliver }
-    ensures submit_ack { IsRefusedOnce submit_ack }
-    ensures submit_error { IsRefusedOnce submit_error }
-    ensures deliver_ack { IsRefusedOnce deliver_ack }
-    ensures deliver_error { IsRefusedOnce deliver_error }
-    ensures header { IsRefusedOnce header }
+    ensures submit { IsRefusedOnce Short submit }
+    ensures deliver { IsRefusedOnce Short deliver }
+    ensures submit_ack { IsRefusedOnce Short submit_ack }
+    ensures submit_error { IsRefusedOnce Short submit_error }
+    ensures deliver_ack { IsRefusedOnce Short deliver_ack }
+    ensures deliver_error { IsRefusedOnce Short deliver_error }
+    ensures header { IsRefusedOnce Short header }
 {}
 
 /// A transfer unit is written in at most 172 octets.

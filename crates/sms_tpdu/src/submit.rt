@@ -18,7 +18,7 @@ use sms_field::{Address, Cursor, Refusal, Validity};
 use std::alloc::{AllocError, Global};
 use std::marker::Model;
 
-/// A message on its way from a phone (TS 23.040, 9.2.2.2).
+/// SMS-SUBMIT: a message on its way from a phone to a service centre (TS 23.040, 9.2.2.2).
 #[derive(Drop)]
 pub struct Submit {
     /// TP-RD: a repeat is to be rejected.

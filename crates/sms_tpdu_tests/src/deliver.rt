@@ -31,16 +31,16 @@ const NO_ROOM_FOR_A_HEADER: [u8; 15] = [
 
 /// A delivery, its header if it has one, the place of a segment that the header tells, and its
 /// body.
-struct WithHeader {
+struct Delivery {
     octets: &'static [u8],
     header: Option<&'static [u8]>,
     concat: Option<Concat>,
     body: &'static [u8],
 }
 
-static WITH_HEADERS: [WithHeader; 6] = [
+static DELIVERIES: [Delivery; 6] = [
     // the sequence is 3 of 2
-    WithHeader {
+    Delivery {
         octets: &[
             0x44, 0x04, 0x91, 0x01, 0x10, 0x00, 0x00, 0x00, 0x10, 0x10, 0x00, 0x00, 0x00, 0x00,
             0x09, 0x05, 0x00, 0x03, 0x0A, 0x02, 0x03, 0xD0, 0x69,
@@ -50,7 +50,7 @@ static WITH_HEADERS: [WithHeader; 6] = [
         body: b"hi",
     },
     // the element is cut
-    WithHeader {
+    Delivery {
         octets: &[
             0x44, 0x04, 0x91, 0x01, 0x10, 0x00, 0x00, 0x00, 0x10, 0x10, 0x00, 0x00, 0x00, 0x00,
             0x08, 0x04, 0x00, 0x03, 0x0A, 0x02, 0xA0, 0xD3,
@@ -60,7 +60,7 @@ static WITH_HEADERS: [WithHeader; 6] = [
         body: b"hi",
     },
     // an empty header fills the data
-    WithHeader {
+    Delivery {
         octets: &[
             0x44, 0x04, 0x91, 0x01, 0x10, 0x00, 0x00, 0x00, 0x10, 0x10, 0x00, 0x00, 0x00, 0x00,
             0x02, 0x00, 0x00,
@@ -70,7 +70,7 @@ static WITH_HEADERS: [WithHeader; 6] = [
         body: b"",
     },
     // a reference of sixteen bits
-    WithHeader {
+    Delivery {
         octets: &[
             0x44, 0x04, 0x91, 0x01, 0x10, 0x00, 0x00, 0x00, 0x10, 0x10, 0x00, 0x00, 0x00, 0x00,
             0x0A, 0x06, 0x08, 0x04, 0x01, 0x02, 0x02, 0x01, 0xE8, 0x34,
@@ -85,7 +85,7 @@ static WITH_HEADERS: [WithHeader; 6] = [
         body: b"hi",
     },
     // of two elements the last counts
-    WithHeader {
+    Delivery {
         octets: &[
             0x44, 0x04, 0x91, 0x01, 0x10, 0x00, 0x00, 0x00, 0x10, 0x10, 0x00, 0x00, 0x00, 0x00,
             0x10, 0x0B, 0x00, 0x03, 0x0A, 0x02, 0x01, 0x08, 0x04, 0x01, 0x02, 0x02, 0x02, 0xA0,
@@ -103,7 +103,7 @@ static WITH_HEADERS: [WithHeader; 6] = [
         body: b"hi",
     },
     // one letter in UCS-2
-    WithHeader {
+    Delivery {
         octets: &[
             0x04, 0x04, 0x91, 0x01, 0x10, 0x00, 0x08, 0x00, 0x10, 0x10, 0x00, 0x00, 0x00, 0x00,
             0x02, 0x04, 0x36,
@@ -124,7 +124,7 @@ pub fn octets_in(body: &Body) -> &[u8] {
 
 /// Whether a header, if there is one, is that of a row, and tells the place of a segment that the
 /// row says.
-fn has_header(header: &Option<Header>, row: &WithHeader) -> bool {
+fn has_header(header: &Option<Header>, row: &Delivery) -> bool {
     match (header, row.header) {
         (Some(header), Some(wanted)) => {
             header.as_slice() == wanted && header.concat() == row.concat
@@ -142,7 +142,7 @@ fn user_of(alloc: Global, octets: &[u8]) -> Result<(UserData, usize), Fail> {
 }
 
 /// Whether a delivery is read as its row says.
-fn is_read(alloc: Global, row: &WithHeader) -> Result<bool, Fail> {
+fn is_read(alloc: Global, row: &Delivery) -> Result<bool, Fail> {
     let (user, used) = user_of(alloc, row.octets)?;
     Ok(
         used == row.octets.len()
@@ -158,8 +158,8 @@ fn written(alloc: Global, octets: &[u8]) -> Result<Vec<u8>, Refusal<UnitFault>> 
 }
 
 #[test]
-fn reads_and_writes_headers(rt: HostRuntime) -> Result<(), Fail> {
-    for row in WITH_HEADERS.as_slice() {
+fn reads_and_writes_deliveries(rt: HostRuntime) -> Result<(), Fail> {
+    for row in DELIVERIES.as_slice() {
         let read = is_read(rt.alloc(), row)?;
         holds(&rt, &row.octets, read);
         let written = written(rt.alloc(), row.octets)?;

@@ -36,7 +36,7 @@ const LETTERS: &str =
 /// The octets of eight of them.
 const EIGHT_LETTERS: [u8; 7] = [0xE1, 0x70, 0x38, 0x1C, 0x0E, 0x87, 0xC3];
 
-/// Whether an address is the number of the delivery.
+/// Whether an address is the telephone number of the delivery.
 fn is_origin(address: &Address) -> bool {
     match &address.symbols {
         Symbols::Digits(digits) => digits.as_slice() == ORIGIN.as_slice(),
@@ -80,7 +80,7 @@ fn is_submission(octets: &[u8]) -> bool {
     }
 }
 
-/// Whether the submission is written, from a number and a text.
+/// Whether the submission is written, from a telephone number and a text.
 fn is_written(alloc: Global) -> Result<bool, AllocError> {
     let target = Address::from_text(alloc, "+46708251358").map_err(|_| AllocError)?;
     let submit = Submit {

@@ -74,7 +74,7 @@ static ROWS: [Row; 6] = [
         digits: &[1, 0, 0, 2],
         septets: b"a",
     },
-    // a number with an odd number of digits; the first letter of the alphabet has the code 0
+    // a telephone number with an odd number of digits; the first letter of the alphabet has the code 0
     Row {
         octets: &[0x01, 0x00, 0x03, 0x91, 0x21, 0xF3, 0x00, 0x00, 0x01, 0x00],
         reject: false,
@@ -130,7 +130,7 @@ fn validity_of(valid: &Valid) -> Validity {
     }
 }
 
-/// The digits of an address that is a number.
+/// The digits of an address that is a telephone number.
 fn digits_in(symbols: &Symbols) -> Option<&[u8]> {
     match symbols {
         Symbols::Digits(digits) => Some(digits.as_slice()),

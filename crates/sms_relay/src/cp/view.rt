@@ -1,12 +1,13 @@
 //! CP messages, seen in their octets.
 
-ghost use Rattle.std.specs.Prelude.{◌≡◌, IfOk, IfErr};
+ghost use Rattle.std.specs.Prelude.{◌≡◌, ℕ, IfOk, IfErr, IsOk};
 ghost use Rattle.sms_field.specs.Answer.{SeesAs};
 ghost use Rattle.sms_field.specs.Reading.{Reads};
 ghost use Rattle.sms_field.specs.WholeAnswer.{IsFaultOf, SeesExactly};
 ghost use Rattle.sms_relay.specs.CpValue.{IsCpBody};
 ghost use Rattle.sms_relay.specs.Cp.{cp_body, cp_message};
 ghost use Rattle.sms_relay.specs.CpSeen.{seen_cp_body};
+ghost use Rattle.sms_relay.specs.declared.cp.view.CpBodyView.TheVariants as seen;
 ghost use Rattle.sms_relay.specs.declared.fault.RelayFault.TheVariants.{Short};
 
 use crate::cp::{CpBody, CpMessage};
@@ -33,11 +34,12 @@ pub enum CpBodyView<'a> {
 /// A message of the connection, in its octets. Contracts see it as the message.
 #[derive(Drop)]
 pub struct CpView<'a> {
-    /// The flag of the transaction identifier: the message goes to the side that opened the
+    /// TI flag, of the transaction identifier: the message goes to the side that opened the
     /// transaction.
     pub flag: bool,
-    /// The value of the transaction identifier, 0 to 6.
+    /// TI value, of the transaction identifier, 0 to 6.
     pub value: u8,
+    /// What the message holds, whose kind the message type tells.
     pub body: CpBodyView<'a>,
 }
 
@@ -79,7 +81,9 @@ fn body_at<'a>(input: &mut Cursor<'a>, kind: CpKind) -> Result<CpBodyView<'a>, F
 impl<'a> CpBodyView<'a> {
     /// The body itself.
     pub fn to_value(&self, alloc: Global) -> Result<CpBody, AllocError>
-        ensures { IfOk result (λ body. body ≡ seen_cp_body self.now) }
+        ensures is { IfOk result (λ body. body ≡ seen_cp_body self.now) }
+        ensures ack { self.now ≡ seen.Ack → IsOk result }
+        ensures fail { (cause : ℕ) → self.now ≡ seen.Fail cause → IsOk result }
     {
         match self {
             CpBodyView::Transfer(octets) => Ok(CpBody::Transfer(octets.to_value(alloc)?)),

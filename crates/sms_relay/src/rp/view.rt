@@ -1,12 +1,13 @@
 //! RP messages, seen in their octets.
 
-ghost use Rattle.std.specs.Prelude.{◌≡◌, IfOk, IfErr};
+ghost use Rattle.std.specs.Prelude.{◌≡◌, None, IfOk, IfErr, IsOk};
 ghost use Rattle.sms_field.specs.Answer.{SeesAs};
 ghost use Rattle.sms_field.specs.Reading.{Reads};
 ghost use Rattle.sms_field.specs.WholeAnswer.{IsFaultOf, SeesExactly};
 ghost use Rattle.sms_relay.specs.RpValue.{IsRpBody};
 ghost use Rattle.sms_relay.specs.Rp.{rp_data, rp_error, rp_body, rp_message};
 ghost use Rattle.sms_relay.specs.RpSeen.{seen_rp_body};
+ghost use Rattle.sms_relay.specs.declared.rp.view.RpBodyView.TheVariants as seen;
 ghost use Rattle.sms_relay.specs.declared.fault.RelayFault.TheVariants.{Short};
 
 use crate::address::address_seen_at;
@@ -27,14 +28,17 @@ const NO_ADDRESS: u8 = 0;
 /// What an RP message holds, where it lies. User data are at most 233 octets.
 #[derive(Drop)]
 pub enum RpBodyView<'a> {
-    /// RP-DATA (3GPP TS 24.011, 7.3.1): the address of the service centre, which is RP-Destination
-    /// Address from a phone and RP-Originator Address to one, and RP-User Data, a transfer unit.
+    /// RP-DATA (3GPP TS 24.011, 7.3.1).
     Transfer {
+        /// The address of the service centre: RP-Destination Address from a phone, and
+        /// RP-Originator Address to one.
         address: Option<RpAddressView<'a>>,
+        /// RP-User Data, a transfer unit.
         user: OctetsView<'a>,
     },
     /// RP-ACK (7.3.3).
     Ack {
+        /// RP-User Data, if there are any.
         user: Option<OctetsView<'a>>,
     },
     /// RP-ERROR (7.3.4).
@@ -43,6 +47,7 @@ pub enum RpBodyView<'a> {
         cause: u8,
         /// The diagnostic field of RP-Cause.
         diagnostic: Option<u8>,
+        /// RP-User Data, if there are any.
         user: Option<OctetsView<'a>>,
     },
 }
@@ -54,6 +59,7 @@ pub struct RpView<'a> {
     pub side: Side,
     /// RP-Message Reference, which an answer repeats to tell what it answers.
     pub reference: u8,
+    /// What the message holds, whose kind RP-MTI tells too.
     pub body: RpBodyView<'a>,
 }
 
@@ -132,7 +138,8 @@ fn body_at<'a>(input: &mut Cursor<'a>, named: RpType) -> Result<RpBodyView<'a>, 
 impl<'a> RpBodyView<'a> {
     /// The body itself.
     pub fn to_value(&self, alloc: Global) -> Result<RpBody, AllocError>
-        ensures { IfOk result (λ body. body ≡ seen_rp_body self.now) }
+        ensures is { IfOk result (λ body. body ≡ seen_rp_body self.now) }
+        ensures ack { self.now ≡ seen.Ack None → IsOk result }
     {
         match self {
             RpBodyView::Transfer { address, user } => {

@@ -1,5 +1,11 @@
 //! Octets as they are sent.
 
+use crate::shared::{
+    ACK_FROM_OPENER, ACK_TO_OPENER, DELIVERY_OF_HI, EIGHT_BIT_DELIVERY, EIGHT_BIT_SUBMISSION,
+    NOT_SMS, REFUSAL_OF_EIGHT_BIT, REFUSAL_OF_REPEAT, REFUSAL_OF_UNKNOWN, REPEATED_SUBMISSION,
+    REPORT_OF_DELIVERY, REPORT_OF_SUBMISSION, SUBMISSION_OF_HI,
+};
+
 /// Octets, and where in them a packet, a message, a unit, a header or an address begins.
 pub struct Sent {
     pub says: &'static str,
@@ -40,17 +46,17 @@ pub static UNITS: [Sent; 5] = [
 pub static SUBMISSIONS: [Sent; 3] = [
     Sent {
         says: "a submission of hi",
-        octets: b"\x09\x01\x13\x00\x00\x00\x03\x91\x01\x00\x0B\x01\x00\x04\x91\x01\x20\x00\x00\x02\xE8\x34",
+        octets: SUBMISSION_OF_HI,
         starts: &[0, 3, 6, 11, 13],
     },
     Sent {
         says: "a submission of hi that is repeated",
-        octets: b"\x19\x01\x13\x00\x01\x00\x03\x91\x01\x00\x0B\x05\x00\x04\x91\x01\x20\x00\x00\x02\xE8\x34",
+        octets: REPEATED_SUBMISSION,
         starts: &[0, 11],
     },
     Sent {
         says: "a submission of eight-bit text",
-        octets: b"\x09\x01\x13\x00\x00\x00\x03\x91\x01\x00\x0B\x01\x00\x04\x91\x01\x20\x00\x04\x02\xE8\x34",
+        octets: EIGHT_BIT_SUBMISSION,
         starts: &[0, 11],
     },
 ];
@@ -59,12 +65,12 @@ pub static SUBMISSIONS: [Sent; 3] = [
 pub static DELIVERIES: [Sent; 2] = [
     Sent {
         says: "a delivery of hi",
-        octets: b"\x09\x01\x19\x01\x00\x03\x91\x01\x00\x00\x11\x04\x04\x91\x01\x10\x00\x00\x00\x10\x10\x00\x00\x00\x00\x02\xE8\x34",
+        octets: DELIVERY_OF_HI,
         starts: &[0, 3, 5, 11, 12],
     },
     Sent {
         says: "a delivery of eight-bit text",
-        octets: b"\x09\x01\x18\x01\x00\x03\x91\x01\x00\x00\x10\x04\x04\x91\x01\x10\x00\x04\x00\x10\x10\x00\x00\x00\x00\x01\x41",
+        octets: EIGHT_BIT_DELIVERY,
         starts: &[0, 11],
     },
 ];
@@ -73,42 +79,42 @@ pub static DELIVERIES: [Sent; 2] = [
 pub static ANSWERS: [Sent; 8] = [
     Sent {
         says: "an acknowledgement of the connection",
-        octets: b"\x89\x04",
+        octets: ACK_TO_OPENER,
         starts: &[0],
     },
     Sent {
         says: "an acknowledgement to the other side",
-        octets: b"\x09\x04",
+        octets: ACK_FROM_OPENER,
         starts: &[0],
     },
     Sent {
         says: "the report of a submission",
-        octets: b"\x89\x01\x0D\x03\x00\x41\x09\x01\x00\x00\x10\x10\x00\x00\x00\x00",
+        octets: REPORT_OF_SUBMISSION,
         starts: &[0, 3, 7],
     },
     Sent {
         says: "the report of a delivery",
-        octets: b"\x89\x01\x06\x02\x00\x41\x02\x00\x00",
+        octets: REPORT_OF_DELIVERY,
         starts: &[0, 3, 7],
     },
     Sent {
         says: "the refusal of a repeat",
-        octets: b"\x99\x01\x10\x05\x01\x01\x15\x41\x0A\x01\xC5\x00\x00\x10\x10\x00\x00\x00\x00",
+        octets: REFUSAL_OF_REPEAT,
         starts: &[0, 3, 9],
     },
     Sent {
         says: "the refusal of an unknown recipient",
-        octets: b"\x89\x01\x10\x05\x00\x01\x01\x41\x0A\x01\xC3\x00\x00\x10\x10\x00\x00\x00\x00",
+        octets: REFUSAL_OF_UNKNOWN,
         starts: &[0, 3, 9],
     },
     Sent {
         says: "the refusal of eight-bit text",
-        octets: b"\x89\x01\x09\x04\x00\x01\x6F\x41\x03\x00\x90\x00",
+        octets: REFUSAL_OF_EIGHT_BIT,
         starts: &[0, 3, 9],
     },
     Sent {
         says: "what is no packet",
-        octets: b"\xFF",
+        octets: NOT_SMS,
         starts: &[0],
     },
 ];

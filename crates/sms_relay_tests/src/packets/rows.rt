@@ -1,5 +1,10 @@
 //! Rows of the tests: octets, and what they say.
 
+use crate::shared::{
+    ACK_FROM_OPENER, ACK_TO_OPENER, DELIVERY_OF_HI, EIGHT_BIT_DELIVERY, EIGHT_BIT_SUBMISSION,
+    NOT_SMS, REFUSAL_OF_EIGHT_BIT, REFUSAL_OF_REPEAT, REFUSAL_OF_UNKNOWN, REPEATED_SUBMISSION,
+    REPORT_OF_DELIVERY, REPORT_OF_SUBMISSION, SUBMISSION_OF_HI,
+};
 use sms_relay::RelayFault;
 
 /// A packet.
@@ -59,84 +64,84 @@ pub static PACKETS: [Packet; 19] = [
         user: Some(11),
     },
     Packet {
-        octets: b"\x09\x01\x13\x00\x00\x00\x03\x91\x01\x00\x0B\x01\x00\x04\x91\x01\x20\x00\x00\x02\xE8\x34",
+        octets: SUBMISSION_OF_HI,
         flag: false,
         value: 0,
         says: "data FromPhone 0 +1000",
         user: Some(11),
     },
     Packet {
-        octets: b"\x89\x04",
+        octets: ACK_TO_OPENER,
         flag: true,
         value: 0,
         says: "empty",
         user: None,
     },
     Packet {
-        octets: b"\x89\x01\x0D\x03\x00\x41\x09\x01\x00\x00\x10\x10\x00\x00\x00\x00",
+        octets: REPORT_OF_SUBMISSION,
         flag: true,
         value: 0,
         says: "ack ToPhone 0",
         user: Some(7),
     },
     Packet {
-        octets: b"\x09\x01\x19\x01\x00\x03\x91\x01\x00\x00\x11\x04\x04\x91\x01\x10\x00\x00\x00\x10\x10\x00\x00\x00\x00\x02\xE8\x34",
+        octets: DELIVERY_OF_HI,
         flag: false,
         value: 0,
         says: "data ToPhone 0 +1000",
         user: Some(11),
     },
     Packet {
-        octets: b"\x89\x01\x06\x02\x00\x41\x02\x00\x00",
+        octets: REPORT_OF_DELIVERY,
         flag: true,
         value: 0,
         says: "ack FromPhone 0",
         user: Some(7),
     },
     Packet {
-        octets: b"\x09\x04",
+        octets: ACK_FROM_OPENER,
         flag: false,
         value: 0,
         says: "empty",
         user: None,
     },
     Packet {
-        octets: b"\x19\x01\x13\x00\x01\x00\x03\x91\x01\x00\x0B\x05\x00\x04\x91\x01\x20\x00\x00\x02\xE8\x34",
+        octets: REPEATED_SUBMISSION,
         flag: false,
         value: 1,
         says: "data FromPhone 1 +1000",
         user: Some(11),
     },
     Packet {
-        octets: b"\x99\x01\x10\x05\x01\x01\x15\x41\x0A\x01\xC5\x00\x00\x10\x10\x00\x00\x00\x00",
+        octets: REFUSAL_OF_REPEAT,
         flag: true,
         value: 1,
         says: "error ToPhone 1 21 None",
         user: Some(9),
     },
     Packet {
-        octets: b"\x89\x01\x10\x05\x00\x01\x01\x41\x0A\x01\xC3\x00\x00\x10\x10\x00\x00\x00\x00",
+        octets: REFUSAL_OF_UNKNOWN,
         flag: true,
         value: 0,
         says: "error ToPhone 0 1 None",
         user: Some(9),
     },
     Packet {
-        octets: b"\x09\x01\x18\x01\x00\x03\x91\x01\x00\x00\x10\x04\x04\x91\x01\x10\x00\x04\x00\x10\x10\x00\x00\x00\x00\x01\x41",
+        octets: EIGHT_BIT_DELIVERY,
         flag: false,
         value: 0,
         says: "data ToPhone 0 +1000",
         user: Some(11),
     },
     Packet {
-        octets: b"\x89\x01\x09\x04\x00\x01\x6F\x41\x03\x00\x90\x00",
+        octets: REFUSAL_OF_EIGHT_BIT,
         flag: true,
         value: 0,
         says: "error FromPhone 0 111 None",
         user: Some(9),
     },
     Packet {
-        octets: b"\x09\x01\x13\x00\x00\x00\x03\x91\x01\x00\x0B\x01\x00\x04\x91\x01\x20\x00\x04\x02\xE8\x34",
+        octets: EIGHT_BIT_SUBMISSION,
         flag: false,
         value: 0,
         says: "data FromPhone 0 +1000",
@@ -199,7 +204,7 @@ pub static NO_PACKETS: [Refused; 13] = [
         why: RelayFault::NotSms,
     },
     Refused {
-        octets: b"\xFF",
+        octets: NOT_SMS,
         place: 0,
         why: RelayFault::NotSms,
     },

@@ -1,5 +1,5 @@
 -- An SMS-DELIVER is a lawful field, and what is written is read back.
-use Rattle.std.proofs.Common.{◌≡◌, ℕ, ◌+◌, ◌<◌, ◌||◌, Bool, true, false, not, cond, List, [], ◌∷◌, ◌++◌, length, Ok, Err, refl, sym, subst, lit<, arith}
+use Rattle.std.proofs.Common.{◌≡◌, ℕ, ◌||◌, Bool, true, false, not, cond, List, [], ◌∷◌, ◌++◌, Ok, Err, refl, sym, subst, lit<, arith}
 use Rattle.sms_text.specs.Octets.{IsOctets}
 use Rattle.sms_field.specs.Bit.{bit}
 use Rattle.sms_field.specs.BitLaws.{AreBits, summed_bits}
@@ -17,7 +17,7 @@ use Rattle.sms_field.specs.AddressSpelling.{address_again, address_are_octets}
 use Rattle.sms_tpdu.specs.Fault.{unit_fault}
 use Rattle.sms_tpdu.specs.FaultLaws.{fault_apart}
 use Rattle.sms_tpdu.specs.Deliver.Flags.{deliver_flags, deliver_octet}
-use Rattle.sms_tpdu.specs.UserData.{has_header, SpellsUserData}
+use Rattle.sms_tpdu.specs.UserData.{SpellsUserData}
 use Rattle.sms_tpdu.specs.UserData.Laws.{user_data_self, user_data_lawful, user_data_again, user_data_are_octets}
 use Rattle.sms_tpdu.specs.Deliver.{Delivery, IsDeliverable, deliver, flags_in, SpellsDeliver}
 use Rattle.sms_tpdu.specs.declared.deliver.flags.DeliverFlags.{DeliverFlags}

@@ -1,9 +1,9 @@
 -- The parts of a report are a lawful field, and what is written is read back.
-use Rattle.std.proofs.Common.{◌≡◌, ℕ, ◌<◌, ◌≤◌, Bool, true, false, leb, List, [], ◌∷◌, Option, Some, None, is_some, Ok, refl, lit<}
+use Rattle.std.proofs.Common.{◌≡◌, ℕ, ◌<◌, ◌≤◌, leb, List, [], ◌∷◌, Option, Some, None, is_some, Ok, refl, lit<}
 use Rattle.std.specs.Prelude.{IfSome}
 use Rattle.std.proofs.lemmas.Bool.{le-leb}
 use Rattle.sms_text.specs.Octets.{IsOctets}
-use Rattle.sms_field.specs.Field.{Field, octet, IsSelfContained, IsLawful}
+use Rattle.sms_field.specs.Field.{octet, IsSelfContained, IsLawful}
 use Rattle.sms_field.specs.declared.coding.Alphabet.{Alphabet}
 use Rattle.sms_field.specs.declared.coding.Alphabet.TheVariants.{Gsm7, EightBit, Ucs2, Compressed}
 use Rattle.sms_field.specs.ChainLaws.{chain_lawful, chain_self_contained}

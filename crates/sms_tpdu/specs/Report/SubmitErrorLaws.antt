@@ -1,5 +1,5 @@
 -- An SMS-SUBMIT-REPORT under an error is a lawful field, and what is written is read back.
-use Rattle.std.proofs.Common.{◌≡◌, ℕ, List, [], ◌∷◌, ◌++◌, length, refl, sym, subst}
+use Rattle.std.proofs.Common.{ℕ, List, [], ◌∷◌, refl}
 use Rattle.sms_text.specs.Octets.{IsOctets}
 use Rattle.sms_field.specs.Field.{IsLawful}
 use Rattle.sms_tpdu.specs.UnitLaws.{AreUnitLaws, laws_by}

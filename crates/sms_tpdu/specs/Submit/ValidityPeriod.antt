@@ -9,7 +9,7 @@ use Rattle.sms_tpdu.specs.declared.fault.UnitFault.TheVariants.{Short}
 use Rattle.sms_tpdu.specs.declared.submit.validity.ValidityFormat.{ValidityFormat}
 use Rattle.sms_tpdu.specs.declared.submit.validity.ValidityFormat.TheVariants.{Absent, Relative, Enhanced, Absolute}
 
--- by bits 4 and 3 of the first octet
+-- TP-VPF, by bits 4 and 3 of the first octet
 abbrev pub validity_format : Bool → Bool → ValidityFormat
 validity_format false false = Absent
 validity_format true false = Relative
@@ -26,12 +26,15 @@ format_bits Absolute = (true, true)
 unfoldable pub validity : ValidityFormat → Field Validity UnitFault
 validity Absent = always period.Absent
 validity Relative = do
+  -- TP-VP: one octet
   value ← octet Short
   always (period.Relative value)
 validity Enhanced = do
+  -- TP-VP: seven octets
   values ← octets_of Short 7
   always (period.Enhanced values)
 validity Absolute = do
+  -- TP-VP: a stamp
   end ← stamp Short
   always (period.Absolute end)
 

@@ -1,5 +1,5 @@
 -- A validity period is a lawful field, and what is written is read back.
-use Rattle.std.proofs.Common.{ℕ, List, [], ◌∷◌, refl, sym}
+use Rattle.std.proofs.Common.{ℕ, List, [], ◌∷◌, refl}
 use Rattle.sms_text.specs.Octets.{IsOctets}
 use Rattle.sms_field.specs.Field.{IsLawful, IsSelfContained}
 use Rattle.sms_field.specs.ChainReading.{ended}

@@ -4,10 +4,12 @@ use Rattle.std.specs.List.{flat_map}
 use Rattle.sms_tpdu.specs.declared.user_data.elements.HeaderElement.{HeaderElement}
 
 pub record Element : Type 0 where
+  -- IEI
   pub identifier : ℕ
+  -- IED, whose length is IEDL
   pub octets : List ℕ
 
--- the identifier, the length, the octets
+-- IEI, IEDL, IED
 abbrev pub element_octets : Element → List ℕ
 element_octets e = e.identifier ∷ length e.octets ∷ e.octets
 
@@ -21,7 +23,7 @@ AreElements header elements =
     Spells elements header
     ⊎ ((elements ≡ []) × ((others : List Element) → Spells others header → ⊥))
 
--- Octets that whole elements spell.
+-- octets that whole elements spell
 pub record AreWhole (left : List ℕ) : Type 0 where
   pub elements : List Element
   pub spelled : Spells elements left
@@ -32,7 +34,7 @@ pub record StartsAt (header left : List ℕ) : Type 0 where
   pub are : AreElements header elements
   pub spelled : Spells elements left
 
--- The elements of a header that are left, and one of them where it lies (3GPP TS 23.040, 9.2.3.24).
+-- an element where it lies, as an element
 abbrev pub seen_element : HeaderElement → Element
 seen_element e = record { identifier = e.identifier; octets = e.octets.now }
 

@@ -10,10 +10,11 @@ use Rattle.sms_text.specs.Octets.{IsOctets}
 abbrev pub IsHeader : List ℕ → Type 0
 IsHeader octets = (length octets ≤ 139) × IsOctets octets
 
--- a length octet above 139 is too long
 unfoldable pub header : Field (List ℕ) UnitFault
 header = do
+  -- UDHL; above 139: HeaderTooLong
   size ← octet_by Short (up_to 139 HeaderTooLong)
+  -- the information elements
   octets_of Short size
 
 -- how a header is written

@@ -1,7 +1,6 @@
 -- A header is a lawful field, and what is written is read back.
-use Rattle.std.proofs.Common.{◌≡◌, ℕ, ◌≤◌, leb, List, [], ◌∷◌, ◌++◌, length, Ok, refl, sym, subst, lit<, arith}
+use Rattle.std.proofs.Common.{◌≡◌, ℕ, ◌≤◌, leb, List, [], ◌∷◌, length, Ok, refl, lit<, arith}
 use Rattle.std.proofs.lemmas.Bool.{le-leb}
-use Rattle.sms_text.specs.Octets.{IsOctets}
 use Rattle.sms_field.specs.Field.{IsLawful}
 use Rattle.sms_field.specs.Address.{up_to}
 use Rattle.sms_field.specs.ChainLaws.{chain_lawful}

@@ -1,7 +1,7 @@
 -- User data are a lawful field, and what is written is read back.
 use Rattle.std.proofs.Common.{◌≡◌, ℕ, suc, ◌+◌, ◌-◌, ◌*◌, ◌/◌, ◌<◌, ◌≤◌, Bool, true, false, cond, leb, List, [], ◌∷◌, ◌++◌, length, replicate, Option, Some, None, is_some, Result, Ok, Err, refl, sym, ap, subst, arith, lit<, length-append}
 use Rattle.std.proofs.lemmas.Bool.{le-leb}
-use Rattle.std.proofs.lemmas.List.{append-nil, length-replicate}
+use Rattle.std.proofs.lemmas.List.{length-replicate}
 use Rattle.sms_text.specs.Bits.{PackedPlain, AreSeptets, septet_bits}
 use Rattle.sms_text.specs.PackingLaws.{unpacked-packed, plain_is_packed, length-octet_bits, length-septet_bits}
 use Rattle.sms_text.specs.Octets.{IsOctets}

@@ -38,9 +38,9 @@ abbrev pub SeptetsHaveRoom : ℕ → List ℕ → Type 0
 SeptetsHaveRoom taken septets =
     (length_of_header Gsm7 taken + length septets ≤ 160) × AreSeptets septets
 
-abbrev pub WideHaveRoom : ℕ → List ℕ → Type 0
-WideHaveRoom taken units = taken + 2 * length units ≤ 140
+abbrev pub Ucs2HaveRoom : ℕ → List ℕ → Type 0
+Ucs2HaveRoom taken units = taken + 2 * length units ≤ 140
 
 abbrev pub HasRoom : ℕ → UnitsView → Type 0
 HasRoom taken (Gsm septets) = SeptetsHaveRoom taken septets.now
-HasRoom taken (Ucs2 units) = WideHaveRoom taken units.now
+HasRoom taken (Ucs2 units) = Ucs2HaveRoom taken units.now

@@ -16,7 +16,7 @@ use sms_field::{AddressView, Cursor, Fault, Stamp, alphabet_of};
 use std::alloc::{AllocError, Global};
 use std::marker::Model;
 
-/// A message on its way to a phone, in its octets. Contracts see it as the message.
+/// An SMS-DELIVER where it lies in its octets. Contracts see it as the message.
 #[derive(Drop)]
 pub struct DeliverView<'a> {
     /// TP-MMS: more messages wait in the service centre.

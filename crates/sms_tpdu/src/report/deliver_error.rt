@@ -14,7 +14,7 @@ use sms_field::{Cursor, Refusal};
 use std::alloc::{AllocError, Global};
 use std::marker::Model;
 
-/// That a delivery was refused (TS 23.040, 9.2.2.1a).
+/// SMS-DELIVER-REPORT for RP-ERROR: the phone has refused a delivery (TS 23.040, 9.2.2.1a).
 #[derive(Drop)]
 pub struct DeliverError {
     /// TP-UDHI: the data begin with a header.

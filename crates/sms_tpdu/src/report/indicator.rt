@@ -9,14 +9,14 @@ ghost use Rattle.sms_tpdu.specs.declared.fault.UnitFault.TheVariants.{Short};
 use crate::fault::UnitFault;
 use sms_field::{Cursor, Fault, bit_weight, has_bit};
 
-/// Which parts of a report are there (TS 23.040, 9.2.3.27).
+/// TP-PI: which parts of a report are there (TS 23.040, 9.2.3.27).
 #[derive(Clone, Copy)]
 pub struct Indicator {
-    /// TP-PID.
+    /// Bit 0: TP-PID is there.
     pub pid: bool,
-    /// TP-DCS.
+    /// Bit 1: TP-DCS is there.
     pub dcs: bool,
-    /// TP-UDL and TP-UD.
+    /// Bit 2: TP-UDL and TP-UD are there.
     pub user: bool,
 }
 

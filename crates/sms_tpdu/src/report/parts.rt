@@ -1,13 +1,11 @@
 //! The data of a report and the parts that are not always there, where they lie.
 
-ghost use Rattle.std.specs.Prelude.{◌≡◌, ◌≤◌, length, IfOk, IfSome};
-ghost use Rattle.sms_field.specs.Field.{octet, octet_by};
+ghost use Rattle.std.specs.Prelude.{◌≡◌, ◌≤◌, length, None, IfOk, IsOk, IfSome};
 ghost use Rattle.sms_field.specs.Answer.{Sees};
 ghost use Rattle.sms_tpdu.specs.UserData.Lengths as lengths;
 ghost use Rattle.sms_tpdu.specs.Report as formats;
 ghost use Rattle.sms_field.specs.Optional.{part_if};
 ghost use Rattle.sms_tpdu.specs.Report.{report_data, IsReportData, AreParts};
-ghost use Rattle.sms_tpdu.specs.declared.fault.UnitFault.TheVariants.{Short};
 
 use crate::fault::UnitFault;
 use crate::report::ReportData;
@@ -66,19 +64,13 @@ fn report_alphabet(dcs: Option<u8>) -> Alphabet
     }
 }
 
-/// The length of a report's data.
-fn report_length_at(input: &mut Cursor, alphabet: Alphabet) -> Result<u8, Fault<UnitFault>>
+/// The length of a report's data, where they are not too long.
+fn report_length(alphabet: Alphabet, count: u8) -> Result<u8, UnitFault>
     ensures few { IfOk result (λ count. lengths.octets_of_length alphabet count ≤ 159) }
-    ensures read { Sees (octet_by Short (formats.report_length alphabet))
-        input.old result input.new }
+    ensures is { result ≡ formats.report_length alphabet count }
 {
-    let place = input.place();
-    let count = input.take_octet()?;
     if octets_of_length(alphabet, count) > DATA_MAX {
-        return Err(Fault {
-            place,
-            why: UnitFault::DataTooLong,
-        });
+        return Err(UnitFault::DataTooLong);
     }
     Ok(count)
 }
@@ -105,21 +97,9 @@ fn report_data_seen_at<'a>(
     ensures fits { IfOk result (IsReportData alphabet) }
     ensures read { Sees (report_data alphabet) input.old result input.new }
 {
-    let count = report_length_at(input, alphabet)?;
+    let count = input.take_octet_by(|count| report_length(alphabet, count))?;
     let octets = input.take_octets(octets_of_length(alphabet, count))?;
     Ok(data_seen(alphabet, count, octets))
-}
-
-/// An octet, where it is there.
-fn octet_if(input: &mut Cursor, there: bool) -> Result<Option<u8>, Fault<UnitFault>>
-    ensures { Sees (part_if there (octet Short)) input.old result input.new }
-{
-    if there {
-        let octet = input.take_octet()?;
-        Ok(Some(octet))
-    } else {
-        Ok(None)
-    }
 }
 
 /// The data of a report, where they are there.
@@ -149,8 +129,8 @@ impl<'a> PartsView<'a> {
         ensures fit { IfOk result AreParts }
         ensures read { Sees (formats.parts there) input.old result input.new }
     {
-        let pid = octet_if(input, there.pid)?;
-        let dcs = octet_if(input, there.dcs)?;
+        let pid = input.take_octet_if(there.pid)?;
+        let dcs = input.take_octet_if(there.dcs)?;
         let user = report_data_seen_if(input, there.user, report_alphabet(dcs))?;
         Ok(PartsView { pid, dcs, user })
     }
@@ -161,7 +141,8 @@ pub fn data_of(
     alloc: Global,
     view: &Option<ReportDataView<'_>>,
 ) -> Result<Option<ReportData>, AllocError>
-    ensures { IfOk result (λ user. user ≡ view.now) }
+    ensures same { IfOk result (λ user. user ≡ view.now) }
+    ensures none { view.now ≡ None → IsOk result }
 {
     match view {
         Some(user) => {

@@ -14,7 +14,7 @@ use sms_field::{Cursor, Refusal, Stamp};
 use std::alloc::{AllocError, Global};
 use std::marker::Model;
 
-/// That a submission was accepted (TS 23.040, 9.2.2.2a).
+/// SMS-SUBMIT-REPORT for RP-ACK: the service centre has taken a submission (TS 23.040, 9.2.2.2a).
 #[derive(Drop)]
 pub struct SubmitAck {
     /// TP-UDHI: the data begin with a header.

@@ -14,7 +14,8 @@ use sms_field::{Cursor, Refusal, Stamp};
 use std::alloc::{AllocError, Global};
 use std::marker::Model;
 
-/// That a submission was refused (TS 23.040, 9.2.2.2a).
+/// SMS-SUBMIT-REPORT for RP-ERROR: the service centre has refused a submission (TS 23.040,
+/// 9.2.2.2a).
 #[derive(Drop)]
 pub struct SubmitError {
     /// TP-UDHI: the data begin with a header.

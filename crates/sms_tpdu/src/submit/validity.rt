@@ -12,16 +12,17 @@ use crate::fault::UnitFault;
 use sms_field::{Cursor, Fault, Stamp, Validity};
 use std::alloc::AllocError;
 
-/// How a submission gives its validity period (TS 23.040, 9.2.3.3).
+/// TP-VPF: how a submission gives its validity period (TS 23.040, 9.2.3.3). The bits are 4 and 3 of
+/// the first octet.
 #[derive(Clone, Copy, Debug, PartialEq, Eq)]
 pub enum ValidityFormat {
-    /// Not at all.
+    /// Bits 00: there is no TP-VP.
     Absent,
-    /// One octet.
+    /// Bits 10: TP-VP is one octet.
     Relative,
-    /// Seven octets in the enhanced format.
+    /// Bits 01: TP-VP is seven octets in the enhanced format.
     Enhanced,
-    /// A stamp.
+    /// Bits 11: TP-VP is a stamp.
     Absolute,
 }
 
@@ -63,18 +64,16 @@ impl ValidityFormat {
     }
 }
 
-/// The seven octets of an enhanced period.
+/// TP-VP of seven octets in the enhanced format.
 fn enhanced_at(input: &mut Cursor) -> Result<[u8; 7], Fault<UnitFault>>
     ensures in_range { IfOk result IsStamp }
     ensures read { Sees (octets_of Short 7) input.old result input.new }
 {
-    let octets = input.take_octets(7)?;
-    Ok([
-        octets[0], octets[1], octets[2], octets[3], octets[4], octets[5], octets[6],
-    ])
+    let stamp = Stamp::read_at(input)?;
+    Ok(stamp.octets())
 }
 
-/// A validity period in a format.
+/// TP-VP in a format.
 #[tactic(auto, unfolding(crate::specs::Submit::ValidityPeriod::validity))]
 pub fn validity_at(input: &mut Cursor, format: ValidityFormat) -> Result<Validity, Fault<UnitFault>>
     ensures in_range { IfOk result IsInRange }
@@ -97,7 +96,7 @@ pub fn validity_at(input: &mut Cursor, format: ValidityFormat) -> Result<Validit
     }
 }
 
-/// Adds the octets of a validity period.
+/// Adds the octets of TP-VP.
 pub fn put_validity(out: &mut Vec<u8>, period: &Validity) -> Result<(), AllocError>
     ensures { OnOk result (out.new.items ≡ out.old.items ++ validity_octets period.now) }
 {

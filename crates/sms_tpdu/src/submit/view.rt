@@ -17,7 +17,7 @@ use sms_field::{AddressView, Cursor, Fault, Validity, alphabet_of};
 use std::alloc::{AllocError, Global};
 use std::marker::Model;
 
-/// A message on its way from a phone, in its octets. Contracts see it as the message.
+/// An SMS-SUBMIT where it lies in its octets. Contracts see it as the message.
 #[derive(Drop)]
 pub struct SubmitView<'a> {
     /// TP-RD: a repeat is to be rejected.

@@ -145,7 +145,7 @@ fn told_by(identifier: u8, octets: &[u8]) -> Option<Concat>
         },
         (8, [high, low, maximum, sequence]) => Concat {
             width: Width::Sixteen,
-            reference: 256 * *high as u16 + *low as u16,
+            reference: u16::from_be_bytes([*high, *low]),
             maximum: *maximum,
             sequence: *sequence,
         },

@@ -20,18 +20,19 @@ pub fn octets_of_length(alphabet: Alphabet, count: u8) -> usize
     ensures { result ≡ lengths.octets_of_length alphabet count }
 {
     match alphabet {
-        Alphabet::Gsm7 => (7 * count as usize + 7) / 8,
+        Alphabet::Gsm7 => (7 * count as usize).div_ceil(8),
         _ => count as usize,
     }
 }
 
-/// How much of TP-UDL a header takes, from its octets with their length octet.
+/// How much of TP-UDL a header takes, from its octets with their length octet. `octets` is at most
+/// 256.
 pub fn length_of_header(alphabet: Alphabet, octets: usize) -> usize
     requires { octets ≤ 256 }
     ensures { result ≡ lengths.length_of_header alphabet octets }
 {
     match alphabet {
-        Alphabet::Gsm7 => (8 * octets + 6) / 7,
+        Alphabet::Gsm7 => (8 * octets).div_ceil(7),
         _ => octets,
     }
 }

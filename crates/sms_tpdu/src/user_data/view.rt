@@ -1,13 +1,11 @@
 //! User data seen in a unit's octets: a header, and septets or octets.
 
 ghost use Rattle.std.specs.Prelude.{true, false, ◌≡◌, ◌+◌, ◌-◌, ◌≤◌, length, Some, None, IfOk};
-ghost use Rattle.sms_field.specs.Field.{octet_by};
 ghost use Rattle.sms_field.specs.Answer.{Sees};
 ghost use Rattle.sms_tpdu.specs.UserData as formats;
-ghost use Rattle.sms_tpdu.specs.UserData.{FitsAlphabet, user_data, length_in};
+ghost use Rattle.sms_tpdu.specs.UserData.{FitsAlphabet, header_octets, user_data, length_in};
 ghost use Rattle.sms_tpdu.specs.UserData.Lengths as lengths;
 ghost use Rattle.sms_tpdu.specs.UserData.Seen.{user_data_in};
-ghost use Rattle.sms_tpdu.specs.declared.fault.UnitFault.TheVariants.{Short};
 
 pub mod body;
 pub mod header;
@@ -82,48 +80,26 @@ fn header_and_body_seen<'a>(
 }
 
 /// The length of user data with a header.
-fn length_with_header_seen_at(
-    input: &mut Cursor,
-    alphabet: Alphabet,
-) -> Result<u8, Fault<UnitFault>>
+fn length_with_header(alphabet: Alphabet, count: u8) -> Result<u8, UnitFault>
     ensures few { IfOk result (λ count. count ≤ lengths.greatest_length alphabet) }
-    ensures read { Sees (octet_by Short (formats.length_with_header alphabet))
-        input.old result input.new }
+    ensures is { result ≡ formats.length_with_header alphabet count }
 {
-    let place = input.place();
-    let count = input.take_octet()?;
     if count as usize > greatest_length(alphabet) {
-        return Err(Fault {
-            place,
-            why: UnitFault::DataTooLong,
-        });
+        return Err(UnitFault::DataTooLong);
     }
     if length_of_header(alphabet, 1) > count as usize {
-        return Err(Fault {
-            place,
-            why: UnitFault::HeaderTooLong,
-        });
+        return Err(UnitFault::HeaderTooLong);
     }
     Ok(count)
 }
 
 /// The length octet of a header, in user data of a length.
-fn header_length_seen_at(
-    input: &mut Cursor,
-    alphabet: Alphabet,
-    count: u8,
-) -> Result<u8, Fault<UnitFault>>
+fn header_length(alphabet: Alphabet, count: u8, size: u8) -> Result<u8, UnitFault>
     ensures room { IfOk result (λ size. lengths.length_of_header alphabet (size + 1) ≤ count) }
-    ensures read { Sees (octet_by Short (formats.header_length alphabet count))
-        input.old result input.new }
+    ensures is { result ≡ formats.header_length alphabet count size }
 {
-    let place = input.place();
-    let size = input.take_octet()?;
     if length_of_header(alphabet, size as usize + 1) > count as usize {
-        return Err(Fault {
-            place,
-            why: UnitFault::HeaderTooLong,
-        });
+        return Err(UnitFault::HeaderTooLong);
     }
     Ok(size)
 }
@@ -152,8 +128,8 @@ fn header_and_body_seen_at<'a>(
     ensures fits { IfOk result (FitsAlphabet alphabet) }
     ensures read { Sees (user_data true alphabet) input.old result input.new }
 {
-    let count = length_with_header_seen_at(input, alphabet)?;
-    let size = header_length_seen_at(input, alphabet, count)?;
+    let count = input.take_octet_by(|count| length_with_header(alphabet, count))?;
+    let size = input.take_octet_by(|size| header_length(alphabet, count, size))?;
     let header = input.take_octets(usize::from(size))?;
     let octets = input.take_octets(octets_of_length(alphabet, count) - (usize::from(size) + 1))?;
     Ok(header_and_body_seen(header, alphabet, count, octets))
@@ -178,25 +154,26 @@ impl<'a> UserDataView<'a> {
         }
     }
 
+    /// How many octets the header takes, with its length octet; 0 where there is none.
+    fn taken(&self) -> usize
+        ensures { result ≡ length (header_octets self.now.header) }
+    {
+        match &self.header {
+            Some(header) => header.as_slice().len() + 1,
+            None => 0,
+        }
+    }
+
     /// The user data themselves.
     pub fn to_value(&self, alloc: Global) -> Result<UserData, AllocError>
         ensures { IfOk result (λ user. user ≡ self.now) }
     {
-        match &self.header {
-            Some(header) => {
-                let taken = header.as_slice().len() + 1;
-                let body = body_from(alloc, self.alphabet, taken, self.count, self.octets)?;
-                let header = header.to_value(alloc)?;
-                Ok(UserData {
-                    header: Some(header),
-                    body,
-                })
-            }
-            None => {
-                let body = body_from(alloc, self.alphabet, 0, self.count, self.octets)?;
-                Ok(UserData { header: None, body })
-            }
-        }
+        let body = body_from(alloc, self.alphabet, self.taken(), self.count, self.octets)?;
+        let header = match &self.header {
+            Some(header) => Some(header.to_value(alloc)?),
+            None => None,
+        };
+        Ok(UserData { header, body })
     }
 
     /// TP-UDL: how many septets there are under the 7-bit alphabet, else how many octets. A header
@@ -220,10 +197,7 @@ impl<'a> UserDataView<'a> {
     {
         match self.alphabet {
             Alphabet::Gsm7 => {
-                let taken = match &self.header {
-                    Some(header) => header.as_slice().len() + 1,
-                    None => 0,
-                };
+                let taken = self.taken();
                 BodyView::Septets(SeptetsView {
                     octets: self.octets,
                     fill: fill_bits(taken),

@@ -5,7 +5,7 @@ ghost use Rattle.sms_field.specs.declared.coding.Alphabet.{Alphabet};
 ghost use Rattle.sms_field.specs.declared.coding.Alphabet.TheVariants.{Gsm7};
 ghost use Rattle.sms_tpdu.specs.UserData.{header_octets, FitsAlphabet, SpellsBody, SpellsUserData};
 ghost use Rattle.sms_tpdu.specs.UserData.Lengths as lengths;
-ghost use Rattle.sms_tpdu.specs.UserData.Lent.{place_header, units_body, user_after, SeptetsHaveRoom, WideHaveRoom, HasRoom, IsReferenceInRange};
+ghost use Rattle.sms_tpdu.specs.UserData.Lent.{place_header, units_body, user_after, SeptetsHaveRoom, Ucs2HaveRoom, HasRoom, IsReferenceInRange};
 ghost use Rattle.sms_tpdu.specs.declared.user_data.body.Body.TheVariants as body;
 ghost use Rattle.sms_text.specs.Bits.{AreSeptets};
 ghost use Rattle.sms_text.specs.Utf16.{octets_high_first};
@@ -17,7 +17,7 @@ use crate::user_data::header::{Header, put_element};
 use crate::user_data::lengths::{fill_bits, length_of_header};
 use crate::user_data::lent::UnitsView;
 use sms_field::Alphabet;
-use sms_text::{pack_into, put_units};
+use sms_text::{pack_into, put_units, room_for_septets};
 use std::alloc::{AllocError, Global};
 
 /// How many octets a header has, with its length octet; 0 where there is none.
@@ -38,10 +38,7 @@ fn room_for_body(body: &Body) -> usize
     ensures few { result ≤ 2 ^ 63 }
 {
     match body {
-        Body::Septets(septets) => {
-            let count = septets.as_slice().len();
-            count - count / 8 + 1
-        }
+        Body::Septets(septets) => { room_for_septets(septets.as_slice().len()) }
         Body::Octets(octets) => octets.as_slice().len(),
     }
 }
@@ -141,8 +138,7 @@ fn write_septets(
         (user_after place (body.Septets septets.now)) octets.items) }
 {
     let taken = octets_of_place(place);
-    let count = septets.len();
-    let mut out = Vec::with_capacity(alloc, 1 + taken + count - count / 8 + 1)?;
+    let mut out = Vec::with_capacity(alloc, 1 + taken + room_for_septets(septets.len()))?;
     out.push(length_of_septets(taken, septets))?;
     put_place(&mut out, place)?;
     put_septets(&mut out, taken, septets)?;
@@ -150,9 +146,9 @@ fn write_septets(
 }
 
 /// The octets of user data with 16-bit units that are lent.
-fn write_wide(alloc: Global, place: Option<Concat>, units: &[u16]) -> Result<Vec<u8>, AllocError>
+fn write_ucs2(alloc: Global, place: Option<Concat>, units: &[u16]) -> Result<Vec<u8>, AllocError>
     requires reference { IfSome place IsReferenceInRange }
-    requires room { WideHaveRoom (length (header_octets (place_header place))) units.now }
+    requires room { Ucs2HaveRoom (length (header_octets (place_header place))) units.now }
     ensures { IfOk result (λ octets. SpellsUserData
         (user_after place (body.Octets (octets_high_first units.now))) octets.items) }
 {
@@ -166,6 +162,9 @@ fn write_wide(alloc: Global, place: Option<Concat>, units: &[u16]) -> Result<Vec
 
 /// The octets of user data whose units are lent: their length, the header of the place, where one
 /// is given, and the units packed straight after it (3GPP TS 23.040, 9.2.3.24.1 and 9.2.3.24.8).
+///
+/// They have at most 160 septets, those that the header takes among them, or 140 octets. With
+/// `Width::Eight` the reference is below 256.
 pub fn write_units(
     alloc: Global,
     place: Option<Concat>,
@@ -178,13 +177,15 @@ pub fn write_units(
 {
     match units {
         UnitsView::Gsm(septets) => write_septets(alloc, place, septets),
-        UnitsView::Ucs2(units) => write_wide(alloc, place, units),
+        UnitsView::Ucs2(units) => write_ucs2(alloc, place, units),
     }
 }
 
 impl UserData {
-    /// The octets of the user data in a unit: their length, TP-UDL, and then the data, TP-UD (TS 23.040, 9.2.3.16 and
-    /// 9.2.3.24).
+    /// The octets of the user data in a unit: their length, TP-UDL, and then the data, TP-UD (TS
+    /// 23.040, 9.2.3.16 and 9.2.3.24).
+    ///
+    /// They have at most 160 septets, those that the header takes among them, or 140 octets.
     pub fn write(&self, alloc: Global) -> Result<Vec<u8>, AllocError>
         requires { (alphabet : Alphabet) × FitsAlphabet alphabet self.now }
         ensures { IfOk result (λ octets. SpellsUserData self.now octets.items) }

@@ -2,10 +2,6 @@ use Rattle.std.proofs.Common.{rules}
 use Rattle.sms_relay.specs.RpUserData.{user_data}
 use Rattle.sms_relay.proofs.user.user_data_at.Goals as goal
 
-pub returns-in_err-octets-clause-read : goal.returns-in_err-octets-clause-read
-unfolding user_data
-returns-in_err-octets-clause-read c = search rules
-
 pub returns-clause-fits : goal.returns-clause-fits
 returns-clause-fits c = search rules
 

@@ -16,7 +16,7 @@ use sms_field::{Cursor, Fault, Stamp};
 use std::alloc::{AllocError, Global};
 use std::marker::Model;
 
-/// That a submission was refused, in the octets of the report. Contracts see it as the report.
+/// An SMS-SUBMIT-REPORT for RP-ERROR where it lies in its octets. Contracts see it as the report.
 #[derive(Drop)]
 pub struct SubmitErrorView<'a> {
     /// TP-UDHI: the data begin with a header.

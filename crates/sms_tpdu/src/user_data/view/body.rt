@@ -1,6 +1,6 @@
 //! What user data carry, where it lies in a unit's octets: packed septets, or octets.
 
-ghost use Rattle.std.specs.Prelude.{◌≡◌, ◌+◌, ◌-◌, ◌*◌, ◌≤◌, ◌<◌, length, slice_index, IfOk, MatchOption};
+ghost use Rattle.std.specs.Prelude.{◌≡◌, ◌+◌, ◌-◌, ◌*◌, ◌≤◌, ◌<◌, length, slice_index, None, IfOk, IsOk, MatchOption};
 ghost use Rattle.sms_text.specs.Bits.{unpacked};
 ghost use Rattle.sms_text.specs.Octets.{IsOctets};
 ghost use Rattle.sms_tpdu.specs.UserData.{BodyFits, body_of};
@@ -53,8 +53,7 @@ impl<'a> OctetsView<'a> {
         ensures same { IfOk result (λ copy. copy ≡ self.now) }
         ensures octets { IfOk result IsOctets }
     {
-        let copy = Octets::from_slice(alloc, self.octets)?;
-        Ok(copy)
+        Octets::from_slice(alloc, self.octets)
     }
 
     /// A copy of the octets, where there are any.
@@ -62,7 +61,8 @@ impl<'a> OctetsView<'a> {
         alloc: Global,
         view: &Option<OctetsView<'_>>,
     ) -> Result<Option<Octets>, AllocError>
-        ensures { IfOk result (λ copy. copy ≡ view.now) }
+        ensures same { IfOk result (λ copy. copy ≡ view.now) }
+        ensures none { view.now ≡ None → IsOk result }
     {
         match view {
             Some(view) => Ok(Some(view.to_value(alloc)?)),
@@ -117,10 +117,7 @@ impl<'a> SeptetsView<'a> {
         if index >= self.count {
             return None;
         }
-        let Some(septet) = septet_at(self.octets, self.fill, index) else {
-            return None;
-        };
-        Some(septet)
+        septet_at(self.octets, self.fill, index)
     }
 }
 
@@ -153,6 +150,6 @@ pub fn body_from(
                 None => unreachable!(),
             }
         }
-        _ => Ok(Body::Octets(Octets::new(Vec::from_slice(alloc, octets)?))),
+        _ => Ok(Body::Octets(Octets::from_slice(alloc, octets)?)),
     }
 }

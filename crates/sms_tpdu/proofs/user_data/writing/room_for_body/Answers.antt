@@ -14,7 +14,7 @@ room_of_octets : (taken : ℕ) (octets written : List ℕ) → SpellsBody taken 
 room_of_octets taken octets written spelled = omega (arith, ap length spelled)
 
 pub returns-in-Septets-clause-enough : goal.returns-in-Septets-clause-enough
-returns-in-Septets-clause-enough c = λ taken written spelled. rw c.as_slice-count.ensures.same (room_of_septets taken c.in-Septets.septets written (rw c.in-Septets.is at spelled))
+returns-in-Septets-clause-enough c = λ taken written spelled. rw (c.room_for_septets.ensures, c.as_slice.ensures.same) (room_of_septets taken c.in-Septets.septets written (rw c.in-Septets.is at spelled))
 
 pub returns-in-Octets-clause-enough : goal.returns-in-Octets-clause-enough
-returns-in-Octets-clause-enough c = λ taken written spelled. rw c.as_slice.ensures (room_of_octets taken c.in-Octets.octets written (rw c.in-Octets.is at spelled))
+returns-in-Octets-clause-enough c = λ taken written spelled. rw c.as_slice-in-Octets.ensures (room_of_octets taken c.in-Octets.octets written (rw c.in-Octets.is at spelled))

@@ -12,5 +12,5 @@ returns-in-Some-clause-fits c =
 
 pub returns-in_ok-from_slice-in_default : goal.returns-in_ok-from_slice-in_default
 returns-in_ok-from_slice-in_default c =
-    let h = octets_fit c.args.alphabet c.args.taken c.args.count c.args.octets.now c.new-in_default.result c.in_default.not-Gsm7 c.requires.few c.requires.room c.requires.octets (octets_are c.args.octets.now (λ i. omega (arith, c.type_inv.octets i))) (c.new-in_default.ensures ∙ c.in_ok-from_slice-in_default.ensures.items) in
+    let h = octets_fit c.args.alphabet c.args.taken c.args.count c.args.octets.now _ c.in_default.not-Gsm7 c.requires.few c.requires.room c.requires.octets (octets_are c.args.octets.now (λ i. omega (arith, c.type_inv.octets i))) c.in_ok-from_slice-in_default.ensures.same in
     record { is = h.0; fits = h.1 }

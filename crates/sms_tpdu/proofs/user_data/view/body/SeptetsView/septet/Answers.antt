@@ -1,17 +1,20 @@
-use Rattle.std.proofs.Common.{◌<◌, length, sym, ap, arith, ◌∙◌}
+use Rattle.std.proofs.Common.{◌<◌, length, Option, Some, None, MatchOption, sym, ap, arith, ◌∙◌}
 use Rattle.sms_text.specs.PackingLaws.{septet_in, unpacked_septets}
 use Rattle.sms_tpdu.proofs.user_data.view.body.SeptetsView.septet.Goals as goal
+
+by_match : {T : Type 0} (o : Option T) (P R : Type 0) (Q S : T → Type 0) → MatchOption o P Q → (P → R) → ((x : T) → Q x → S x) → MatchOption o R S
+by_match None P R Q S h f g = f h
+by_match (Some x) P R Q S h f g = g x h
 
 pub returns-then-index-self : goal.returns-then-index-self
 returns-then-index-self c =
     let h = unpacked_septets c.self.inside.fill c.self.inside.count c.self.inside.octets.now in
     omega (arith, h.1, ap length c.self.view_is, c.if-index-self.true)
 
-pub returns-in_default : goal.returns-in_default
-returns-in_default c = absurd (omega (arith, c.in_default.ensures, c.self.invariant.1, c.if-index-self.false))
-
 pub returns : goal.returns
 returns c =
     let h = unpacked_septets c.self.inside.fill c.self.inside.count c.self.inside.octets.now in
     let below : c.args.index < c.self.inside.count = omega (arith, c.if-index-self.false) in
-    rw (← c.self.view_is) (omega (arith, h.1, below), c.in-Some.ensures ∙ sym (septet_in c.self.inside.fill c.self.inside.count c.args.index c.self.inside.octets.now below))
+    rw (← c.self.view_is) (by_match c.septet_at.result _ _ _ _ c.septet_at.ensures
+    (λ few. absurd (omega (arith, few, c.self.invariant.1, below)))
+    (λ septet is. (omega (arith, h.1, below), is ∙ sym (septet_in c.self.inside.fill c.self.inside.count c.args.index c.self.inside.octets.now below))))

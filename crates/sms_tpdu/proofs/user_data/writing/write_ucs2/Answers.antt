@@ -3,7 +3,7 @@ use Rattle.sms_text.specs.Utf16.{octets_high_first}
 use Rattle.sms_text.specs.Utf16Laws.{length-octets_high_first}
 use Rattle.sms_tpdu.specs.UserData.{header_octets}
 use Rattle.sms_tpdu.specs.UserData.Lent.{place_header}
-use Rattle.sms_tpdu.proofs.user_data.writing.write_wide.Goals as goal
+use Rattle.sms_tpdu.proofs.user_data.writing.write_ucs2.Goals as goal
 
 pub returns : goal.returns
 returns c =
