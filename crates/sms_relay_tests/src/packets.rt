@@ -485,7 +485,7 @@ fn wraps_an_acknowledgement_without_a_unit(rt: HostRuntime) -> Result<(), Fail> 
     Ok(())
 }
 
-/// A CP message whose user data have so many octets, with three octets before them.
+/// A CP message with as many octets of user data as asked for, and three octets before them.
 fn long(alloc: Global, count: u8) -> Result<Vec<u8>, Fail> {
     let mut octets = Vec::from_slice(alloc, &[0x09, 0x01, count])?;
     octets.extend_from_slice(&[7; 255][..usize::from(count)])?;

@@ -29,7 +29,8 @@ abbrev pub header_octets : Option (List ℕ) → List ℕ
 header_octets None = []
 header_octets (Some header) = length header ∷ header
 
--- ---- the user data go with a coding scheme: septets exactly under the 7-bit alphabet, and header and body not too long
+-- ---- the user data go with a coding scheme: septets exactly under the 7-bit alphabet, and header
+-- and body not too long
 
 abbrev pub BodyFits : Alphabet → ℕ → Body → Type 0
 BodyFits Gsm7 taken (body.Septets septets) =

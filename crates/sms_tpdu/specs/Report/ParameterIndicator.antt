@@ -6,7 +6,8 @@ use Rattle.sms_tpdu.specs.declared.report.indicator.Indicator.{Indicator}
 use Rattle.sms_tpdu.specs.declared.fault.UnitFault.{UnitFault}
 use Rattle.sms_tpdu.specs.declared.fault.UnitFault.TheVariants.{Short}
 
--- ---- while bit 7 of an octet, the extension bit, is 1 another one follows: further octets are skipped, whatever else they hold
+-- ---- while bit 7 of an octet, the extension bit, is 1 another one follows: further octets are
+-- skipped, whatever else they hold
 
 -- these are all that follow an octet whose bit 7 is known
 abbrev pub AreFurther : Bool → List ℕ → Type 0
@@ -26,7 +27,8 @@ further short more = record {
   read = further_at short more;
 }
 
--- ---- the first octet says which parts are there: bit 0 TP-PID, bit 1 TP-DCS, bit 2 TP-UDL and TP-UD
+-- ---- the first octet says which parts are there: bit 0 TP-PID, bit 1 TP-DCS, bit 2 TP-UDL and
+-- TP-UD
 
 abbrev pub indicated : ℕ → Indicator
 indicated octet = record { pid = bit 0 octet; dcs = bit 1 octet; user = bit 2 octet }
