@@ -1,5 +1,5 @@
 -- Open sets of which the old ones are dropped.
-use Rattle.std.proofs.Common.{◌≡◌, ℕ, ◌+◌, Bool, true, false, cond, not, leb, List, [], ◌∷◌, ◌++◌, refl, sym, ap, ◌∙◌, subst}
+use Rattle.std.proofs.Common.{◌≡◌, ℕ, ◌+◌, Bool, true, false, cond, not, ◌&&◌, leb, List, [], ◌∷◌, ◌++◌, refl, sym, ap, ◌∙◌, subst}
 use Rattle.std.proofs.lemmas.Bool.{or_parts}
 use Rattle.std.proofs.lemmas.List.{append_assoc}
 use Rattle.std.specs.List.{filter}
@@ -7,10 +7,11 @@ use Rattle.sms_join.specs.declared.key.Key.{Key}
 use Rattle.sms_join.specs.declared.units.Units.{Units}
 use Rattle.sms_join.specs.Key.{same_key, maximum_of}
 use Rattle.sms_join.specs.Piece.{Piece}
+use Rattle.sms_join.specs.Sets.{opened_at}
 use Rattle.sms_join.specs.Aging.{is_old, young}
 use Rattle.sms_join.specs.OpenSet.{SetValue, AreOpen, pieces_with, pieces_in, all_pieces, has_set}
 use Rattle.sms_join.proofs.Outcomes.{between}
-use Rattle.sms_join.proofs.OneSet.{opened_of}
+use Rattle.sms_join.proofs.OneSet.{open_of, opened_of}
 
 -- the set may stay open
 abbrev pub stays : ℕ → SetValue → Bool
@@ -55,7 +56,9 @@ young_sets old now (s ∷ ss) h =
 agree : (now : ℕ) (ls ss : List SetValue) → AreOpen (ls ++ ss) → Agree (is_old now (all_pieces (ls ++ ss))) now ss
 agree now ls [] o = tt
 agree now ls (s ∷ ss) o = (
-  (let b = between ls s ss o in ap (λ n. leb (n + 604800) now) (opened_of ls s ss b.before b.after b.open_set.is_set.as_many b.open_set.some)),
+  (let b = between ls s ss o in
+      ap (λ v. v && leb (opened_at (all_pieces (ls ++ s ∷ ss)) s.key + 604800) now) (open_of ls s ss b.open_set.is_set.as_many b.open_set.some)
+      ∙ ap (λ n. leb (n + 604800) now) (opened_of ls s ss b.before b.after b.open_set.is_set.as_many b.open_set.some)),
   subst (λ l. Agree (is_old now (all_pieces l)) now ss) same (agree now (ls ++ s ∷ []) ss (subst AreOpen (sym same) o)),
 )
   where

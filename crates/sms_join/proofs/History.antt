@@ -8,7 +8,8 @@ use Rattle.sms_join.specs.Sets.{has, has_all, is_open, opened_at, without, units
 use Rattle.sms_join.specs.Joiner.{Joiner, Answer, Repeat, Kept, Finished, TooManyOpen, is_among, answer, answered, offered, new_joiner, decided, is_repeat, is_whole, has_room}
 use Rattle.sms_join.specs.Aging.{is_old, young, aged}
 use Rattle.sms_join.specs.Acts.{Act, Brings, Ages, acted_all}
-use Rattle.sms_join.specs.History.{history, since, kept_since, after_finish, finished_keys, is_finish, FinishesByHistory}
+use Rattle.sms_join.specs.History.{history, since, kept_since, after_finish, finished_keys, FinishesByHistory}
+use Rattle.sms_join.specs.Finishing.{is_finished}
 use Rattle.sms_join.proofs.SameKeys.{same_key_true}
 use Rattle.sms_join.proofs.Sets.{has_all-same}
 
@@ -123,11 +124,14 @@ unfolding aged
 aged_tells open_max remembered os now j t =
     record {
       kept = λ k.
+          let open_same : is_open j.kept k ≡ is_open (kept_since (history open_max remembered os) k) k =
+          open-of_key j.kept k ∙ ap (λ l. is_open l k) (t.kept k) in
           let same : opened_at j.kept k ≡ opened_at (kept_since (history open_max remembered os) k) k =
           opened-of_key j.kept k ∙ ap (λ l. opened_at l k) (t.kept k) in
           of_key-young (is_old now j.kept) j.kept k
           ∙ (ap (λ l. cond (is_old now j.kept k) [] l) (t.kept k)
-          ∙ ap (λ n. cond (leb (n + 604800) now) [] (kept_since (history open_max remembered os) k)) same);
+          ∙ (ap (λ b. cond (b && leb (opened_at j.kept k + 604800) now) [] (kept_since (history open_max remembered os) k)) open_same
+          ∙ ap (λ n. cond (is_open (kept_since (history open_max remembered os) k) k && leb (n + 604800) now) [] (kept_since (history open_max remembered os) k)) same));
       finished = t.finished;
     }
 
@@ -145,11 +149,11 @@ tells open_max remembered (Brings o ∷ os) =
 tells open_max remembered (Ages now ∷ os) =
     aged_tells open_max remembered os now (acted_all open_max remembered new_joiner os) (tells open_max remembered os)
 
-finishes_if : (open_max : ℕ) (j : Joiner) (o : Piece) → is_finish (answer open_max j o) ≡ (not (is_repeat j o) && is_whole j o)
+finishes_if : (open_max : ℕ) (j : Joiner) (o : Piece) → is_finished (answer open_max j o) ≡ (not (is_repeat j o) && is_whole j o)
 unfolding answer decided
 finishes_if open_max j o = go (is_repeat j o) (is_whole j o) (has_room open_max j o)
   where
-    go : (p w r : Bool) → is_finish (decided p w r (units_upto (o ∷ j.kept) o.key o.maximum)) ≡ (not p && w)
+    go : (p w r : Bool) → is_finished (decided p w r (units_upto (o ∷ j.kept) o.key o.maximum)) ≡ (not p && w)
     go true w r = refl
     go false true r = refl
     go false false true = refl

@@ -133,6 +133,15 @@ older p ps k h = rw h (go (same_key p.key k))
     go true = refl
     go false = refl
 
+-- a set is open
+pub open_of : (ls : List SetValue) (s : SetValue) (rs : List SetValue)
+    → length s.units ≡ length s.sequences → 0 < length s.sequences → is_open (all_pieces (ls ++ s ∷ rs)) s.key ≡ true
+open_of ls s rs as_many some =
+    ap (λ l. is_open l s.key) (all-append ls (s ∷ rs))
+    ∙ (open-append (all_pieces ls) (pieces_in s ++ all_pieces rs) s.key
+    ∙ (ap (λ b. is_open (all_pieces ls) s.key || b) (open-append (pieces_in s) (all_pieces rs) s.key)
+    ∙ rw (own_open s.key s.opened s.sequences s.units as_many some) (or_right (is_open (all_pieces ls) s.key) true refl)))
+
 -- when a set was opened
 pub opened_of : (ls : List SetValue) (s : SetValue) (rs : List SetValue) → has_set ls s.key ≡ false → has_set rs s.key ≡ false
     → length s.units ≡ length s.sequences → 0 < length s.sequences → opened_at (all_pieces (ls ++ s ∷ rs)) s.key ≡ s.opened
@@ -194,11 +203,7 @@ module _ (ls : List SetValue) (s : SetValue) (rs : List SetValue) (before : has_
   set_opened = opened_of ls s rs before after o.as_many some
 
   pub set_is_open : is_open (all_pieces (ls ++ s ∷ rs)) s.key ≡ true
-  set_is_open =
-      ap (λ l. is_open l s.key) (all-append ls (s ∷ rs))
-      ∙ (open-append (all_pieces ls) (pieces_in s ++ all_pieces rs) s.key
-      ∙ (ap (λ b. is_open (all_pieces ls) s.key || b) (open-append (pieces_in s) (all_pieces rs) s.key)
-      ∙ rw (own_open s.key s.opened s.sequences s.units o.as_many some) (or_right (is_open (all_pieces ls) s.key) true refl)))
+  set_is_open = open_of ls s rs o.as_many some
 
   old_open : is_open ((all_pieces ls ++ front) ++ (back ++ all_pieces rs)) p.key ≡ true
   old_open = ap (λ l. is_open l p.key) (sym old_list) ∙ (ap (is_open (all_pieces (ls ++ s ∷ rs))) key ∙ set_is_open)

@@ -161,7 +161,9 @@ sets_stay_few = (offer_few, (λ now j. young_fewer (is_old now j.kept) j.kept))
 
 module _ (now : ℕ) (i j : Joiner) (h : IsSame i j) where
   old_same : (k : Key) → is_old now i.kept k ≡ is_old now j.kept k
-  old_same k = ap (λ n. leb (n + 604800) now) (h.moments k)
+  old_same k =
+      ap (λ b. b && leb (opened_at i.kept k + 604800) now) (h.opened k)
+      ∙ ap (λ n. is_open j.kept k && leb (n + 604800) now) (h.moments k)
 
   pieces_same : (k : Key) (n : ℕ) → has (young (is_old now i.kept) i.kept) k n ≡ has (young (is_old now j.kept) j.kept) k n
   pieces_same k n = go (is_old now i.kept k) refl

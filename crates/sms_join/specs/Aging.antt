@@ -1,14 +1,15 @@
 -- Open sets are dropped when they have been open for too long. Lists have the newest entry first.
-use Rattle.std.specs.Prelude.{◌≤◌, ℕ, ◌+◌, Bool, if◌then◌else◌, nat_le, List, [], ◌∷◌}
+use Rattle.std.specs.Prelude.{◌≤◌, ℕ, ◌+◌, Bool, ◌&&◌, if◌then◌else◌, nat_le, List, [], ◌∷◌}
 use Rattle.sms_join.specs.declared.key.Key.{Key}
 use Rattle.sms_join.specs.Piece.{Piece}
-use Rattle.sms_join.specs.Sets.{opened_at, open_sets}
+use Rattle.sms_join.specs.Sets.{is_open, opened_at, open_sets}
 use Rattle.sms_join.specs.Joiner.{Joiner, offered}
 use Rattle.sms_join.specs.Same.{IsSame}
 
--- The set was opened 604,800 seconds before this moment, which are seven days, or earlier.
+-- The set is open, and was opened 604,800 seconds before this moment, which are seven days, or
+-- earlier.
 abbrev pub is_old : ℕ → List Piece → Key → Bool
-is_old now ps k = nat_le (opened_at ps k + 604800) now
+is_old now ps k = is_open ps k && nat_le (opened_at ps k + 604800) now
 
 -- The pieces of the sets that are not old.
 abbrev pub young : (Key → Bool) → List Piece → List Piece

@@ -1,12 +1,13 @@
 -- Which offers of any list of offers and agings finish their set, told by the offers, their answers
 -- and the moments of the agings alone. All lists have the newest entry first.
-use Rattle.std.specs.Prelude.{◌≡◌, ℕ, Bool, true, false, not, ◌&&◌, if◌then◌else◌, List, [], ◌∷◌, take}
+use Rattle.std.specs.Prelude.{◌≡◌, ℕ, not, ◌&&◌, if◌then◌else◌, List, [], ◌∷◌, take}
 use Rattle.sms_join.specs.declared.key.Key.{Key}
 use Rattle.sms_join.specs.Key.{same_key}
 use Rattle.sms_join.specs.Piece.{Piece}
 use Rattle.sms_join.specs.Sets.{has, has_all}
 use Rattle.sms_join.specs.Joiner.{Answer, Repeat, Kept, Finished, TooManyOpen, is_among, answer, new_joiner}
 use Rattle.sms_join.specs.Aging.{is_old}
+use Rattle.sms_join.specs.Finishing.{is_finished}
 use Rattle.sms_join.specs.Acts.{Act, Brings, Ages, acted_all}
 
 -- What was offered to a new joiner, each with its answer, and when its sets aged.
@@ -42,19 +43,13 @@ finished_keys [] = []
 finished_keys (Brings e ∷ h) = after_finish e.1 e.0.key (finished_keys h)
 finished_keys (Ages now ∷ h) = finished_keys h
 
-abbrev pub is_finish : Answer → Bool
-is_finish Repeat = false
-is_finish Kept = false
-is_finish (Finished units) = true
-is_finish TooManyOpen = false
-
 -- An offer finishes its set just where its key is not among the last that finished, its sequence
 -- has not been kept since the key last finished or was dropped, and with it each sequence from 1 to
 -- the maximum has.
 abbrev pub FinishesByHistory : Type 0
 FinishesByHistory =
     (open_max remembered : ℕ) (acts : List (Act Piece)) (p : Piece)
-    → is_finish (answer open_max (acted_all open_max remembered new_joiner acts) p)
+    → is_finished (answer open_max (acted_all open_max remembered new_joiner acts) p)
     ≡ ((not (is_among (take remembered (finished_keys (history open_max remembered acts))) p.key)
     && not (has (kept_since (history open_max remembered acts) p.key) p.key p.sequence))
     && has_all (p ∷ kept_since (history open_max remembered acts) p.key) p.key p.maximum)

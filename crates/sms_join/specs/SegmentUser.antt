@@ -31,6 +31,11 @@ abbrev pub coding_of : Units → Coding
 coding_of (Gsm septets) = coding.Gsm7
 coding_of (Ucs2 units) = coding.Ucs2
 
+-- the coding scheme of the units: the default alphabet, or UCS-2 (3GPP TS 23.038, 4)
+abbrev pub dcs_of : Units → ℕ
+dcs_of (Gsm septets) = 0
+dcs_of (Ucs2 units) = 8
+
 abbrev pub body_of : Units → Body
 body_of (Gsm septets) = body.Septets septets
 body_of (Ucs2 units) = body.Octets (octets_high_first units)

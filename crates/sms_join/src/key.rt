@@ -2,7 +2,6 @@
 
 ghost use Rattle.std.specs.Prelude.{◌≡◌, IfOk};
 ghost use Rattle.sms_join.specs.Key.{same_key, maximum_of};
-ghost use Rattle.sms_field.specs.SameAddress.{same_address};
 ghost use Rattle.sms_join.specs.Piece.{key_of};
 
 use sms_field::{Address, Stamp};
@@ -25,14 +24,6 @@ pub enum Key {
         reference: u16,
         maximum: u8,
     },
-}
-
-/// Whether two addresses are the same.
-#[tactic(auto, unfolding(sms_field::specs::SameAddress::same_address))]
-fn is_same_address(a: &Address, b: &Address) -> bool
-    ensures { result ≡ same_address a.now b.now }
-{
-    a == b
 }
 
 impl Key {
@@ -69,7 +60,7 @@ impl Key {
                     stamp: from,
                 },
                 None,
-            ) => { is_same_address(own, origin) && *from == stamp }
+            ) => { own.is_same(origin) && *from == stamp }
             (
                 Key::Segmented {
                     origin: sender,
@@ -79,7 +70,7 @@ impl Key {
                 },
                 Some(concat),
             ) => {
-                is_same_address(sender, origin)
+                sender.is_same(origin)
                     && *width == concat.width
                     && *reference == concat.reference
                     && *maximum == concat.maximum

@@ -10,18 +10,10 @@ ghost use Rattle.sms_join.specs.Slots.{filled_with};
 ghost use Rattle.sms_join.specs.Reading.{is_gsm, is_ucs2, lent, text_of_units, text_of_segments};
 
 use crate::units::Units;
+use sms_field::Alphabet;
 use sms_text::{text_of_gsm, text_of_ucs2};
+use sms_tpdu::greatest_length;
 use std::alloc::{AllocError, Global};
-
-/// As many septets as a message has room for.
-const SEPTETS: usize = 160;
-
-/// As many 16-bit units as a message has room for.
-const UCS2_UNITS: usize = 70;
-
-/// As many bytes as the text of a message takes at most: two for each septet, or three for each
-/// 16-bit unit.
-const BYTES: usize = 320;
 
 /// The septets of all segments, where all have septets.
 fn joined_septets(alloc: Global, segments: &[&Units]) -> Result<Option<Vec<u8>>, AllocError>
@@ -30,7 +22,8 @@ fn joined_septets(alloc: Global, segments: &[&Units]) -> Result<Option<Vec<u8>>,
         (λ septets. (list_all is_gsm (lent segments.now) ≡ true) × AreSeptets septets.items
         × (septets.items ≡ flat_map numbers (lent segments.now)))) }
 {
-    let mut joined = Vec::with_capacity(alloc, segments.len().saturating_mul(SEPTETS))?;
+    let room = greatest_length(Alphabet::Gsm7);
+    let mut joined = Vec::with_capacity(alloc, segments.len().saturating_mul(room))?;
     for units in segments {
         let Units::Gsm(septets) = *units else {
             return Ok(None);
@@ -47,7 +40,8 @@ fn joined_ucs2_units(alloc: Global, segments: &[&Units]) -> Result<Option<Vec<u1
         (λ units. (list_all is_ucs2 (lent segments.now) ≡ true)
         × (units.items ≡ flat_map numbers (lent segments.now)))) }
 {
-    let mut joined = Vec::with_capacity(alloc, segments.len().saturating_mul(UCS2_UNITS))?;
+    let room = greatest_length(Alphabet::Ucs2) / 2;
+    let mut joined = Vec::with_capacity(alloc, segments.len().saturating_mul(room))?;
     for units in segments {
         let Units::Ucs2(units) = *units else {
             return Ok(None);
@@ -72,7 +66,9 @@ fn joined_texts(alloc: Global, segments: &[&Units]) -> Result<String, AllocError
     ensures { IfOk result (λ text.
         chars (string_bytes text) ≡ flat_map text_of_units (lent segments.now)) }
 {
-    let mut joined = String::with_capacity(alloc, segments.len().saturating_mul(BYTES))?;
+    // A septet takes two bytes at most, and a 16-bit unit, of which there are fewer, three.
+    let room = greatest_length(Alphabet::Gsm7).saturating_mul(2);
+    let mut joined = String::with_capacity(alloc, segments.len().saturating_mul(room))?;
     for units in segments {
         let text = text_of(alloc, *units)?;
         joined.push_str(&text)?;

@@ -3,10 +3,11 @@
 ghost use Rattle.std.specs.Prelude.{◌≡◌, ◌<◌, ◌≤◌, None, Some, IfOk, IfSome, MatchOption};
 ghost use Rattle.sms_tpdu.specs.declared.user_data.concat.Width.TheVariants.{Eight};
 ghost use Rattle.sms_text.specs.Octets.{IsOctets};
+ghost use Rattle.sms_field.specs.Coding.{alphabet_at};
 ghost use Rattle.sms_tpdu.specs.UserData.{FitsAlphabet, SpellsUserData, header_octets};
 ghost use Rattle.sms_tpdu.specs.UserData.Lent.{place_header, IsReferenceInRange};
 ghost use Rattle.sms_tpdu.specs.UserData.Concatenation.{IsInOrder, IsConcatOf};
-ghost use Rattle.sms_join.specs.SegmentUser.{IsSendable, HasRange, coding_of, body_of, header_of, user_of, TellsPlace};
+ghost use Rattle.sms_join.specs.SegmentUser.{IsSendable, HasRange, coding_of, dcs_of, body_of, header_of, user_of, TellsPlace};
 ghost use Rattle.sms_join.specs.SegmentsValue.{seen_units, AreLent};
 
 use crate::units::Units;
@@ -119,6 +120,19 @@ impl<'a> SegmentView<'a> {
         ensures { seen_units result ≡ self.now.units }
     {
         self.units
+    }
+
+    /// The TP-DCS that tells the alphabet of the units: 00 for septets of the default alphabet, 08
+    /// for UCS-2 (3GPP TS 23.038, 4).
+    #[tactic(auto, unfolding(sms_field::specs::Coding::alphabet_at))]
+    pub fn coding_scheme(&self) -> u8
+        ensures dcs { result ≡ dcs_of self.now.units }
+        ensures alphabet { alphabet_at result ≡ coding_of self.now.units }
+    {
+        match self.units {
+            UnitsView::Gsm(_) => 0x00,
+            UnitsView::Ucs2(_) => 0x08,
+        }
     }
 
     /// How many segments the message has.

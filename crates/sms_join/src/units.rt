@@ -26,7 +26,7 @@ impl Model for Ucs2Units {
 }
 
 impl Ucs2Units {
-    /// Those units.
+    /// These 16-bit units, in their order.
     pub fn new(values: Vec<u16>) -> Ucs2Units
         ensures { result ≡ values.items }
     {

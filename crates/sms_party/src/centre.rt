@@ -27,10 +27,9 @@ pub use crate::centre::waiting::Push;
 use crate::centre::waiting::WaitingMessage;
 use crate::message::packets::relay_refusal;
 use crate::message::reading::read_message;
-use crate::message::stamping::LAST_MOMENT;
-use crate::message::{Message, Relay, Tag, TransferUnit};
+use crate::message::{Message, Relay, Tag, TransferUnit, failure_cause, rp_cause};
 use crate::outcome::{Dropped, Outcome, Step};
-use sms_field::{Address, ValidityFault};
+use sms_field::{Address, END_OF_2099, ValidityFault};
 use sms_relay::Side;
 use sms_tpdu::Submit;
 use std::alloc::{AllocError, Global};
@@ -72,7 +71,8 @@ impl Centre {
         })
     }
 
-    /// Forgets the messages whose validity has ended. It takes no memory.
+    /// Forgets the messages whose validity has ended at this moment, in seconds since the beginning
+    /// of 2000. It takes no memory.
     pub fn advance(&mut self, now: u64)
         ensures stands { StandsLater now self.old self.new }
         ensures phones { phones_of self.new ≡ phones_of self.old }
@@ -88,7 +88,8 @@ impl Centre {
         self.holdings.forget(now);
     }
 
-    /// Puts out the message to this phone whose latest acceptance or push is the earliest.
+    /// Hands a message to this phone at a moment, in seconds since the beginning of 2000: the one
+    /// whose latest acceptance or push is the earliest. It fails only where memory runs out.
     pub fn push(&mut self, now: u64, phone: usize) -> Result<Step, Dropped>
         requires { phone < length (phones_of self.old) }
         ensures steps { PushSteps now phone self.old result self.new }
@@ -98,7 +99,9 @@ impl Centre {
         self.holdings.push(self.alloc, phone)
     }
 
-    /// Takes what comes from this phone: a submission, or the answer to a push.
+    /// Takes octets that come from this phone at a moment, in seconds since the beginning of 2000: a
+    /// submission, or the answer to a push. Octets that are no CP message, and answers that are not
+    /// waited for, are dropped.
     pub fn receive(&mut self, now: u64, phone: usize, octets: &[u8]) -> Result<Step, Dropped>
         requires phone { phone < length (phones_of self.old) }
         requires moment { now < 3155760000 }
@@ -159,8 +162,18 @@ impl Centre {
                 Side::ToPhone => Err(Dropped::Unmatched),
             },
             Relay::Answer { .. } => Err(Dropped::Unmatched),
-            Relay::UnknownType => relay_refusal(self.alloc, Side::ToPhone, tag, 97),
-            Relay::Unreadable => relay_refusal(self.alloc, Side::ToPhone, tag, 96),
+            Relay::UnknownType => relay_refusal(
+                self.alloc,
+                Side::ToPhone,
+                tag,
+                rp_cause::MESSAGE_TYPE_NON_EXISTENT,
+            ),
+            Relay::Unreadable => relay_refusal(
+                self.alloc,
+                Side::ToPhone,
+                tag,
+                rp_cause::INVALID_MANDATORY_INFORMATION,
+            ),
         }
     }
 
@@ -211,9 +224,27 @@ impl Centre {
                 let check = self.check(now, phone, &submission);
                 self.settle(now, phone, tag, submission, check)
             }
-            TransferUnit::Deliver(_) => refusal(self.alloc, now, tag, 21, 0xB0),
-            TransferUnit::OtherUnit => refusal(self.alloc, now, tag, 21, 0xB0),
-            TransferUnit::BadUnit => refusal(self.alloc, now, tag, 21, 0xFF),
+            TransferUnit::Deliver(_) => refusal(
+                self.alloc,
+                now,
+                tag,
+                rp_cause::TRANSFER_REJECTED,
+                failure_cause::UNIT_NOT_SUPPORTED,
+            ),
+            TransferUnit::OtherUnit => refusal(
+                self.alloc,
+                now,
+                tag,
+                rp_cause::TRANSFER_REJECTED,
+                failure_cause::UNIT_NOT_SUPPORTED,
+            ),
+            TransferUnit::BadUnit => refusal(
+                self.alloc,
+                now,
+                tag,
+                rp_cause::TRANSFER_REJECTED,
+                failure_cause::UNSPECIFIED,
+            ),
         }
     }
 
@@ -269,24 +300,24 @@ impl Centre {
     {
         match submission.validity.ends(now) {
             Err(ValidityFault::EnhancedValidity) => Check::Refuse {
-                cause: 21,
-                failure: 0xC6,
+                cause: rp_cause::TRANSFER_REJECTED,
+                failure: failure_cause::VPF_NOT_SUPPORTED,
             },
             Err(ValidityFault::NoMoment) => Check::Refuse {
-                cause: 21,
-                failure: 0xC7,
+                cause: rp_cause::TRANSFER_REJECTED,
+                failure: failure_cause::VP_NOT_SUPPORTED,
             },
             Ok(ends) => {
                 if ends <= now {
                     return Check::Refuse {
-                        cause: 21,
-                        failure: 0xC7,
+                        cause: rp_cause::TRANSFER_REJECTED,
+                        failure: failure_cause::VP_NOT_SUPPORTED,
                     };
                 }
                 match self.recipient_of(&submission.target) {
                     None => Check::Refuse {
-                        cause: 1,
-                        failure: 0xC3,
+                        cause: rp_cause::UNASSIGNED_NUMBER,
+                        failure: failure_cause::INVALID_SME_ADDRESS,
                     },
                     Some(recipient) => self.check_space(now, phone, submission, ends, recipient),
                 }
@@ -331,21 +362,21 @@ impl Centre {
     {
         if self.is_duplicate(now, phone, submission, recipient) {
             return Check::Refuse {
-                cause: 21,
-                failure: 0xC5,
+                cause: rp_cause::TRANSFER_REJECTED,
+                failure: failure_cause::DUPLICATE_SM,
             };
         }
         if self.holdings.count() >= self.limit {
             return Check::Refuse {
-                cause: 42,
-                failure: 0xC0,
+                cause: rp_cause::CONGESTION,
+                failure: failure_cause::SC_BUSY,
             };
         }
         let stamp = self.holdings.free(recipient).max(now);
-        if stamp >= LAST_MOMENT {
+        if stamp >= END_OF_2099 {
             return Check::Refuse {
-                cause: 38,
-                failure: 0xC2,
+                cause: rp_cause::NETWORK_OUT_OF_ORDER,
+                failure: failure_cause::SC_SYSTEM_FAILURE,
             };
         }
         Check::Accept {

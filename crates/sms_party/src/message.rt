@@ -1,7 +1,9 @@
 //! What travels between a phone and the service centre, in one packet.
 
+pub(crate) mod failure_cause;
 pub(crate) mod packets;
 pub(crate) mod reading;
+pub(crate) mod rp_cause;
 pub(crate) mod stamping;
 
 use sms_relay::Side;
@@ -39,6 +41,7 @@ pub enum Relay {
     /// RP-ACK, or RP-ERROR where there is a cause.
     Answer {
         side: Side,
+        /// RP-Cause.
         cause: Option<u8>,
         /// None also where the user data hold no report of the kind.
         report: Option<Report>,
@@ -52,7 +55,9 @@ pub enum Relay {
 /// A transaction value and an RP reference.
 #[derive(Clone, Copy, Debug, PartialEq, Eq)]
 pub struct Tag {
+    /// The value of the transaction identifier, 0 to 6.
     pub value: u8,
+    /// The RP-Message Reference.
     pub reference: u8,
 }
 

@@ -27,9 +27,9 @@ pub enum Outcome {
     /// An RP-ERROR has ended a text.
     Failed {
         text: usize,
-        /// The cause of the RP-ERROR.
+        /// RP-Cause.
         cause: u8,
-        /// The failure cause of its report, if it has one.
+        /// TP-FCS, if the RP-ERROR has a report.
         failure: Option<u8>,
     },
     /// The segment that waits for its answer was put out once more.
@@ -46,9 +46,9 @@ pub enum Outcome {
     Held,
     /// The centre or a receiver refused what came.
     Refused {
-        /// The cause of the RP-ERROR.
+        /// RP-Cause.
         cause: u8,
-        /// The failure cause of its report, if it has one.
+        /// TP-FCS, if the RP-ERROR has a report.
         failure: Option<u8>,
     },
     /// The centre put out a delivery.

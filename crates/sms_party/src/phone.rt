@@ -49,8 +49,8 @@ fn is_answer(message: &Message) -> bool
 
 impl Phone {
     /// A phone that has typed nothing, with an empty store: how many sets of segments may be open,
-    /// how many finished ones are remembered, and how many texts are stored. For the other two see
-    /// `Sender::new`.
+    /// how many finished ones are remembered, and how many texts are stored. `width` and `reject`
+    /// are those of `Sender::new`.
     pub fn new(
         alloc: Global,
         open_max: usize,
@@ -72,7 +72,8 @@ impl Phone {
         })
     }
 
-    /// Types a text to an address. If it answers an error, the phone is as it was.
+    /// Types a text to an address. It is dropped where 1,000 texts wait, where it takes more than
+    /// 255 segments, and where memory runs out.
     pub fn type_text(&mut self, target: &Address, text: &str) -> Result<Step, Dropped>
         ensures types { Types target.now (chars text.now) self.old.sender result self.new.sender }
         ensures receiver { self.new.receiver ≡ self.old.receiver }
@@ -81,7 +82,8 @@ impl Phone {
         self.sender.type_text(target, text)
     }
 
-    /// No answer has come in time. If it answers an error, the phone is as it was.
+    /// Puts the waiting segment out once more, since no answer has come in time; after three repeats
+    /// its text has failed, and the next one's turn comes. It fails only where memory runs out.
     pub fn timeout(&mut self) -> Result<Step, Dropped>
         ensures steps { Steps times_out self.old.sender result self.new.sender }
         ensures receiver { self.new.receiver ≡ self.old.receiver }
@@ -105,7 +107,9 @@ impl Phone {
         self.sender.status(number)
     }
 
-    /// Takes what comes to the phone. If it answers an error, the phone is as it was.
+    /// Takes octets that come to the phone at a moment, in seconds since the beginning of 2000: the
+    /// answer to a submission, or a delivery. Octets that are no CP message, and answers that are
+    /// not waited for, are dropped.
     pub fn receive(&mut self, now: u64, octets: &[u8]) -> Result<Step, Dropped>
         ensures receives { PhoneReceives now octets.now self.old result self.new }
         ensures refused { OnErr result (self.new ≡ self.old) }
@@ -118,8 +122,8 @@ impl Phone {
         }
     }
 
-    /// Drops the sets of segments whose first segment came 604,800 seconds before, or earlier. It
-    /// takes no memory.
+    /// Drops the sets of segments whose first segment came 604,800 seconds before, or earlier. The
+    /// moment is in seconds since the beginning of 2000. It takes no memory.
     pub fn age(&mut self, now: u64)
         ensures receiver { AgesTo now self.old.receiver self.new.receiver }
         ensures sender { self.new.sender ≡ self.old.sender }

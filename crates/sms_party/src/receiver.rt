@@ -18,7 +18,7 @@ mod replying;
 
 use crate::message::packets::relay_refusal;
 use crate::message::reading::read_message;
-use crate::message::{Message, Relay, Tag, TransferUnit};
+use crate::message::{Message, Relay, Tag, TransferUnit, failure_cause, rp_cause};
 use crate::outcome::{Dropped, Outcome, Step};
 use crate::receiver::replying::{approval, refusal};
 use sms_field::{Address, Alphabet, Stamp, alphabet_of};
@@ -123,8 +123,8 @@ impl Receiver {
         self.store.as_slice()
     }
 
-    /// Drops the sets of segments whose first segment came 604,800 seconds before, or earlier. It
-    /// takes no memory.
+    /// Drops the sets of segments whose first segment came 604,800 seconds before, or earlier. The
+    /// moment is in seconds since the beginning of 2000. It takes no memory.
     pub fn age(&mut self, now: u64)
         ensures { AgesTo now self.old self.new }
     {
@@ -133,8 +133,9 @@ impl Receiver {
         self.joiner.age(now);
     }
 
-    /// Takes what comes to the phone in a transaction that the centre has opened. If it answers an
-    /// error, the phone is as it was.
+    /// Takes octets that come to the phone in a transaction that the centre has opened, at a moment
+    /// in seconds since the beginning of 2000: a delivery. Octets that are no CP message, and
+    /// messages of other kinds, are dropped.
     pub fn receive(&mut self, now: u64, octets: &[u8]) -> Result<Step, Dropped>
         ensures receives { ReceivesAs now octets.now self.old result self.new }
         ensures refused { OnErr result (self.new ≡ self.old) }
@@ -180,8 +181,18 @@ impl Receiver {
                 Side::ToPhone => self.take_unit(now, tag, unit),
             },
             Relay::Answer { .. } => Err(Dropped::Unmatched),
-            Relay::UnknownType => relay_refusal(self.alloc, Side::FromPhone, tag, 97),
-            Relay::Unreadable => relay_refusal(self.alloc, Side::FromPhone, tag, 96),
+            Relay::UnknownType => relay_refusal(
+                self.alloc,
+                Side::FromPhone,
+                tag,
+                rp_cause::MESSAGE_TYPE_NON_EXISTENT,
+            ),
+            Relay::Unreadable => relay_refusal(
+                self.alloc,
+                Side::FromPhone,
+                tag,
+                rp_cause::INVALID_MANDATORY_INFORMATION,
+            ),
         }
     }
 
@@ -194,9 +205,24 @@ impl Receiver {
     {
         match unit {
             TransferUnit::Deliver(delivery) => self.take_delivery(now, tag, delivery),
-            TransferUnit::Submit(_) => refusal(self.alloc, tag, 111, 0xB0),
-            TransferUnit::OtherUnit => refusal(self.alloc, tag, 111, 0xB0),
-            TransferUnit::BadUnit => refusal(self.alloc, tag, 111, 0xFF),
+            TransferUnit::Submit(_) => refusal(
+                self.alloc,
+                tag,
+                rp_cause::PROTOCOL_ERROR,
+                failure_cause::UNIT_NOT_SUPPORTED,
+            ),
+            TransferUnit::OtherUnit => refusal(
+                self.alloc,
+                tag,
+                rp_cause::PROTOCOL_ERROR,
+                failure_cause::UNIT_NOT_SUPPORTED,
+            ),
+            TransferUnit::BadUnit => refusal(
+                self.alloc,
+                tag,
+                rp_cause::PROTOCOL_ERROR,
+                failure_cause::UNSPECIFIED,
+            ),
         }
     }
 
@@ -214,7 +240,12 @@ impl Receiver {
         let user = delivery.user;
         let concat = concat_of(&user.header);
         match units_of(self.alloc, alphabet, user.body)? {
-            None => refusal(self.alloc, tag, 111, 0x90),
+            None => refusal(
+                self.alloc,
+                tag,
+                rp_cause::PROTOCOL_ERROR,
+                failure_cause::CODING_SCHEME_NOT_SUPPORTED,
+            ),
             Some(units) => self.take_piece(now, tag, origin, stamp, concat, units),
         }
     }
@@ -251,7 +282,12 @@ impl Receiver {
         answer_finishes();
         same_is_equivalence();
         if self.is_full_for(&origin, stamp, concat) {
-            return refusal(self.alloc, tag, 22, 0xD3);
+            return refusal(
+                self.alloc,
+                tag,
+                rp_cause::MEMORY_CAPACITY_EXCEEDED,
+                failure_cause::MEMORY_CAPACITY_EXCEEDED,
+            );
         }
         self.store.reserve(1)?;
         let packets = approval(self.alloc, tag)?;
@@ -271,7 +307,12 @@ impl Receiver {
                     packets,
                 })
             }
-            Err(OfferFault::TooManyOpen) => refusal(self.alloc, tag, 22, 0xD3),
+            Err(OfferFault::TooManyOpen) => refusal(
+                self.alloc,
+                tag,
+                rp_cause::MEMORY_CAPACITY_EXCEEDED,
+                failure_cause::MEMORY_CAPACITY_EXCEEDED,
+            ),
             Err(OfferFault::Memory) => Err(Dropped::Memory),
         }
     }

@@ -16,7 +16,7 @@ mod typed_text;
 
 use crate::message::packets::acknowledgement;
 use crate::message::reading::read_message;
-use crate::message::{Message, Relay, Report, Tag};
+use crate::message::{Message, Relay, Report, Tag, failure_cause};
 use crate::outcome::{Dropped, Outcome, Step};
 use crate::sender::typed_text::TypedText;
 use sms_field::Address;
@@ -32,10 +32,6 @@ const PENDING_MAX: usize = 1000;
 
 /// How often a submission is repeated.
 const REPEATS_MAX: u8 = 3;
-
-/// The failure cause of an SMS-SUBMIT-REPORT where a duplicate was rejected (3GPP TS 23.040,
-/// 9.2.3.22).
-const DUPLICATE: u8 = 0xC5;
 
 /// How a typed text stands.
 #[derive(Clone, Copy, Debug, PartialEq, Eq)]
@@ -133,7 +129,7 @@ fn accepts(cause: Option<u8>, report: &Option<Report>) -> bool
 {
     match cause {
         None => true,
-        Some(_) => failure_of(report) == Some(DUPLICATE),
+        Some(_) => failure_of(report) == Some(failure_cause::DUPLICATE_SM),
     }
 }
 
@@ -203,7 +199,8 @@ impl Sender {
         None
     }
 
-    /// Types a text to an address. If it answers an error, the phone is as it was.
+    /// Types a text to an address. It is dropped where 1,000 texts wait, where it takes more than
+    /// 255 segments, and where memory runs out.
     pub fn type_text(&mut self, target: &Address, text: &str) -> Result<Step, Dropped>
         ensures types { Types target.now (chars text.now) self.old result self.new }
         ensures refused { OnErr result (self.new ≡ self.old) }
@@ -265,7 +262,7 @@ impl Sender {
     }
 
     /// Puts the waiting segment out once more; after three repeats its text has failed, and the
-    /// next one's turn comes.
+    /// next one's turn comes. It fails only where memory runs out.
     pub fn timeout(&mut self) -> Result<Step, Dropped>
         ensures steps { Steps times_out self.old result self.new }
         ensures refused { OnErr result (self.new ≡ self.old) }
@@ -284,8 +281,8 @@ impl Sender {
         }
     }
 
-    /// Takes what comes to the phone in a transaction that it has opened. If it answers an error,
-    /// the phone is as it was.
+    /// Takes octets that come to the phone in a transaction that it has opened: the answer to a
+    /// submission. Octets that are no CP message, and answers that are not waited for, are dropped.
     pub fn receive(&mut self, octets: &[u8]) -> Result<Step, Dropped>
         ensures receives { Receives octets.now self.old result self.new }
         ensures refused { OnErr result (self.new ≡ self.old) }

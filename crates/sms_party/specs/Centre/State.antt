@@ -11,8 +11,9 @@ pub record Acceptance : Type 0 where
   pub phone : ℕ
   pub submission : Submission
   pub recipient : ℕ
-  -- moments, in seconds from the year 2000 on
+  -- the moment of its TP-SCTS, in seconds since the beginning of 2000
   pub stamp : ℕ
+  -- the end of its validity, a moment too
   pub ends : ℕ
   pub origin : Option Origin
 

@@ -6,6 +6,7 @@ use Rattle.sms_join.specs.Arrivals.{Arrival}
 
 -- A text of the store: whom it is from, and its characters.
 pub record Entry : Type 0 where
+  -- TP-OA
   pub origin : AddressValue
   pub characters : List ℕ
 

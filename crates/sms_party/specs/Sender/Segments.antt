@@ -3,18 +3,13 @@ use Rattle.std.specs.Prelude.{ℕ, ◌+◌, ◌-◌, ◌%◌, Bool, false, [], l
 use Rattle.sms_field.specs.declared.validity.Validity.TheVariants.{Absent}
 use Rattle.sms_tpdu.specs.Submit.{Submission}
 use Rattle.sms_join.specs.declared.units.Units.{Units}
-use Rattle.sms_join.specs.declared.units.Units.TheVariants.{Gsm, Ucs2}
-use Rattle.sms_join.specs.SegmentUser.{user_of}
+use Rattle.sms_join.specs.declared.units.Units.TheVariants.{Gsm}
+use Rattle.sms_join.specs.SegmentUser.{dcs_of, user_of}
 use Rattle.sms_party.specs.Sender.Texts.{Text}
 
 -- the units of the segment; segments count from 1
 abbrev pub piece_of : Text → ℕ → Units
 piece_of t s = get_or t.pieces (s - 1) (Gsm [])
-
--- the coding scheme of the units: the default alphabet, or UCS-2 (3GPP TS 23.038, 4)
-abbrev pub dcs_of : Units → ℕ
-dcs_of (Gsm septets) = 0
-dcs_of (Ucs2 units) = 8
 
 -- Neither validity period, report nor reply path; message references of a text's segments follow
 -- one another.

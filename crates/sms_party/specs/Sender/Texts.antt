@@ -10,11 +10,12 @@ pub record Text : Type 0 where
   pub phone : ℕ
   -- among the texts of its phone, from 1
   pub number : ℕ
+  -- TP-DA
   pub target : AddressValue
   pub characters : List ℕ
   -- the cut of the characters
   pub pieces : List Units
-  -- the message reference of its first segment
+  -- the TP-MR of its first segment
   pub first_reference : ℕ
   pub width : Width
   -- its concatenation reference, where it has more than one segment

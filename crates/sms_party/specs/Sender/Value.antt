@@ -9,7 +9,7 @@ use Rattle.sms_tpdu.specs.declared.user_data.concat.Width.{Width}
 use Rattle.sms_tpdu.specs.declared.user_data.concat.Width.TheVariants.{Eight, Sixteen}
 use Rattle.sms_relay.specs.declared.side.Side.TheVariants.{FromPhone}
 use Rattle.sms_join.specs.declared.segment.Segment.{Segment}
-use Rattle.sms_join.specs.SegmentUser.{user_of}
+use Rattle.sms_join.specs.SegmentUser.{dcs_of, user_of}
 use Rattle.sms_party.specs.declared.message.TransferUnit.TheVariants.{Submit}
 use Rattle.sms_party.specs.declared.message.Relay.TheVariants.{Transfer}
 use Rattle.sms_party.specs.declared.message.Report.{Report}
@@ -22,7 +22,6 @@ use Rattle.sms_party.specs.declared.outcome.Dropped.TheVariants as dropped
 use Rattle.sms_party.specs.declared.sender.Status.{Status}
 use Rattle.sms_party.specs.declared.sender.Status.TheVariants.{Waiting, Accepted, Failed}
 use Rattle.sms_party.specs.Message.{same_tag}
-use Rattle.sms_party.specs.Sender.Segments.{dcs_of}
 use Rattle.sms_party.specs.Sender.Answers.{failure_of, accepts}
 use Rattle.sms_party.specs.declared.outcome.Step.{Step}
 use Rattle.sms_party.specs.declared.outcome.Dropped.{Dropped}

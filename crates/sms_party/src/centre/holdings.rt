@@ -147,7 +147,6 @@ impl Holdings {
         ensures err { OnErr result (self.new ≡ self.old) }
         ensures memory { IfErr result (λ e. e ≡ Memory) }
     {
-        self.lines.hold(&mut self.held, key, message)?;
-        Ok(())
+        self.lines.hold(&mut self.held, key, message)
     }
 }

@@ -16,8 +16,8 @@ ghost use Rattle.sms_party.specs.declared.outcome.Dropped.TheVariants.{Memory};
 
 use crate::centre::held::{Ending, HeldKey, HeldMessages};
 use crate::centre::waiting::{Push, WaitingMessage};
-use crate::message::Tag;
 use crate::message::packets::{acknowledgement, address_of_centre, wrapped};
+use crate::message::{Tag, rp_cause};
 use crate::outcome::{Dropped, Outcome, Step};
 use lru::LruCache;
 use sms_field::Address;
@@ -95,7 +95,7 @@ fn verdict(cause: Option<u8>) -> Outcome
 {
     match cause {
         None => Outcome::Delivered,
-        Some(22) => Outcome::Returned,
+        Some(rp_cause::MEMORY_CAPACITY_EXCEEDED) => Outcome::Returned,
         Some(_) => Outcome::Abandoned,
     }
 }
@@ -104,10 +104,7 @@ fn verdict(cause: Option<u8>) -> Outcome
 fn stays(cause: Option<u8>) -> bool
     ensures { result ≡ stays cause }
 {
-    match cause {
-        None => false,
-        Some(cause) => cause == 22,
-    }
+    cause == Some(rp_cause::MEMORY_CAPACITY_EXCEEDED)
 }
 
 /// Takes out the message with this stamp, if one waits.

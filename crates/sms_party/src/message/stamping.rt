@@ -5,9 +5,6 @@ ghost use Rattle.sms_field.specs.Times.{stamp_octets};
 
 use sms_field::Stamp;
 
-/// The first moment that has no stamp: the end of 2099.
-pub(crate) const LAST_MOMENT: u64 = 3_155_760_000;
-
 /// The stamp of a moment, in zone 0.
 pub(crate) fn stamp_of(moment: u64) -> Stamp
     requires { moment < 3155760000 }

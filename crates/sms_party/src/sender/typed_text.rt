@@ -2,8 +2,6 @@
 
 ghost use Rattle.std.specs.Prelude.{◌≡◌, ◌<◌, Some, IfOk, IfErr};
 ghost use Rattle.sms_join.specs.SegmentUser.{IsSendable};
-ghost use Rattle.sms_join.specs.SegmentsValue.{seen_units};
-ghost use Rattle.sms_party.specs.Sender.Segments.{dcs_of};
 ghost use Rattle.sms_party.specs.Sender.Value.{submission_in, text_put, CarriesOptional};
 ghost use Rattle.sms_party.specs.declared.outcome.Dropped.TheVariants.{Memory};
 
@@ -13,7 +11,7 @@ use crate::outcome::Dropped;
 use sms_field::{Address, Validity};
 use sms_join::{SegmentView, Segments};
 use sms_relay::{Side, wrap_transfer};
-use sms_tpdu::{Submit, UnitsView, Width};
+use sms_tpdu::{Submit, Width};
 use std::alloc::{AllocError, Global};
 use std::marker::Model;
 
@@ -51,16 +49,6 @@ impl Model for TypedText {
         × (length t.segments ≤ 255) × All (IsSendable t.width) t.segments };
 }
 
-/// The TP-DCS of units: the default alphabet, or UCS-2.
-fn dcs_of(units: UnitsView<'_>) -> u8
-    ensures { result ≡ dcs_of (seen_units units.entry) }
-{
-    match units {
-        UnitsView::Gsm(_) => 0x00,
-        UnitsView::Ucs2(_) => 0x08,
-    }
-}
-
 impl TypedText {
     /// The submission of its segment at a place, counted from 0.
     fn submission(
@@ -81,7 +69,7 @@ impl TypedText {
             reference: self.reference.wrapping_add(place),
             target: self.target.copy(alloc)?,
             pid: 0,
-            dcs: dcs_of(segment.units()),
+            dcs: segment.coding_scheme(),
             user: segment.user(alloc, self.width, self.set_reference)?,
         })
     }

@@ -1,4 +1,4 @@
-use Rattle.std.proofs.Common.{◌≤◌, List, sym, subst}
+use Rattle.std.proofs.Common.{◌≤◌, List, Result, Ok, Err, OnOk, OnErr, sym, subst}
 use Rattle.sms_party.specs.Centre.Value.{LineValue, HeldValue, HoldingsValue}
 use Rattle.sms_party.specs.Centre.Kept.{free_at}
 use Rattle.sms_party.specs.Centre.Holdings.{AreHeld}
@@ -10,13 +10,16 @@ hold-requires-clause-absent c =
     is_new c.self.inside.held.endings c.self.inside.lines c.args.key.recipient c.args.message
     (subst (λ (v : HoldingsValue). free_at v.lines c.args.key.recipient ≤ c.args.message.stamp) (sym c.self.view_is) c.requires.stamp) c.self.invariant
 
+-- what follows from two facts at `Ok`, and from two others at `Err`
+on_either : {T E A B C D P : Type 0} (r : Result T E) → OnOk r A → OnOk r B → OnErr r C → OnErr r D → (A → B → P) → (C → D → P) → P
+on_either (Ok x) a b c d f g = f a b
+on_either (Err e) a b c d f g = g c d
+
 pub invariant_of-self : goal.invariant_of-self
 invariant_of-self c =
-    subst (λ (h : HeldValue). AreHeld h.endings c.hold.new.self) (sym c.in_err-hold.ensures.err_held)
-    (subst (λ (l : List LineValue). AreHeld c.self.inside.held.endings l) (sym c.in_err-hold.ensures.err_lines) c.self.invariant)
-
-pub invariant_of-self-2 : goal.invariant_of-self-2
-invariant_of-self-2 c =
-    accepted_held c.args.key.recipient c.args.message c.self.inside.held.endings c.hold.new.held.endings c.self.inside.lines c.hold.new.self
+    on_either c.hold.result c.hold.ensures.held c.hold.ensures.line c.hold.ensures.err_held c.hold.ensures.err_lines
+    (λ held line. accepted_held c.args.key.recipient c.args.message c.self.inside.held.endings c.hold.new.held.endings c.self.inside.lines c.hold.new.self
     (subst (λ (v : HoldingsValue). free_at v.lines c.args.key.recipient ≤ c.args.message.stamp) (sym c.self.view_is) c.requires.stamp)
-    c.in_ok-hold.ensures.held.endings c.in_ok-hold.ensures.line c.self.invariant
+    held.endings line c.self.invariant)
+    (λ held lines. subst (λ (h : HeldValue). AreHeld h.endings c.hold.new.self) (sym held)
+    (subst (λ (l : List LineValue). AreHeld c.self.inside.held.endings l) (sym lines) c.self.invariant))
