@@ -5,15 +5,14 @@ ghost use Rattle.sms_field.specs.Coding.{alphabet_at};
 ghost use Rattle.sms_tpdu.specs.UserData.{FitsAlphabet};
 ghost use Rattle.sms_tpdu.specs.Submit.ValidityPeriod.{IsInRange};
 ghost use Rattle.sms_tpdu.specs.declared.user_data.concat.Width.TheVariants.{Eight};
-ghost use Rattle.sms_join.specs.SegmentUser.{IsSendable, coding_of};
-ghost use Rattle.sms_join.specs.SegmentsValue.{seen_units};
+ghost use Rattle.sms_join.specs.SegmentUser.{IsSendable};
 
 use crate::fault::Fault;
 use crate::words::{Draft, DraftKind};
 use hex::FromHex;
 use sms_field::{Address, Stamp, TextFault, Validity};
 use sms_join::{Segments, SplitFault, cut_text};
-use sms_tpdu::{Deliver, Submit, Unit, UnitsView, UserData, Width};
+use sms_tpdu::{Deliver, Submit, Unit, UserData, Width};
 use std::alloc::Global;
 
 /// The stamp of a delivery that is given none: the first second of 2000 in UTC.
@@ -39,19 +38,10 @@ fn stamp_of(word: &str) -> Result<Stamp, Fault> {
 /// A text in one piece, and the data coding scheme that tells its alphabet.
 #[derive(Drop)]
 struct Content {
+    /// TP-DCS.
     dcs: u8,
+    /// TP-UD.
     user: UserData,
-}
-
-/// The data coding scheme that tells the alphabet of units.
-#[tactic(auto, unfolding(sms_field::specs::Coding::alphabet_at))]
-fn coding_scheme(units: UnitsView<'_>) -> u8
-    ensures { alphabet_at result ≡ coding_of (seen_units units.entry) }
-{
-    match units {
-        UnitsView::Gsm(_) => 0x00,
-        UnitsView::Ucs2(_) => 0x08,
-    }
 }
 
 /// The segments of a text.
@@ -74,7 +64,7 @@ fn content_of(alloc: Global, text: &str) -> Result<Content, Fault>
         return Err(Fault::TextTooLong);
     };
     let user = segment.user(alloc, Width::Eight, 0)?;
-    let dcs = coding_scheme(segment.units());
+    let dcs = segment.coding_scheme();
     Ok(Content { dcs, user })
 }
 

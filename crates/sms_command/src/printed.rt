@@ -1,6 +1,7 @@
 //! How values are printed.
 
 use sms_field::{Address, Stamp, StampDate, Validity};
+use sms_script::Escape;
 use sms_tpdu::{Concat, Width};
 use std::fmt;
 
@@ -53,19 +54,26 @@ impl fmt::Display for Escaped<'_> {
     }
 }
 
+/// How a character of a text stands in one line.
+fn escape_of(character: char) -> Escape {
+    if character < '\u{80}' {
+        Escape::of(character as u8)
+    } else {
+        Escape::Plain
+    }
+}
+
 /// A character of a text in one line.
 #[derive(Clone, Copy)]
 struct EscapedCharacter(char);
 
 impl fmt::Display for EscapedCharacter {
     fn fmt<W: fmt::Write>(&self, f: &mut fmt::Formatter<W>) -> fmt::Result {
-        match self.0 {
-            '\\' => write!(f, "\\\\"),
-            '\n' => write!(f, "\\n"),
-            '\r' => write!(f, "\\r"),
-            '\u{c}' => write!(f, "\\f"),
-            '\0'..='\u{1f}' | '\u{7f}' => write!(f, "\\x{:02x}", self.0 as u32),
-            character => write!(f, "{character}"),
+        let character = self.0;
+        match escape_of(character) {
+            Escape::Plain => write!(f, "{character}"),
+            Escape::Letter(letter) => write!(f, "\\{}", letter as char),
+            Escape::Digits => write!(f, "\\x{:02x}", character as u32),
         }
     }
 }
@@ -172,7 +180,9 @@ impl fmt::Display for ConcatText {
 /// and its value.
 #[derive(Clone, Copy)]
 pub struct TransactionText {
+    /// Whether the message goes to the side that opened the transaction (TI flag).
     pub flag: bool,
+    /// The transaction value (TI value), 0 to 6.
     pub value: u8,
 }
 

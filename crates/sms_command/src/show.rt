@@ -76,10 +76,7 @@ fn put_party<W: Write>(
 
 /// Why octets do not begin with the address of a service centre.
 fn centre_fault(fault: sms_field::Fault<FieldFault>) -> Fault {
-    Fault::Message(sms_field::Fault {
-        place: fault.place,
-        why: fault.why.into(),
-    })
+    Fault::Message(fault.map_reason())
 }
 
 /// The line of a service centre's address, by a name.

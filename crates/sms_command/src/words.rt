@@ -52,6 +52,7 @@ pub enum DraftKind {
 /// A unit whose fields are asked for.
 #[derive(Clone, Copy)]
 pub struct Shown<'a> {
+    /// What the octets are.
     pub kind: Kind,
     /// The octets in hexadecimal.
     pub octets: &'a str,
@@ -62,19 +63,27 @@ pub struct Shown<'a> {
 /// A unit whose octets are asked for, with the options of every kind. What is `None` was not given.
 #[derive(Clone, Copy)]
 pub struct Draft<'a> {
+    /// Which unit (TP-MTI).
     pub kind: DraftKind,
+    /// The other party, in text: of a delivery its origin (TP-OA), of a submission its target
+    /// (TP-DA).
     pub address: &'a str,
+    /// The text (TP-UD).
     pub text: &'a str,
+    /// The reference of a submission (TP-MR).
     pub reference: Option<u8>,
+    /// Whether a submission asks for the rejection of duplicates (TP-RD).
     pub reject: bool,
+    /// The octet of a relative validity period of a submission (TP-VP).
     pub validity: Option<u8>,
-    /// The stamp's octets in hexadecimal.
+    /// The seven octets of a delivery's stamp in hexadecimal (TP-SCTS).
     pub stamp: Option<&'a str>,
 }
 
 /// A text whose segments are asked for.
 #[derive(Clone, Copy)]
 pub struct LongText<'a> {
+    /// The text (TP-UD of its segments).
     pub text: &'a str,
     /// Whether the reference takes two octets.
     pub wide: bool,

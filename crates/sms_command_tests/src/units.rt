@@ -11,7 +11,7 @@ use rows::{
     ENCODED_TEXTS, Encoded, Explained, Filled, HEADERS, HELLO, HELLO_SHOWN, LONG_TEXTS, LongText,
     NAMES, NO_ADDRESSES, NO_DELIVERIES, NO_OPTIONS, NO_SUBMISSIONS, NotEncoded, ORIGINS, PLACES,
     SHOW_WORDS, SPLIT_WORDS, STAMPS, SUBMISSIONS, TELEPHONES, TELEPHONES_OF_EACH_LENGTH, TEXTS,
-    TOO_FULL, TWO_PIECES, TooFull, TwoPieces, VALIDITIES, WHOLE_WORDS, WIDE_TEXTS,
+    TOO_FULL, TWO_PIECES, TooFull, TwoPieces, UCS2_TEXTS, VALIDITIES, WHOLE_WORDS,
 };
 use sms_command::command;
 use std::alloc::Global;
@@ -44,7 +44,7 @@ fn shows_deliveries(rt: HostRuntime) -> Result<(), Fail> {
 #[test]
 fn shows_data_of_deliveries(rt: HostRuntime) -> Result<(), Fail> {
     are_shown(&rt, rt.alloc(), "deliver", TEXTS.as_slice())?;
-    are_shown(&rt, rt.alloc(), "deliver", WIDE_TEXTS.as_slice())?;
+    are_shown(&rt, rt.alloc(), "deliver", UCS2_TEXTS.as_slice())?;
     are_shown(&rt, rt.alloc(), "deliver", PLACES.as_slice())?;
     are_shown(&rt, rt.alloc(), "deliver", ELEMENTS.as_slice())
 }

@@ -52,7 +52,8 @@ digits_octet value = value % 10 * 16 + value / 10
 abbrev pub stamp_of_day : Day → ℕ → List ℕ
 stamp_of_day d time =
     digits_octet (d.year - 2000) ∷ digits_octet d.month ∷ digits_octet d.day
-    ∷ digits_octet (time / 3_600) ∷ digits_octet (time / 60 % 60) ∷ digits_octet (time % 60) ∷ 0 ∷ []
+    ∷ digits_octet (time / 3_600) ∷ digits_octet (time / 60 % 60) ∷ digits_octet (time % 60)
+    ∷ 0 ∷ []
 
 -- the stamp of a moment in zone 0
 unfoldable pub stamp_octets : ℕ → List ℕ

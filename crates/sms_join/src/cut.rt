@@ -115,8 +115,8 @@ fn ends_of(alloc: Global, units: &Units, width: Width, many: u8) -> Result<Vec<u
     ends_by(alloc, units, units.room_beside(width), many)
 }
 
-/// Cuts a text into its segments, which lend its units, for references of this width (3GPP TS 23.040, 9.2.3.24.1 and
-/// 9.2.3.24.8).
+/// Cuts a text into its segments, which lend its units, for references of this width (3GPP TS
+/// 23.040, 9.2.3.24.1 and 9.2.3.24.8).
 ///
 /// The text is sent as septets where the default alphabet and its extension have all its
 /// characters, else as UTF-16 units. It is one segment where it fits 160 septets or 70 units. Else

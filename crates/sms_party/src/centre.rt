@@ -99,9 +99,9 @@ impl Centre {
         self.holdings.push(self.alloc, phone)
     }
 
-    /// Takes octets that come from this phone at a moment, in seconds since the beginning of 2000: a
-    /// submission, or the answer to a push. Octets that are no CP message, and answers that are not
-    /// waited for, are dropped.
+    /// Takes octets that come from this phone at a moment, in seconds since the beginning of 2000:
+    /// a submission, or the answer to a push. Octets that are no CP message, and answers that are
+    /// not waited for, are dropped.
     pub fn receive(&mut self, now: u64, phone: usize, octets: &[u8]) -> Result<Step, Dropped>
         requires phone { phone < length (phones_of self.old) }
         requires moment { now < 3155760000 }

@@ -82,8 +82,9 @@ impl Phone {
         self.sender.type_text(target, text)
     }
 
-    /// Puts the waiting segment out once more, since no answer has come in time; after three repeats
-    /// its text has failed, and the next one's turn comes. It fails only where memory runs out.
+    /// Puts the waiting segment out once more, since no answer has come in time; after three
+    /// repeats its text has failed, and the next one's turn comes. It fails only where memory runs
+    /// out.
     pub fn timeout(&mut self) -> Result<Step, Dropped>
         ensures steps { Steps times_out self.old.sender result self.new.sender }
         ensures receiver { self.new.receiver ≡ self.old.receiver }

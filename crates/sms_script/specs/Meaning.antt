@@ -2,11 +2,12 @@
 pub mod Commands
 pub mod Known
 pub mod Limits
-use Rattle.std.specs.Prelude.{◌≡◌, ◌≤◌, ℕ, List, [], ◌∷◌, length, Bool, true, false, ◌&&◌, ◌||◌, not, nat_lt, position, Result, Ok, Err, if◌then◌else◌, ◌==◌}
+use Rattle.std.specs.Prelude.{◌≡◌, ◌≤◌, ◌-◌, ℕ, List, [], ◌∷◌, length, Bool, true, false, ◌&&◌, ◌||◌, not, nat_lt, position, Result, Ok, Err, if◌then◌else◌, ◌==◌}
 use Rattle.std.specs.List.{list_any}
 use Rattle.std.specs.Str.{bytes_eq, is_utf8}
 use Rattle.sms_field.specs.AddressValue.{AddressValue}
 use Rattle.sms_field.specs.SameAddress.{same_address}
+use Rattle.sms_field.specs.Times.{end_of_2099}
 use Rattle.sms_script.specs.declared.fault.ScriptFault.{ScriptFault}
 use Rattle.sms_script.specs.declared.fault.ScriptFault.TheVariants.{NotUtf8, SettingAfterEvent, BadName, BadAddress, UnknownPhone, NameTaken, AddressTaken, TooManyPhones}
 use Rattle.sms_script.specs.declared.meaning.command.Command.{Command}
@@ -33,7 +34,7 @@ greatest_number = 9999999999
 
 -- the last second at which a clock can stand
 abbrev pub last_second : ℕ
-last_second = 3155759999
+last_second = end_of_2099 - 1
 
 -- the phone of this name, counted from 0
 abbrev pub phone : KnownValue → List ℕ → Result ℕ ScriptFault

@@ -92,13 +92,14 @@ with_lines s (line ∷ more) = with_lines (with_line s line) more
 abbrev pub script_of : List (List ℕ) → ScriptValue
 script_of lines = with_lines no_lines lines
 
--- a line was taken: its event was answered, or the reason why it says nothing
+-- a line was taken: its event was answered; or it was not, and all is as it was, for the reason why
+-- it says nothing, or for want of memory
 abbrev pub TakesLine : SettingsValue → SettingsValue → List ℕ → Result (Option Event) PlayFault
     → Type 0
 TakesLine old new line (Ok event) =
     (statement : Statement) × (meaning old.known line ≡ Ok statement) × (new ≡ after old statement)
     × (event ≡ event_of statement)
 TakesLine old new line (Err (faults.Script n why)) =
-    (meaning old.known line ≡ Err why) × (n ≡ old.lines + 1)
-TakesLine old new line (Err faults.Memory) = Unit {0}
+    (meaning old.known line ≡ Err why) × (n ≡ old.lines + 1) × (new ≡ old)
+TakesLine old new line (Err faults.Memory) = new ≡ old
 TakesLine old new line (Err _) = ⊥

@@ -18,4 +18,4 @@ pub use meaning::{Command, Event, Known, Limit, PHONE_LIMIT, Phone, Statement, T
 pub use playing::{Network, Next, play};
 pub use script::{Limits, Script};
 pub use sms_field::Octets;
-pub use transcript::{Entry, Packet};
+pub use transcript::{Entry, Escape, Packet};

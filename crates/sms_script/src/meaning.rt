@@ -19,7 +19,7 @@ use crate::words::{
 pub use command::Command;
 pub use event::{Event, Text};
 pub use known::{Known, PHONE_LIMIT};
-use sms_field::Address;
+use sms_field::{Address, END_OF_2099};
 pub use statement::{Limit, Phone, Statement};
 use std::alloc::Global;
 
@@ -27,7 +27,7 @@ use std::alloc::Global;
 const GREATEST_NUMBER: u64 = 9_999_999_999;
 
 /// The last second at which a clock can stand.
-const LAST_SECOND: u64 = 3_155_759_999;
+const LAST_SECOND: u64 = END_OF_2099 - 1;
 
 /// The phone of this name, counted from 0.
 fn phone_named(known: &Known, word: &str) -> Result<usize, ScriptFault>

@@ -2,7 +2,7 @@
 
 mod limits;
 
-ghost use Rattle.std.specs.Prelude.{◌≡◌, ◌+◌, ◌<◌, ◌^◌, IfOk, OnOk, None, length};
+ghost use Rattle.std.specs.Prelude.{◌≡◌, ◌+◌, ◌<◌, ◌^◌, IfOk, OnOk, OnErr, None, length};
 ghost use Rattle.sms_script.specs.Meaning.{Fits};
 ghost use Rattle.sms_script.specs.Meaning.Known.{ArePhones, name_of};
 ghost use Rattle.sms_script.specs.Script.{before_all, after, event_of, TakesLine};
@@ -104,15 +104,17 @@ impl Script {
         self.clock
     }
 
-    /// Takes what a line says, and answers the event that it is.
+    /// Takes what a line says, and answers the event that it is. Where memory runs out, it takes
+    /// nothing.
     #[tactic(auto, unfolding(crate::specs::Script::after))]
     fn take_statement(&mut self, statement: Statement) -> Result<Option<Event>, AllocError>
         requires lines { self.old.lines < 2 ^ 60 }
         requires fits { Fits self.old.known statement }
         ensures settings { OnOk result (self.new ≡ after self.old statement) }
+        ensures kept { OnErr result (self.new ≡ self.old) }
         ensures event { IfOk result (λ e. e ≡ event_of statement) }
     {
-        self.lines += 1;
+        let mut event = None;
         match statement {
             Statement::Nothing => {}
             Statement::Limit(which, n) => self.limits.set(which, n),
@@ -121,15 +123,17 @@ impl Script {
             Statement::Wide => self.limits.wide = true,
             Statement::Reject => self.limits.reject = true,
             Statement::Phone(phone) => self.known.add(phone)?,
-            Statement::Event(event) => {
+            Statement::Event(next) => {
                 self.known.start();
-                return Ok(Some(event));
+                event = Some(next);
             }
         }
-        Ok(None)
+        self.lines += 1;
+        Ok(event)
     }
 
-    /// Takes the next line, and answers the event that it is.
+    /// Takes the next line, and answers the event that it is. A line that is at fault is not
+    /// taken, nor one for which memory runs out: then all is as it was.
     pub fn take(&mut self, alloc: Global, line: &[u8]) -> Result<Option<Event>, PlayFault>
         requires { self.old.lines < 2 ^ 60 }
         ensures { TakesLine self.old self.new line.now result }

@@ -10,6 +10,7 @@ ghost use Rattle.sms_script.specs.Transcript.Lines.{event_line, packet_line, sen
 ghost use Rattle.sms_script.specs.Transcript.Shown.{shown, stored};
 
 use crate::transcript::escapes::push_escaped;
+pub use escapes::Escape;
 use sms_field::Address;
 use std::alloc::{AllocError, Global};
 

@@ -10,7 +10,7 @@ ghost use Rattle.sms_script.specs.Reasons.{Says};
 ghost use Rattle.sms_script.specs.Words.{left, text_of_words, no_word, one_word, two_words, two_words_and_text};
 
 use crate::fault::ScriptFault;
-pub use address::{address_of, can_be_phone, is_same_address};
+pub use address::{address_of, can_be_phone};
 pub use name::is_name;
 pub use number::number_in;
 pub use octets::octets_of;

@@ -144,9 +144,9 @@ static PLAYED: [Playing; 7] = [
         written: "store a 0\n",
     },
     Playing {
-        script: b"phone a +1001\nbrief\r\n# two\n\nphone b +1002\ncarry 1\npush b",
+        script: WHOLE,
         result: Ok(()),
-        written: "1 noted\n2 noted\nstore a 0\nstore b 0\n",
+        written: TRANSCRIPT,
     },
     Playing {
         script: b"clock 5\ncarry 1\n",
@@ -196,11 +196,36 @@ struct Wanted<'a> {
     failed: bool,
 }
 
-/// What came out is what is wanted, at the row of this number.
-fn is(rt: &impl Abort, row: usize, found: &Outcome, wanted: Wanted<'_>) {
+/// Whether what came out is what is wanted.
+fn is_as_wanted(found: &Outcome, wanted: Wanted<'_>) -> bool {
     let ended = found.result == wanted.result && found.failed == wanted.failed;
-    let good = ended && found.written.as_slice() == wanted.written;
-    assert!(rt; good, "row {row}");
+    ended && found.written.as_slice() == wanted.written
+}
+
+/// A script as a text, where it is one.
+fn text_of(script: &[u8]) -> &str {
+    match str::from_utf8(script) {
+        Ok(text) => text,
+        Err(_) => "a script that is no UTF-8",
+    }
+}
+
+/// A row's script was played as the row says, and its reader has not failed.
+fn is_played(rt: &impl Abort, row: &Playing, found: &Outcome) {
+    let wanted = Wanted {
+        result: row.result,
+        written: row.written.as_bytes(),
+        failed: false,
+    };
+    assert!(rt; is_as_wanted(found, wanted), "{}", text_of(row.script));
+}
+
+/// What came out is what is wanted where a device works so far.
+fn is(rt: &impl Abort, works: usize, found: &Outcome, wanted: Wanted<'_>) {
+    assert!(rt;
+        is_as_wanted(found, wanted),
+        "a device that works up to {works}"
+    );
 }
 
 /// Plays what a reader gives, and tells whether the reader failed.
@@ -217,13 +242,8 @@ fn played<R: Read + Drop>(alloc: Global, reader: R) -> Outcome {
 
 #[test]
 fn scripts_played(rt: HostRuntime) {
-    for (number, row) in PLAYED.iter().enumerate() {
-        let wanted = Wanted {
-            result: row.result,
-            written: row.written.as_bytes(),
-            failed: false,
-        };
-        is(&rt, number, &played(rt.alloc(), row.script), wanted);
+    for row in PLAYED.iter() {
+        is_played(&rt, row, &played(rt.alloc(), row.script));
     }
 }
 
@@ -299,7 +319,7 @@ fn reads_that_fail(rt: HostRuntime) {
     }
 }
 
-/// Plays the whole script into a sink with so much room, and tells whether the sink failed.
+/// Plays the whole script into a sink with room for as many octets, and tells whether the sink failed.
 fn narrowed(alloc: Global, room: usize) -> Outcome {
     let mut source = Watched::new(WHOLE);
     let mut sink = Watched::new(Narrow {

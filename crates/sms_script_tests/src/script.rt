@@ -214,26 +214,35 @@ fn fault_of(alloc: Global, before: &[&[u8]], line: &[u8]) -> Option<PlayFault> {
     }
 }
 
-/// The line of a row, at this place, is at fault as the row says.
-fn is_at_fault(rt: &impl Abort, row: usize, found: Option<PlayFault>, line: u64, why: ScriptFault) {
+/// A line as a text, where it is one.
+fn text_of(line: &[u8]) -> &str {
+    match str::from_utf8(line) {
+        Ok(text) => text,
+        Err(_) => "a line that is no UTF-8",
+    }
+}
+
+/// The line of a row is at fault as the row says, as the line of this number.
+fn is_at_fault(rt: &impl Abort, row: &Faulty, found: Option<PlayFault>, line: u64) {
+    let why = row.why;
     let good = found == Some(PlayFault::Script { line, why });
-    assert!(rt; good, "row {row}");
+    assert!(rt; good, "{}", text_of(row.line));
 }
 
 #[test]
 fn first_reasons_count(rt: HostRuntime) {
     let phones: [&[u8]; 2] = [b"phone a +1001", b"phone b +1002"];
-    for (number, row) in FAULTS.iter().enumerate() {
+    for row in FAULTS.iter() {
         let found = fault_of(rt.alloc(), &phones, row.line);
-        is_at_fault(&rt, number, found, 3, row.why);
+        is_at_fault(&rt, row, found, 3);
     }
 }
 
 #[test]
 fn first_reasons_count_after_an_event(rt: HostRuntime) {
-    for (number, row) in FAULTS_AFTER_AN_EVENT.iter().enumerate() {
+    for row in FAULTS_AFTER_AN_EVENT.iter() {
         let found = fault_of(rt.alloc(), &[b"carry 1"], row.line);
-        is_at_fault(&rt, number, found, 2, row.why);
+        is_at_fault(&rt, row, found, 2);
     }
 }
 
@@ -273,9 +282,9 @@ static FAULTS_AFTER_A_HUNDRED_PHONES: [Faulty; 2] = [
 #[test]
 fn hundred_phones_and_one(rt: HostRuntime) -> Result<(), Fail> {
     let mut script = script_of_phones(rt.alloc(), 100)?;
-    for (number, row) in FAULTS_AFTER_A_HUNDRED_PHONES.iter().enumerate() {
+    for row in FAULTS_AFTER_A_HUNDRED_PHONES.iter() {
         let found = take(rt.alloc(), &mut script, row.line).err();
-        is_at_fault(&rt, number, found, 101, row.why);
+        is_at_fault(&rt, row, found, 101);
     }
     Ok(())
 }
@@ -283,66 +292,66 @@ fn hundred_phones_and_one(rt: HostRuntime) -> Result<(), Fail> {
 /// A line, and the event that it is.
 #[derive(Clone, Copy)]
 struct Written {
-    line: &'static [u8],
+    line: &'static str,
     event: &'static str,
 }
 
 /// After the phones `a` and `b`.
 static EVENTS: [Written; 14] = [
     Written {
-        line: b"type b  hi \r",
+        line: "type b  hi \r",
         event: "type 1 [] [hi \r]",
     },
     Written {
-        line: b"type a +1002",
+        line: "type a +1002",
         event: "type 0 [+1002] []",
     },
     Written {
-        line: b"type a +1002 ",
+        line: "type a +1002 ",
         event: "type 0 [+1002] []",
     },
     Written {
-        line: b"type a abcd a  b\\n",
+        line: "type a abcd a  b\\n",
         event: "type 0 [abcd] [a  b\\n]",
     },
     Written {
-        line: b"carry 0",
+        line: "carry 0",
         event: "carry 0",
     },
     Written {
-        line: b"carry 0000000007",
+        line: "carry 0000000007",
         event: "carry 7",
     },
     Written {
-        line: b"timeout a",
+        line: "timeout a",
         event: "timeout 0",
     },
     Written {
-        line: b"push b",
+        line: "push b",
         event: "push 1",
     },
     Written {
-        line: b"tick 9999999999",
+        line: "tick 9999999999",
         event: "tick 9999999999",
     },
     Written {
-        line: b"inject up b 0aFF",
+        line: "inject up b 0aFF",
         event: "inject true 1 [0AFF]",
     },
     Written {
-        line: b"inject down a ",
+        line: "inject down a ",
         event: "inject false 0 []",
     },
     Written {
-        line: b"inject down a -",
+        line: "inject down a -",
         event: "inject false 0 []",
     },
     Written {
-        line: b"# push b",
+        line: "# push b",
         event: "none",
     },
     Written {
-        line: b"",
+        line: "",
         event: "none",
     },
 ];
@@ -399,17 +408,17 @@ fn answer_to(alloc: Global, line: &[u8]) -> Result<Option<Event>, PlayFault> {
     take(alloc, &mut script, line)
 }
 
-/// A text is what a row wants.
-fn is_text(rt: &impl Abort, row: usize, found: &str, wanted: &str) {
-    assert_eq!(rt; found, wanted, "row {row}");
+/// An event in words is what a row wants.
+fn is_event(rt: &impl Abort, row: &Written, found: &str) {
+    assert_eq!(rt; found, row.event, "{}", row.line);
 }
 
 #[test]
 fn events_as_written(rt: HostRuntime) -> Result<(), Fail> {
-    for (number, row) in EVENTS.iter().enumerate() {
-        let answer = answer_to(rt.alloc(), row.line);
+    for row in EVENTS.iter() {
+        let answer = answer_to(rt.alloc(), row.line.as_bytes());
         let event = answer_shown(rt.alloc(), &answer)?;
-        is_text(&rt, number, &event, row.event);
+        is_event(&rt, row, &event);
     }
     Ok(())
 }

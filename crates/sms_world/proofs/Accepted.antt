@@ -1,5 +1,6 @@
 -- A text that is shown as accepted was accepted by the centre, segment by segment.
 use Rattle.std.proofs.Common.{◌≡◌, ℕ, zero, suc, ◌+◌, ◌-◌, ◌<◌, Bool, true, false, cond, not, ◌&&◌, ◌||◌, eqb, ltb, leb, List, [], ◌∷◌, ◌++◌, length, refl, sym, ◌∙◌, subst, arith, Some, None, Option, Ok, Err, Result, is_some, inl, inr, get_or, Contains, ◌≤◌, ap}
+use Rattle.std.specs.List.{AllByRecursion}
 use Rattle.sms_party.specs.Message.Answers.{answers}
 use Rattle.std.proofs.lemmas.Bool.{cond_both, and_parts, and_from, eqb-true, eq-eqb, ltb-true, ltb-false, eqb-false}
 use Rattle.sms_field.specs.AddressValue.{AddressValue}
@@ -56,7 +57,7 @@ use Rattle.sms_world.proofs.Walk.{is_recipient, answer_may_come, duplicates_are_
 use Rattle.sms_world.specs.Machine.{Machine, start}
 use Rattle.sms_world.specs.Machine.Event.{Event, Compose, Carry, Timeout, Push, Tick, Inject, Act, Is}
 use Rattle.sms_world.specs.Machine.Step.{Acts, RunWith}
-use Rattle.sms_world.specs.Claims.Pieces.{Each, IsPending, IsUnderWay, SenderSound}
+use Rattle.sms_world.specs.Claims.Pieces.{IsPending, IsUnderWay, SenderSound}
 use Rattle.sms_world.specs.Accepted.{IsHonest, AcceptedIsAccepted}
 use Rattle.sms_world.specs.Orderly.Brought.{BringsSubmission, BringsAnswer}
 use Rattle.sms_world.proofs.Growing.{each_weaker, each_append, each_entered, changed_each, nth_more, nth_newest, sender_more}
@@ -95,7 +96,7 @@ AcceptedSoFar accepted (n ∷ later) k = all_given accepted n k ≡ true
 
 record Told (accepted : List Acceptance) (texts : List Text) (s : Sender) : Type 0 where
   so_far : AcceptedSoFar accepted s.pending s.accepted
-  ended : Each (λ e. (e.1 ≡ true → all_given accepted e.0 (size_in texts e.0) ≡ true) × ((t : Text) × (nth texts e.0 ≡ Some t))) s.ended
+  ended : AllByRecursion (λ e. (e.1 ≡ true → all_given accepted e.0 (size_in texts e.0) ≡ true) × ((t : Text) × (nth texts e.0 ≡ Some t))) s.ended
 
 -- what is told of each message, by the senders as they are
 
@@ -175,14 +176,14 @@ record PutsTold (accepted : List Acceptance) (texts : List Text) (phone outs : �
   -- where it is new, nothing that was put out before is the latest
   moves : (s : Sender) → s.outs ≡ outs → Moves s p.sender
   told : Told accepted texts p.sender
-  put : (f : ℕ → Sender) → f phone ≡ p.sender → Each (SentTold accepted f) p.sent
+  put : (f : ℕ → Sender) → f phone ≡ p.sender → AllByRecursion (SentTold accepted f) p.sent
 
 puts_told : (accepted : List Acceptance) (texts : List Text) (phone : ℕ) (s : Sender) (reject : Bool)
     → SenderSound texts phone s → Told accepted texts s → PutsTold accepted texts phone s.outs (puts texts phone s reject)
 unfolding puts puts_first puts_text
 puts_told accepted texts phone s reject h t = go s.pending refl h.pending t
   where
-    go : (ns : List ℕ) → s.pending ≡ ns → Each (IsPending texts phone) ns → Told accepted texts s
+    go : (ns : List ℕ) → s.pending ≡ ns → AllByRecursion (IsPending texts phone) ns → Told accepted texts s
         → PutsTold accepted texts phone s.outs (puts_first texts phone s reject ns)
     go [] e g t =
         record {
@@ -211,7 +212,7 @@ puts_told accepted texts phone s reject h t = go s.pending refl h.pending t
 record GoodTold (accepted : List Acceptance) (x : SenderState) (d : Sends SenderState) : Type 0 where
   told : (q : ℕ) → Told accepted d.after.texts (d.after.sender q)
   moves : (q : ℕ) → Moves (x.sender q) (d.after.sender q)
-  put : Each (SentTold accepted d.after.sender) d.put
+  put : AllByRecursion (SentTold accepted d.after.sender) d.put
 
 abbrev AllTold : List Acceptance → SenderState → Type 0
 AllTold accepted x = (q : ℕ) → Told accepted x.texts (x.sender q)
@@ -224,8 +225,8 @@ at_changed f n x = rw (eq-eqb n n refl) refl
 
 does_told : (accepted : List Acceptance) (x : SenderState) (phone : ℕ) (o : Outcome) (first : List Sent) (p : Puts)
     → AllTold accepted x → Moves (x.sender phone) p.sender → Told accepted x.texts p.sender
-    → ((f : ℕ → Sender) → f phone ≡ p.sender → Each (SentTold accepted f) p.sent)
-    → ((f : ℕ → Sender) → Each (SentTold accepted f) first)
+    → ((f : ℕ → Sender) → f phone ≡ p.sender → AllByRecursion (SentTold accepted f) p.sent)
+    → ((f : ℕ → Sender) → AllByRecursion (SentTold accepted f) first)
     → GoodTold accepted x (does x phone o first p)
 unfolding does with_sender
 does_told accepted x phone o first p h moves told put a =
@@ -239,7 +240,7 @@ does_told accepted x phone o first p h moves told put a =
 -- with what is put out for a changed sender with as many puttings out
 does_puts : (accepted : List Acceptance) (x : SenderState) (phone : ℕ) (o : Outcome) (first : List Sent) (s : Sender) (reject : Bool)
     → AllTold accepted x → (x.sender phone).outs ≡ s.outs → SenderSound x.texts phone s → Told accepted x.texts s
-    → ((f : ℕ → Sender) → Each (SentTold accepted f) first)
+    → ((f : ℕ → Sender) → AllByRecursion (SentTold accepted f) first)
     → GoodTold accepted x (does x phone o first (puts x.texts phone s reject))
 does_puts accepted x phone o first s reject h e g t a =
     let p = puts_told accepted x.texts phone s reject g t in
@@ -256,7 +257,7 @@ unfolding ends
 ends_told accepted texts phone s n [] good p t g = record { so_far = tt; ended = ((g, (p.0, p.1)), t.ended) }
 ends_told accepted texts phone s n (k ∷ later) good p t g = record { so_far = refl; ended = ((g, (p.0, p.1)), t.ended) }
 
-acks : (accepted : List Acceptance) (phone : ℕ) (tag : Tag) (f : ℕ → Sender) → Each (SentTold accepted f) (noted phone tag)
+acks : (accepted : List Acceptance) (phone : ℕ) (tag : Tag) (f : ℕ → Sender) → AllByRecursion (SentTold accepted f) (noted phone tag)
 unfolding bare
 acks accepted phone tag f = (tt, tt)
 
@@ -326,7 +327,7 @@ composes_told accepted x phone target characters pieces cut g h =
     (λ _. cond_both (ltb 255 (length pieces)) _ _ (GoodTold accepted x) (λ _. drops_told accepted x _ h)
     (λ _. typed_told accepted x phone (new_text x.wide x.texts phone target characters pieces) refl (some_piece (width_of x.wide) characters pieces cut) g h))
 
-repeats_told : (accepted : List Acceptance) (x : SenderState) (phone : ℕ) (ns : List ℕ) → Each (IsPending x.texts phone) ns
+repeats_told : (accepted : List Acceptance) (x : SenderState) (phone : ℕ) (ns : List ℕ) → AllByRecursion (IsPending x.texts phone) ns
     → SendersSound x → AllTold accepted x → GoodTold accepted x (repeats x phone (x.sender phone) ns)
 unfolding repeats
 repeats_told accepted x phone [] e g h = record { told = h; moves = λ q. stays_put (x.sender q); put = tt }
@@ -345,7 +346,7 @@ unfolding times_out
 times_out_told accepted x phone g h = repeats_told accepted x phone (x.sender phone).pending (g phone).pending g h
 
 hears_told : (accepted : List Acceptance) (x : SenderState) (phone : ℕ) (tag : Tag) (n : ℕ) (later : List ℕ) (good more : Bool) (failed : Outcome)
-    → (x.sender phone).pending ≡ n ∷ later → Each (IsPending x.texts phone) (n ∷ later)
+    → (x.sender phone).pending ≡ n ∷ later → AllByRecursion (IsPending x.texts phone) (n ∷ later)
     → (more ≡ true → suc (x.sender phone).accepted < size_in x.texts n)
     → (more ≡ false → suc (x.sender phone).accepted ≡ size_in x.texts n)
     → (good ≡ true → is_given accepted n (suc (x.sender phone).accepted) ≡ true)
@@ -400,7 +401,7 @@ matches_told m phone tag accepted v r about [] p a told g h = drops_told accepte
 matches_told m phone tag accepted v r about (n ∷ later) p a told g h =
     cond_both (same_tag tag (tag_of ((m.senders.sender phone).outs - 1))) _ _ (GoodTold accepted m.senders)
     (λ t. hears_told accepted m.senders phone tag n later (accepts v r) (ltb (suc (m.senders.sender phone).accepted) (size_in m.senders.texts n)) _
-    p (subst (Each (IsPending m.senders.texts phone)) p (g phone).pending) (λ q. ltb-true _ _ q)
+    p (subst (AllByRecursion (IsPending m.senders.texts phone)) p (g phone).pending) (λ q. ltb-true _ _ q)
     (λ q. let u = under in let l = ltb-false _ _ q in omega arith)
     (λ good. latest_given m phone tag accepted v r about n later p t a told good) g h)
     (λ _. drops_told accepted m.senders _ h)
@@ -480,7 +481,7 @@ own_given phones (a ∷ past) phone now s o r e to h d =
 -- what one call of the centre leaves
 record CentreTold (f : ℕ → Sender) (about : Option ℕ) (c : CentreState) (phone : ℕ) (d : Does CentreState) : Type 0 where
   given : (n s : ℕ) → is_given c.accepted n s ≡ true → is_given d.after.accepted n s ≡ true
-  put : Each (SentTold d.after.accepted f) (to_phone phone None about d.put)
+  put : AllByRecursion (SentTold d.after.accepted f) (to_phone phone None about d.put)
 
 centre_drops_told : (f : ℕ → Sender) (about : Option ℕ) (c : CentreState) (phone : ℕ) (why : Dropped) → CentreTold f about c phone (drops c why)
 centre_drops_told f about c phone why = record { given = λ n s h. h; put = tt }
@@ -567,7 +568,7 @@ centre_receives_told m f limit phone (Data true tag Unreadable) origin about t o
 record TellsTrue (m : Machine) : Type 0 where
   sound : SendersSound m.senders
   told : AllTold m.centre.accepted m.senders
-  sent : Each (SentTold m.centre.accepted m.senders.sender) m.sent
+  sent : AllByRecursion (SentTold m.centre.accepted m.senders.sender) m.sent
 
 by_sender_true : (m : Machine) (d : Sends SenderState) → TellsTrue m → SendersSound d.after → GoodTold m.centre.accepted m.senders d → TellsTrue (by_sender m d).after
 unfolding by_sender
@@ -619,11 +620,11 @@ unfolding by_centre pushed of_centre pushes_first
 pushes_true m phones phone [] h = record { sound = h.sound; told = h.told; sent = h.sent }
 pushes_true m phones phone (a ∷ others) h = record { sound = h.sound; told = h.told; sent = (tt, h.sent) }
 
-replied_true : (m : Machine) (phone : ℕ) (tag : Tag) (v : Option ℕ) (r : Option Report) → Each (SentTold m.centre.accepted m.senders.sender) (to_centre phone (answers FromPhone tag v r))
+replied_true : (m : Machine) (phone : ℕ) (tag : Tag) (v : Option ℕ) (r : Option Report) → AllByRecursion (SentTold m.centre.accepted m.senders.sender) (to_centre phone (answers FromPhone tag v r))
 unfolding bare
 replied_true m phone tag v r = (tt, (tt, tt))
 
-by_receiver_true : (m : Machine) (phone : ℕ) (d : Does ReceiverState) → TellsTrue m → Each (SentTold m.centre.accepted m.senders.sender) (to_centre phone d.put)
+by_receiver_true : (m : Machine) (phone : ℕ) (d : Does ReceiverState) → TellsTrue m → AllByRecursion (SentTold m.centre.accepted m.senders.sender) (to_centre phone d.put)
     → TellsTrue (by_receiver m phone d).after
 unfolding by_receiver
 by_receiver_true m phone d h g =
@@ -712,9 +713,9 @@ unfolding same_address
 phone_address phones target n h =
     same_address_true _ _ (position-Some (λ a. same_address a target) phones n (address_of [] 0) h).1
 
-module _ (m : Machine) (e : Event) (h : TellsTrue m) (fit : Each (Fits m.phones) m.centre.accepted) (may : IsHonest m e) where
+module _ (m : Machine) (e : Event) (h : TellsTrue m) (fit : AllByRecursion (Fits m.phones) m.centre.accepted) (may : IsHonest m e) where
   own : (phone : ℕ) (s : Submission) (o : Origin) → BringsSubmission m e phone s (Some o) → (past : List Acceptance)
-      → ((a : Acceptance) → Contains past a → Contains m.centre.accepted a) → Each (Fits m.phones) past
+      → ((a : Acceptance) → Contains past a → Contains m.centre.accepted a) → AllByRecursion (Fits m.phones) past
       → duplicates_are_own m.phones past phone m.clock s o ≡ true
   own phone s o b [] t f = refl
   own phone s o b (a ∷ past) t f =
@@ -790,7 +791,7 @@ module _ (m : Machine) (e : Event) (h : TellsTrue m) (fit : Each (Fits m.phones)
   own_packet k c (Some x) p =
       own_by_parts k c x.message x.to x.origin x.about p (packet_sent m (SentTold m.centre.accepted m.senders.sender) k h.sent x p)
 
-honest_from : (m : Machine) (e : Event) → TellsTrue m → Each (Fits m.phones) m.centre.accepted → IsHonest m e → is_honest m e ≡ true
+honest_from : (m : Machine) (e : Event) → TellsTrue m → AllByRecursion (Fits m.phones) m.centre.accepted → IsHonest m e → is_honest m e ≡ true
 unfolding is_honest
 honest_from m (Compose phone target characters) h fit may = refl
 honest_from m (Carry k) h fit may = own_packet m (Carry k) h fit may k refl (packet m k) refl

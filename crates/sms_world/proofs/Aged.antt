@@ -8,7 +8,7 @@ use Rattle.sms_party.specs.Receiver.Aging.{ages}
 use Rattle.sms_party.specs.Sender.Stands.{SenderStands}
 use Rattle.sms_party.specs.Sender.Texts.{size_of}
 use Rattle.sms_party.specs.Sent.{nth}
-use Rattle.sms_world.specs.Machine.Next.{receiver_limits, aged_at, ticked}
+use Rattle.sms_world.specs.Machine.Next.{receiver_limits, ticked}
 use Rattle.sms_world.specs.World.Value.{PartiesValue}
 use Rattle.sms_world.specs.World.Phones.{IsAged}
 use Rattle.sms_world.specs.World.Parties.{MovesTo}
@@ -53,7 +53,7 @@ all_aged now (suc n) (w ∷ old) (z ∷ new) le h (suc p) y e =
     let was = all_aged now n old new l h.1 p y e in record { before = was.before; is_there = was.is_there; aged = was.aged }
 
 pub moves : (now n : ℕ) (v new : PartiesValue) → StandsLater now v.centre new.centre → length new.phones ≡ length v.phones → length v.phones ≤ n → AreAged now n v.phones new.phones → MovesTo now v new
-unfolding ticked aged_at ages
+unfolding ticked ages
 moves now n v new stands many le a m h before =
     record {
       centre_stands = stands m.limits.held m.phones m.clock m.centre before h.centre_stands;

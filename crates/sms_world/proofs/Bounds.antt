@@ -14,7 +14,7 @@ use Rattle.sms_party.specs.declared.message.Message.TheVariants.{NotCp, Note, Ti
 use Rattle.sms_party.specs.declared.message.Tag.{Tag}
 use Rattle.sms_field.specs.Times.{end_of_2099}
 use Rattle.sms_party.specs.Message.{Origin}
-use Rattle.sms_party.specs.Sent.{Place, Centre, Phone, Sent}
+use Rattle.sms_party.specs.Sent.{nth, Place, Centre, Phone, Sent}
 use Rattle.sms_world.specs.Told.{Told}
 use Rattle.sms_party.specs.Receiver.State.{ReceiverState, new_receiver, ReceiverLimits}
 use Rattle.sms_script.specs.declared.script.limits.Limits.{Limits}
@@ -22,8 +22,10 @@ use Rattle.sms_world.proofs.Offered.{stored, is_taken, offers, units_in_delivery
 use Rattle.sms_party.specs.Receiver.Offers.{is_full_for, takes}
 use Rattle.sms_party.specs.Receiver.Pieces.{piece_in}
 use Rattle.sms_party.specs.Receiver.{receiver_opened}
+use Rattle.sms_party.specs.Receiver.Aging.{ages}
+use Rattle.sms_party.specs.Sender.Texts.{size_of}
 use Rattle.sms_join.specs.Aging.{SetsStayFew}
-use Rattle.sms_world.specs.Machine.Next.{of_centre, Next, next, stays, by_sender, by_centre, by_receiver, comes, comes_to_phone, carries, packet, aged_at, ticked, pushed, phone_of, receiver_limits}
+use Rattle.sms_world.specs.Machine.Next.{of_centre, Next, next, stays, by_sender, by_centre, by_receiver, comes, comes_to_phone, carries, packet, ticked, pushed, phone_of, receiver_limits}
 use Rattle.sms_world.specs.Machine.{Machine, start}
 use Rattle.sms_world.specs.Machine.Event.{Event, Act, Composes, Carries, TimesOut, Pushes, Ticks, Injects}
 use Rattle.sms_world.specs.Machine.Step.{Acts, RunWith}
@@ -104,7 +106,7 @@ module _ (law : SetsStayFew) where
   carries_bounded m (Some x) h = comes_bounded m x.to x.message x.origin x.about h
 
   next_bounded : (m : Machine) (act : Act) → Bounded m → Bounded (next m act).after
-  unfolding next by_sender by_centre pushed of_centre ticked aged_at
+  unfolding next by_sender by_centre pushed of_centre ticked ages
   next_bounded m (Composes phone target characters pieces) h =
       cond_both (ltb phone (length m.phones)) _ _ (λ (r : Next). Bounded r.after) (λ _. h) (λ _. stays_bounded m _ h)
   next_bounded m (Carries k) h = carries_bounded m (packet m k) h
@@ -115,7 +117,7 @@ module _ (law : SetsStayFew) where
   next_bounded m (Ticks seconds) h =
       cond_both (ltb (m.clock + seconds) end_of_2099) _ _ (λ (r : Next). Bounded r.after) (λ _ p. older p) (λ _. stays_bounded m _ h)
     where
-      older : (p : ℕ) → IsBounded (receiver_limits m.limits) (aged_at m.senders.texts (m.clock + seconds) (m.receiver p))
+      older : (p : ℕ) → IsBounded (receiver_limits m.limits) (ages (λ n. size_of (nth m.senders.texts n)) (m.clock + seconds) (m.receiver p))
       older p =
           let f = law.1 (m.clock + seconds) (m.receiver p).joiner in
           let k' = (h p).sets in

@@ -1,5 +1,6 @@
 -- The centre accepts each segment once, and delivers what it accepted.
 use Rattle.std.proofs.Common.{◌≡◌, ℕ, ◌+◌, ◌-◌, ◌%◌, Bool, true, false, cond, not, ◌&&◌, ◌||◌, eqb, ltb, leb, List, [], ◌∷◌, refl, sym, ap, ◌∙◌, subst, Some, None, Option, Ok, Err, Result}
+use Rattle.std.specs.List.{AllByRecursion}
 use Rattle.std.proofs.lemmas.Bool.{eqb-true, eq-eqb, cond_both, and_parts, and_from, or_right}
 use Rattle.sms_field.specs.AddressValue.{AddressValue}
 use Rattle.sms_field.specs.declared.validity.ValidityFault.{ValidityFault}
@@ -34,7 +35,7 @@ use Rattle.sms_world.specs.OrderTests.{may_come_again, submission_in_order}
 use Rattle.sms_world.proofs.Walk.{message_may_come}
 use Rattle.sms_world.specs.Machine.{Machine}
 use Rattle.sms_world.specs.Machine.Next.{to_phone, origin_of}
-use Rattle.sms_world.specs.Claims.Pieces.{Each, SubmissionOf, IsTyped, DeliverOf, UnitOf, MessageOf, IsSentOf, CentreSound}
+use Rattle.sms_world.specs.Claims.Pieces.{SubmissionOf, IsTyped, DeliverOf, UnitOf, MessageOf, IsSentOf, CentreSound}
 use Rattle.sms_world.proofs.Growing.{each_weaker, each_append, changed_each, given_more, typed_accepts, sent_accepts}
 
 -- an accepted submission is to a phone, and is no duplicate that was to be rejected
@@ -92,7 +93,7 @@ same_origin p o h =
     λ i. record { text = x i; segment = y i }
 
 again : (phones : List AddressValue) (texts : List Text) (all past : List Acceptance) (now phone : ℕ) (s : Submission) (o : Origin) (n r : ℕ)
-    → Each (IsTyped phones texts all) past → SubmissionOf texts phone s o → phone_at phones s.target ≡ Some r → may_come_again past now s.reject o ≡ true
+    → AllByRecursion (IsTyped phones texts all) past → SubmissionOf texts phone s o → phone_at phones s.target ≡ Some r → may_come_again past now s.reject o ≡ true
     → stamp_given past o ≡ Some n → Again past now phone s r
 unfolding submission_of
 again phones texts all [] now phone s o n r e h to m g = cc
@@ -135,7 +136,7 @@ again phones texts all (a ∷ past) now phone s o n r e h to m g =
 -- what one call of the centre leaves
 pub record GoodCall (phones : List AddressValue) (texts : List Text) (c : CentreState) (phone : ℕ) (origin : Option Origin) (about : Option ℕ) (d : Does CentreState) : Type 0 where
   pub centre : CentreSound phones texts d.after
-  pub put : Each (IsSentOf phones texts d.after.accepted) (to_phone phone origin about d.put)
+  pub put : AllByRecursion (IsSentOf phones texts d.after.accepted) (to_phone phone origin about d.put)
   pub given : (o : Origin) (n : ℕ) → stamp_given c.accepted o ≡ Some n → stamp_given d.after.accepted o ≡ Some n
   pub sent : (x : Sent) → IsSentOf phones texts c.accepted x → IsSentOf phones texts d.after.accepted x
 
@@ -160,7 +161,7 @@ accept_good phones texts c phone s o r e t h x none to =
     record {
       accepted = (this, each_weaker (IsTyped phones texts c.accepted) (IsTyped phones texts (a ∷ c.accepted)) c.accepted grown h.accepted);
       once = (fresh, h.once);
-      queued = changed_each (λ i (l : Line). Each (λ b. (b.recipient ≡ i) × IsTyped phones texts (a ∷ c.accepted) b) l.queue)
+      queued = changed_each (λ i (l : Line). AllByRecursion (λ b. (b.recipient ≡ i) × IsTyped phones texts (a ∷ c.accepted) b) l.queue)
           c.line r (after_acceptance (c.line r) a)
           (each_append (λ b. (b.recipient ≡ r) × IsTyped phones texts (a ∷ c.accepted) b) (c.line r).queue (a ∷ []) (others r) ((refl, this), tt))
           others;
@@ -175,7 +176,7 @@ accept_good phones texts c phone s o r e t h x none to =
     grown : (b : Acceptance) → IsTyped phones texts c.accepted b → IsTyped phones texts (a ∷ c.accepted) b
     grown b g = typed_accepts a c.accepted fresh phones texts b g
 
-    others : (i : ℕ) → Each (λ b. (b.recipient ≡ i) × IsTyped phones texts (a ∷ c.accepted) b) (c.line i).queue
+    others : (i : ℕ) → AllByRecursion (λ b. (b.recipient ≡ i) × IsTyped phones texts (a ∷ c.accepted) b) (c.line i).queue
     others i = each_weaker (λ b. (b.recipient ≡ i) × IsTyped phones texts c.accepted b)
         (λ b. (b.recipient ≡ i) × IsTyped phones texts (a ∷ c.accepted) b) (c.line i).queue (λ b g. (g.0, grown b g.1)) (h.queued i)
 
@@ -243,28 +244,28 @@ takes_good all m limit phones texts phone about tag OtherUnit origin h x may = a
 takes_good all m limit phones texts phone about tag BadUnit origin h x may = absurd x
 
 -- parts of a queue
-each_unqueued : (P : Acceptance → Type 0) (queue : List Acceptance) (n : ℕ) → Each P queue → Each P (unqueued queue n)
+each_unqueued : (P : Acceptance → Type 0) (queue : List Acceptance) (n : ℕ) → AllByRecursion P queue → AllByRecursion P (unqueued queue n)
 each_unqueued P [] n h = tt
 each_unqueued P (a ∷ queue) n h =
-    cond_both (eqb a.stamp n) _ _ (Each P) (λ _. each_unqueued P queue n h.1) (λ _. (h.0, each_unqueued P queue n h.1))
+    cond_both (eqb a.stamp n) _ _ (AllByRecursion P) (λ _. each_unqueued P queue n h.1) (λ _. (h.0, each_unqueued P queue n h.1))
 
-each_unended : (P : Acceptance → Type 0) (queue : List Acceptance) (now : ℕ) → Each P queue → Each P (unended queue now)
+each_unended : (P : Acceptance → Type 0) (queue : List Acceptance) (now : ℕ) → AllByRecursion P queue → AllByRecursion P (unended queue now)
 each_unended P [] now h = tt
 each_unended P (a ∷ queue) now h =
-    cond_both (ltb now a.ends) _ _ (Each P) (λ _. (h.0, each_unended P queue now h.1)) (λ _. each_unended P queue now h.1)
+    cond_both (ltb now a.ends) _ _ (AllByRecursion P) (λ _. (h.0, each_unended P queue now h.1)) (λ _. each_unended P queue now h.1)
 
 -- what waits at one recipient
 abbrev Waits : List AddressValue → List Text → List Acceptance → ℕ → Acceptance → Type 0
 Waits phones texts accepted r a = (a.recipient ≡ r) × IsTyped phones texts accepted a
 
 relined : (phones : List AddressValue) (texts : List Text) (c : CentreState) (phone : ℕ) (l : Line)
-    → CentreSound phones texts c → Each (Waits phones texts c.accepted phone) l.queue
+    → CentreSound phones texts c → AllByRecursion (Waits phones texts c.accepted phone) l.queue
     → CentreSound phones texts (record { accepted = c.accepted; line = changed c.line phone l })
 relined phones texts c phone l h q =
     record {
       accepted = h.accepted;
       once = h.once;
-      queued = changed_each (λ i (k : Line). Each (Waits phones texts c.accepted i) k.queue) c.line phone l q h.queued;
+      queued = changed_each (λ i (k : Line). AllByRecursion (Waits phones texts c.accepted i) k.queue) c.line phone l q h.queued;
     }
 
 settled_good : (phones : List AddressValue) (texts : List Text) (c : CentreState) (phone : ℕ) (about : Option ℕ) (tag : Tag) (a : Acceptance) (cause : Option ℕ)
@@ -273,7 +274,7 @@ unfolding settled
 settled_good phones texts c phone about tag a cause h =
     record {
       centre = relined phones texts c phone (after_answer (c.line phone) a cause) h
-          (cond_both (stays cause) _ _ (Each (Waits phones texts c.accepted phone)) (λ _. h.queued phone)
+          (cond_both (stays cause) _ _ (AllByRecursion (Waits phones texts c.accepted phone)) (λ _. h.queued phone)
           (λ _. each_unqueued (Waits phones texts c.accepted phone) (c.line phone).queue a.stamp (h.queued phone)));
       put = (tt, tt);
       given = λ o n g. g;
@@ -293,7 +294,7 @@ abbrev GoodPush : List AddressValue → List Text → CentreState → ℕ → Do
 GoodPush phones texts c phone d = GoodCall phones texts c phone (origin_of (d.after.line phone).latest) None d
 
 pushes_good : (phones : List AddressValue) (texts : List Text) (c : CentreState) (phone : ℕ) (queue : List Acceptance)
-    → CentreSound phones texts c → Each (Waits phones texts c.accepted phone) queue → GoodPush phones texts c phone (pushes_first phones c phone queue)
+    → CentreSound phones texts c → AllByRecursion (Waits phones texts c.accepted phone) queue → GoodPush phones texts c phone (pushes_first phones c phone queue)
 unfolding pushes_first submission_of
 pushes_good phones texts c phone [] h q = record { centre = h; put = tt; given = λ o n g. g; sent = λ x g. g }
 pushes_good phones texts c phone (a ∷ others) h q =

@@ -1,5 +1,6 @@
 -- From the orderly conditions: a delivery that comes brings a segment whose key no other text uses, open or remembered.
 use Rattle.std.proofs.Common.{◌≡◌, ◌≢◌, ℕ, suc, ◌<◌, ◌≤◌, Bool, true, false, not, ◌||◌, eqb, ltb, List, [], ◌∷◌, take, length, refl, sym, ap, ◌∙◌, subst, arith, Some, ◌⊎◌, Contains}
+use Rattle.std.specs.List.{AllByRecursion}
 use Rattle.std.proofs.lemmas.Bool.{and_from, eq-eqb, ltb-true, ltb-false}
 use Rattle.sms_field.specs.AddressValue.{AddressValue}
 use Rattle.sms_tpdu.specs.Deliver.{Delivery}
@@ -27,7 +28,7 @@ use Rattle.sms_world.specs.Texts.Taken.{IsOpen}
 use Rattle.sms_world.specs.Texts.Finished.{finished, IsAmongLast}
 use Rattle.sms_world.specs.Orderly.Keys.{HasKey}
 use Rattle.sms_world.specs.OrderTests.{is_past}
-use Rattle.sms_world.specs.Claims.Pieces.{Each, IsTyped, DeliveryOf}
+use Rattle.sms_world.specs.Claims.Pieces.{IsTyped, DeliveryOf}
 use Rattle.sms_world.proofs.Walk.{may_arrive, may_deliver}
 use Rattle.sms_world.proofs.Standing.{ArrivalOf}
 use Rattle.sms_world.proofs.Entries.{has_text_of}
@@ -39,7 +40,7 @@ use Rattle.sms_world.proofs.Stamped.{Fits, IsOnlyTo, stamps_differ, given_fits}
 
 -- the accepted submissions of a segment are to the phone that its text was typed to
 only_to : (phones : List AddressValue) (texts : List Text) (accepted past : List Acceptance) (o : Origin) (t : Text) (r : ℕ)
-    → nth texts o.text ≡ Some t → phone_at phones t.target ≡ Some r → Each (IsTyped phones texts accepted) past → IsOnlyTo past o r
+    → nth texts o.text ≡ Some t → phone_at phones t.target ≡ Some r → AllByRecursion (IsTyped phones texts accepted) past → IsOnlyTo past o r
 only_to phones texts accepted past o t r f to h =
     each_weaker (IsTyped phones texts accepted) (λ a. a.origin ≡ Some o → a.recipient ≡ r) past go h
   where
@@ -55,7 +56,7 @@ only_to phones texts accepted past o t r f to h =
 
 -- texts in one segment to one phone have different stamps
 pub one_piece_stamps_differ : (phones : List AddressValue) (texts : List Text) (accepted : List Acceptance) (phone n k : ℕ) (t u : Text) (x y : ℕ)
-    → IsRising accepted → Each (Fits phones) accepted → MomentComesBackOfZone0 → Each (IsTyped phones texts accepted) accepted
+    → IsRising accepted → AllByRecursion (Fits phones) accepted → MomentComesBackOfZone0 → AllByRecursion (IsTyped phones texts accepted) accepted
     → nth texts n ≡ Some t → nth texts k ≡ Some u → phone_at phones t.target ≡ Some phone → phone_at phones u.target ≡ Some phone
     → n ≢ k → stamp_given accepted (record { text = n; segment = 1 }) ≡ Some x → stamp_given accepted (record { text = k; segment = 1 }) ≡ Some y
     → stamp_octets x ≢ stamp_octets y
@@ -69,9 +70,9 @@ one_piece_stamps_differ phones texts accepted phone n k t u x y rising fit back 
     (λ s. ne (ap (λ (v : Origin). v.text) s)) p q same
 
 module _ (m : Machine) (phone : ℕ) (d : Delivery) (o : Origin) (units : Units)
-    (rising : IsRising m.centre.accepted) (fit : Each (Fits m.phones) m.centre.accepted) (back : MomentComesBackOfZone0)
-    (typed : Each (IsTyped m.phones m.senders.texts m.centre.accepted) m.centre.accepted)
-    (taken : Each (ArrivalOf m.phones m.senders.texts m.centre.accepted phone) (m.receiver phone).taken)
+    (rising : IsRising m.centre.accepted) (fit : AllByRecursion (Fits m.phones) m.centre.accepted) (back : MomentComesBackOfZone0)
+    (typed : AllByRecursion (IsTyped m.phones m.senders.texts m.centre.accepted) m.centre.accepted)
+    (taken : AllByRecursion (ArrivalOf m.phones m.senders.texts m.centre.accepted phone) (m.receiver phone).taken)
     (x : DeliveryOf m.phones m.senders.texts m.centre.accepted phone d o)
     (p : units_in_delivery d ≡ Some units)
     (keys : (c : Concat) → concat_of_header d.user.header ≡ Some c → (other : ℕ) (u : Text) → other ≢ o.text → nth m.senders.texts other ≡ Some u
@@ -140,7 +141,7 @@ module _ (m : Machine) (phone : ℕ) (d : Delivery) (o : Origin) (units : Units)
           absurd (one_piece_stamps_differ m.phones m.senders.texts m.centre.accepted phone b.text o.text h.text x.text (h.is_given (ltb-false _ _ f)).0 x.moment
           rising fit back typed h.found x.segment.found h.recipient x.recipient ne (h.is_given (ltb-false _ _ f)).1 (first (ltb-false _ _ e)) z)
 
-  clear : (bs : List Arrival) → Each (ArrivalOf m.phones m.senders.texts m.centre.accepted phone) bs
+  clear : (bs : List Arrival) → AllByRecursion (ArrivalOf m.phones m.senders.texts m.centre.accepted phone) bs
       → ((b : Arrival) → Contains bs b → has_text (m.receiver phone).taken b.text ≡ true)
       → is_clear m.limits.remembered (size_in m.senders.texts) (m.receiver phone).taken bs (record { text = o.text; piece = piece_in m.clock d units }) ≡ true
   unfolding finished

@@ -1,10 +1,10 @@
 -- Which texts are completed by a list of arrivals, and in which order. Lists have the newest entry first.
-use Rattle.std.proofs.Common.{◌≡◌, ℕ, zero, suc, ◌<◌, Bool, true, false, cond, eqb, List, [], ◌∷◌, refl, sym, ◌∙◌, subst, arith}
+use Rattle.std.proofs.Common.{◌≡◌, ℕ, zero, suc, ◌<◌, Bool, true, false, cond, eqb, nat_eq, ◌||◌, List, [], ◌∷◌, refl, sym, ◌∙◌, subst, arith}
 use Rattle.sms_join.specs.Completion.{CompletedAreWhole}
 use Rattle.sms_world.proofs.Arrived.{done_as_before}
-use Rattle.std.proofs.lemmas.Bool.{eqb-true, or_right, false_from_ne_true}
+use Rattle.std.proofs.lemmas.Bool.{eqb-true, eq-eqb, or_right, false_from_ne_true}
 use Rattle.sms_join.specs.Arrivals.{Arrival, has_pieces, is_done, completed, is_listed}
-use Rattle.sms_world.specs.Headline.Finished.{IsDistinct}
+use Rattle.std.specs.List.{AllByRecursion, IsDistinct}
 
 none_done : (t n : ℕ) → 0 < n → has_pieces [] t n ≡ true → ⊥
 none_done t zero l h = absurd (omega arith)
@@ -31,13 +31,23 @@ done_listed size (a ∷ past) t l h =
         let x : is_done size (a ∷ past) t ≡ false = subst (λ n. is_done size (a ∷ past) n ≡ false) (eqb-true a.text t q) k in
         let y : true ≡ false = sym h ∙ x in cc
 
-pub completed_distinct : CompletedAreWhole → (size : ℕ → ℕ) (past : List Arrival) → IsDistinct (completed size past)
+-- a text that is not listed is none of those that are
+unlisted : (ns : List ℕ) (n : ℕ) → is_listed ns n ≡ false → AllByRecursion (λ m. nat_eq n m ≡ false) ns
+unlisted [] n e = tt
+unlisted (m ∷ ns) n e = let p = go (eqb m n) refl e in (p.0, unlisted ns n p.1)
+  where
+    go : (b : Bool) → eqb m n ≡ b → (b || is_listed ns n) ≡ false → (nat_eq n m ≡ false) × (is_listed ns n ≡ false)
+    go true q e = absurd cc
+    go false q e = (false_from_ne_true _ (λ k. let x : true ≡ false = sym (eq-eqb m n (sym (eqb-true n m k))) ∙ q in cc), e)
+
+pub completed_distinct : CompletedAreWhole → (size : ℕ → ℕ) (past : List Arrival) → IsDistinct nat_eq (completed size past)
+unfolding IsDistinct
 completed_distinct law size [] = tt
 completed_distinct law size (a ∷ past) = go (is_done size past a.text) refl (is_done size (a ∷ past) a.text) (completed_distinct law size past)
   where
-    go : (b : Bool) → is_done size past a.text ≡ b → (c : Bool) → IsDistinct (completed size past)
-        → IsDistinct (cond b (completed size past) (cond c (a.text ∷ completed size past) (completed size past)))
+    go : (b : Bool) → is_done size past a.text ≡ b → (c : Bool) → IsDistinct nat_eq (completed size past)
+        → IsDistinct nat_eq (cond b (completed size past) (cond c (a.text ∷ completed size past) (completed size past)))
     go true e c ih = ih
     go false e false ih = ih
     go false e true ih =
-        (false_from_ne_true _ (λ l. let d = (law size past a.text l).0 in let q : true ≡ false = sym d ∙ e in cc), ih)
+        (unlisted (completed size past) a.text (false_from_ne_true _ (λ l. let d = (law size past a.text l).0 in let q : true ≡ false = sym d ∙ e in cc)), ih)

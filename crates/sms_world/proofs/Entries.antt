@@ -1,8 +1,8 @@
 -- Entries of lists.
 use Rattle.std.proofs.Common.{◌≡◌, ℕ, zero, suc, ◌<◌, Bool, true, false, ◌||◌, eqb, List, [], ◌∷◌, length, slice_index_or, refl, subst, arith, ◌⊎◌, inl, inr, Contains}
+use Rattle.std.specs.List.{AllByRecursion}
 use Rattle.std.proofs.lemmas.Bool.{eqb-true, eq-eqb}
 use Rattle.sms_join.specs.Arrivals.{Arrival, has_text}
-use Rattle.sms_world.specs.Claims.Pieces.{Each}
 
 pub contains_none : {X : Type 0} (x : X) → Contains [] x → ⊥
 contains_none x h = let l = h.1 in absurd (omega arith)
@@ -22,7 +22,7 @@ contains_cases y ys x h = go h.0 h.1 h.2
 
 -- what holds of each entry, and of every one that the list contains
 
-pub each_at : {X : Type 0} (P : X → Type 0) (xs : List X) (x : X) → Each P xs → Contains xs x → P x
+pub each_at : {X : Type 0} (P : X → Type 0) (xs : List X) (x : X) → AllByRecursion P xs → Contains xs x → P x
 each_at P [] x h c = absurd (contains_none x c)
 each_at P (y ∷ ys) x h c = go (contains_cases y ys x c) (λ d. each_at P ys x h.1 d)
   where
@@ -30,7 +30,7 @@ each_at P (y ∷ ys) x h c = go (contains_cases y ys x c) (λ d. each_at P ys x 
     go (inl e) ih = subst P e h.0
     go (inr d) ih = ih d
 
-pub each_of : {X : Type 0} (P : X → Type 0) (xs : List X) → ((x : X) → Contains xs x → P x) → Each P xs
+pub each_of : {X : Type 0} (P : X → Type 0) (xs : List X) → ((x : X) → Contains xs x → P x) → AllByRecursion P xs
 each_of P [] f = tt
 each_of P (y ∷ ys) f = (f y (contains_here y ys), each_of P ys (λ x c. f x (contains_more y ys x c)))
 

@@ -1,5 +1,6 @@
 -- The finished texts are just those of which every segment was taken, in the order in which they were completed.
 use Rattle.std.proofs.Common.{◌≡◌, ℕ, ◌<◌, Bool, true, false, ◌||◌, eqb, List, [], ◌∷◌, refl, sym, subst, Some, Option}
+use Rattle.std.specs.List.{AllByRecursion}
 use Rattle.sms_world.specs.Below.{Below}
 use Rattle.std.proofs.lemmas.Bool.{eqb-true}
 use Rattle.sms_join.specs.Arrivals.{Arrival, has_text}
@@ -9,7 +10,7 @@ use Rattle.sms_world.specs.Machine.{Machine}
 use Rattle.sms_world.specs.Texts.{size_in}
 use Rattle.sms_world.specs.Texts.TypedTo.{IsTypedTo}
 use Rattle.sms_world.specs.Texts.Finished.{finished}
-use Rattle.sms_world.specs.Claims.Pieces.{Each, HasCut}
+use Rattle.sms_world.specs.Claims.Pieces.{HasCut}
 use Rattle.sms_world.specs.Headline.Finished.{FinishedTexts}
 use Rattle.sms_world.proofs.Standing.{ArrivalOf, ReceiverSound}
 use Rattle.sms_world.proofs.Pieces.{some_piece}
@@ -18,7 +19,7 @@ use Rattle.sms_world.proofs.Completed.{done_listed, completed_distinct}
 use Rattle.sms_world.proofs.Headline.{Orderly, run_orderly}
 
 typed_there : (m : Machine) (phone : ℕ) (past : List Arrival) (n : ℕ)
-    → Each (ArrivalOf m.phones m.senders.texts m.centre.accepted phone) past → has_text past n ≡ true
+    → AllByRecursion (ArrivalOf m.phones m.senders.texts m.centre.accepted phone) past → has_text past n ≡ true
     → IsTypedTo m phone n
 typed_there m phone [] n h l = cc
 typed_there m phone (a ∷ past) n h l = go (eqb a.text n) refl l (typed_there m phone past n h.1)

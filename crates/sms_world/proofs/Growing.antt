@@ -1,5 +1,6 @@
 -- What was typed and accepted stays.
 use Rattle.std.proofs.Common.{◌≡◌, ℕ, suc, ◌<◌, Bool, true, false, cond, ◌&&◌, eqb, List, [], ◌∷◌, ◌++◌, length, refl, sym, ◌∙◌, subst, arith, Some, None, Option}
+use Rattle.std.specs.List.{AllByRecursion}
 use Rattle.std.proofs.lemmas.Bool.{eqb-true, ne_eqb, eq-eqb, and_parts}
 use Rattle.sms_field.specs.AddressValue.{AddressValue}
 use Rattle.sms_tpdu.specs.Submit.{Submission}
@@ -16,17 +17,17 @@ use Rattle.sms_party.specs.Sent.{nth, Place, Centre, Phone, Sent}
 use Rattle.sms_world.specs.Machine.Next.{entered}
 use Rattle.sms_party.specs.Sender.Texts.{Text, Sender}
 use Rattle.sms_world.specs.Texts.Keys.{is_from, stamp_given}
-use Rattle.sms_world.specs.Claims.Pieces.{Each, IsSegmentOf, IsTyped, SubmitOf, DeliverOf, UnitOf, RelayOf, MessageOf, IsSentOf, IsPending, IsUnderWay, SenderSound, CentreSound}
+use Rattle.sms_world.specs.Claims.Pieces.{IsSegmentOf, IsTyped, SubmitOf, DeliverOf, UnitOf, RelayOf, MessageOf, IsSentOf, IsPending, IsUnderWay, SenderSound, CentreSound}
 
-pub each_weaker : {X : Type 0} (P Q : X → Type 0) (xs : List X) → ((x : X) → P x → Q x) → Each P xs → Each Q xs
+pub each_weaker : {X : Type 0} (P Q : X → Type 0) (xs : List X) → ((x : X) → P x → Q x) → AllByRecursion P xs → AllByRecursion Q xs
 each_weaker P Q [] f h = tt
 each_weaker P Q (x ∷ xs) f h = (f x h.0, each_weaker P Q xs f h.1)
 
-pub each_append : {X : Type 0} (P : X → Type 0) (xs ys : List X) → Each P xs → Each P ys → Each P (xs ++ ys)
+pub each_append : {X : Type 0} (P : X → Type 0) (xs ys : List X) → AllByRecursion P xs → AllByRecursion P ys → AllByRecursion P (xs ++ ys)
 each_append P [] ys h g = g
 each_append P (x ∷ xs) ys h g = (h.0, each_append P xs ys h.1 g)
 
-pub each_entered : {X : Type 0} (P : X → Type 0) (ys xs : List X) → Each P ys → Each P xs → Each P (entered ys xs)
+pub each_entered : {X : Type 0} (P : X → Type 0) (ys xs : List X) → AllByRecursion P ys → AllByRecursion P xs → AllByRecursion P (entered ys xs)
 each_entered P [] xs h g = g
 each_entered P (y ∷ ys) xs h g = each_entered P ys (y ∷ xs) h.1 (h.0, g)
 
@@ -38,7 +39,7 @@ nth_below (y ∷ xs) n x h = go (eqb n (length xs)) refl h (nth_below xs n x)
     go true e h ih = let f = eqb-true n (length xs) e in omega arith
     go false e h ih = let f = ih h in omega arith
 
-pub each_nth : {X : Type 0} (P : X → Type 0) (xs : List X) (n : ℕ) (x : X) → nth xs n ≡ Some x → Each P xs → P x
+pub each_nth : {X : Type 0} (P : X → Type 0) (xs : List X) (n : ℕ) (x : X) → nth xs n ≡ Some x → AllByRecursion P xs → P x
 each_nth P [] n x h e = cc
 each_nth P (y ∷ xs) n x h e = go (eqb n (length xs)) h (λ f. each_nth P xs n x f e.1)
   where
@@ -125,7 +126,7 @@ module _ (u : Text) (texts : List Text) where
   pub pending_more : (phone n : ℕ) → IsPending texts phone n → IsPending (u ∷ texts) phone n
   pending_more phone n h = (h.0, nth_more u texts n h.0 h.1, h.2, h.3)
 
-  under_way_more : (phone : ℕ) (ns : List ℕ) (k : ℕ) → Each (IsPending texts phone) ns → IsUnderWay texts ns k → IsUnderWay (u ∷ texts) ns k
+  under_way_more : (phone : ℕ) (ns : List ℕ) (k : ℕ) → AllByRecursion (IsPending texts phone) ns → IsUnderWay texts ns k → IsUnderWay (u ∷ texts) ns k
   under_way_more phone [] k e h = h
   under_way_more phone (n ∷ ns) k e h =
       let f = nth_more u texts n e.0.0 e.0.1 in

@@ -1,5 +1,6 @@
 -- Each event of an orderly run keeps the claims.
 use Rattle.std.proofs.Common.{◌≡◌, ℕ, zero, suc, ◌+◌, true, false, ◌||◌, ltb, List, [], ◌∷◌, map, take, length, refl, sym, ap, ◌∙◌, subst, Some, None, Option, ◌⊎◌, inl, inr}
+use Rattle.std.specs.List.{AllByRecursion}
 use Rattle.sms_world.specs.Below.{Below}
 use Rattle.sms_party.specs.Does.{Does}
 use Rattle.std.proofs.lemmas.Bool.{cond_both}
@@ -41,7 +42,7 @@ use Rattle.sms_world.proofs.Walk.{may_happen, sent_may_come, message_may_come, r
 use Rattle.sms_world.specs.Texts.Keys.{texts_of}
 use Rattle.sms_world.specs.Texts.Finished.{finished}
 use Rattle.sms_world.specs.Texts.Stands.{stands}
-use Rattle.sms_world.specs.Claims.Pieces.{Each, HasCut, IsSentOf, MessageOf, RelayOf, DeliveryOf, EachHasItsPiece}
+use Rattle.sms_world.specs.Claims.Pieces.{HasCut, IsSentOf, MessageOf, RelayOf, DeliveryOf, EachHasItsPiece}
 use Rattle.sms_world.proofs.Standing.{ReceiverSound, Sound}
 use Rattle.sms_world.specs.Claims.OpenSets.{OpenSetsAreOpenTexts}
 use Rattle.sms_world.specs.Claims.RememberedKeys.{KeysAreOfFinished}
@@ -92,7 +93,7 @@ pub record Orderly (m : Machine) : Type 0 where
 
 module _ (law : Below) where
   -- a delivery
-  delivery_stands : (m : Machine) (phone : ℕ) (tag : Tag) (d : Delivery) (o : Origin) → Each HasCut m.senders.texts → Stand m
+  delivery_stands : (m : Machine) (phone : ℕ) (tag : Tag) (d : Delivery) (o : Origin) → AllByRecursion HasCut m.senders.texts → Stand m
       → DeliveryOf m.phones m.senders.texts m.centre.accepted phone d o → may_deliver m phone d (units_in_delivery d) o ≡ true
       → ReceiverSound m.limits.remembered m.phones m.senders.texts m.centre.accepted phone
       (offers_units (receiver_limits m.limits) (m.receiver phone) m.clock tag d (Some o) (units_in_delivery d)).after
@@ -110,7 +111,7 @@ module _ (law : Below) where
           (subst (λ v. may_deliver m phone d v o ≡ true) e may) t)
           (λ _. h phone)
 
-  relay_stands : (m : Machine) (phone : ℕ) (tag : Tag) (v : Relay) (o : Option Origin) → Each HasCut m.senders.texts → Stand m
+  relay_stands : (m : Machine) (phone : ℕ) (tag : Tag) (v : Relay) (o : Option Origin) → AllByRecursion HasCut m.senders.texts → Stand m
       → RelayOf m.phones m.senders.texts m.centre.accepted v (Phone phone) o → relay_may_come true m v (Phone phone) o ≡ true
       → ReceiverSound m.limits.remembered m.phones m.senders.texts m.centre.accepted phone
       (receiver_opened (receiver_limits m.limits) (m.receiver phone) m.clock tag v o).after

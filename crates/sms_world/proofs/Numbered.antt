@@ -1,5 +1,6 @@
 -- Where nothing is injected, each answer that goes to a phone has the tag of the putting out that it answers.
 use Rattle.std.proofs.Common.{◌≡◌, ℕ, ◌+◌, ◌-◌, ◌%◌, ◌<◌, ◌≤◌, Bool, true, false, ltb, leb, eqb, ◌&&◌, List, [], ◌∷◌, length, refl, sym, ap, ◌∙◌, subst, arith, Some, None, Option, inl, inr}
+use Rattle.std.specs.List.{AllByRecursion}
 use Rattle.std.proofs.lemmas.Bool.{cond_both, eq-eqb}
 use Rattle.sms_field.specs.AddressValue.{AddressValue}
 use Rattle.sms_tpdu.specs.Submit.{Submission}
@@ -42,7 +43,6 @@ use Rattle.sms_world.specs.Machine.Next.{Next, next, stays, by_sender, by_centre
 use Rattle.sms_world.specs.Machine.Step.{Acts, RunWith}
 use Rattle.sms_world.specs.Orderly.Injections.{NothingIsInjected}
 use Rattle.sms_world.specs.Accepted.Few.{FewPuttingsOut}
-use Rattle.sms_world.specs.Claims.Pieces.{Each}
 use Rattle.sms_world.proofs.Growing.{each_weaker, each_append, each_entered, changed_each}
 use Rattle.sms_world.proofs.Once.{packet_sent, receives_put}
 
@@ -79,7 +79,7 @@ module _ (f f' : ℕ → Sender) (more : (q : ℕ) → (f q).outs ≤ (f' q).out
 
 record PutsMore (phone outs : ℕ) (p : Puts) : Type 0 where
   more : outs ≤ p.sender.outs
-  put : (f : ℕ → Sender) → f phone ≡ p.sender → Each (SentNumbered f) p.sent
+  put : (f : ℕ → Sender) → f phone ≡ p.sender → AllByRecursion (SentNumbered f) p.sent
 
 puts_more : (texts : List Text) (phone : ℕ) (s : Sender) (reject : Bool) → PutsMore phone s.outs (puts texts phone s reject)
 unfolding puts puts_first
@@ -99,7 +99,7 @@ puts_more texts phone s reject = go s.pending
 
 record Moves (x : SenderState) (d : Sends SenderState) : Type 0 where
   more : (q : ℕ) → (x.sender q).outs ≤ (d.after.sender q).outs
-  put : Each (SentNumbered d.after.sender) d.put
+  put : AllByRecursion (SentNumbered d.after.sender) d.put
 
 at_changed : {X : Type 0} (f : ℕ → X) (n : ℕ) (x : X) → changed f n x n ≡ x
 at_changed f n x = rw (eq-eqb n n refl) refl
@@ -109,7 +109,7 @@ module _ (x : SenderState) (phone : ℕ) where
   unfolding sender_drops
   drops_moves why = record { more = λ q. omega arith; put = tt }
 
-  does_moves : (o : Outcome) (first : List Sent) (p : Puts) → ((f : ℕ → Sender) → Each (SentNumbered f) first) → PutsMore phone (x.sender phone).outs p
+  does_moves : (o : Outcome) (first : List Sent) (p : Puts) → ((f : ℕ → Sender) → AllByRecursion (SentNumbered f) first) → PutsMore phone (x.sender phone).outs p
       → Moves x (does x phone o first p)
   unfolding does with_sender
   does_moves o first p a h =
@@ -127,7 +127,7 @@ module _ (x : SenderState) (phone : ℕ) where
       (λ _. let m = puts_more (t ∷ x.texts) phone (appended (x.sender phone) (length x.texts)) x.reject in given m.more m.put)
       (λ _. given (omega arith) (λ f e. tt))
     where
-      given : {p : Puts} → (x.sender phone).outs ≤ p.sender.outs → ((f : ℕ → Sender) → f phone ≡ p.sender → Each (SentNumbered f) p.sent)
+      given : {p : Puts} → (x.sender phone).outs ≤ p.sender.outs → ((f : ℕ → Sender) → f phone ≡ p.sender → AllByRecursion (SentNumbered f) p.sent)
           → Moves x (does (record { wide = x.wide; reject = x.reject; texts = t ∷ x.texts; sender = x.sender }) phone (Typed t.number) [] p)
       given {p} l h =
           record {
@@ -156,7 +156,7 @@ module _ (x : SenderState) (phone : ℕ) where
   unfolding times_out
   times_out_moves = repeats_moves (x.sender phone).pending
 
-  noted_numbered : (tag : Tag) (f : ℕ → Sender) → Each (SentNumbered f) (noted phone tag)
+  noted_numbered : (tag : Tag) (f : ℕ → Sender) → AllByRecursion (SentNumbered f) (noted phone tag)
   unfolding bare
   noted_numbered tag f = (tt, tt)
 
@@ -184,7 +184,7 @@ module _ (x : SenderState) (phone : ℕ) where
 -- ---- what the centre does
 
 abbrev Replies : (ℕ → Sender) → ℕ → Option ℕ → Does CentreState → Type 0
-Replies f phone about d = Each (SentNumbered f) (to_phone phone None about d.put)
+Replies f phone about d = AllByRecursion (SentNumbered f) (to_phone phone None about d.put)
 
 module _ (f : ℕ → Sender) (phone : ℕ) (about : Option ℕ) (c : CentreState) (now : ℕ) where
   checked_replies : (tag : Tag) (s : Submission) (o : Option Origin) (k : Check) → IsNumbered (f phone) tag about → Replies f phone about (checked c now phone tag s o k)
@@ -226,7 +226,7 @@ module _ (f : ℕ → Sender) (phone : ℕ) (about : Option ℕ) (c : CentreStat
 -- ---- the whole
 
 abbrev All : Machine → Type 0
-All m = Each (SentNumbered m.senders.sender) m.sent
+All m = AllByRecursion (SentNumbered m.senders.sender) m.sent
 
 by_sender_all : (m : Machine) (d : Sends SenderState) → All m → Moves m.senders d → All (by_sender m d).after
 unfolding by_sender
@@ -254,7 +254,7 @@ to_phone_all m phone (Data false tag relay) o h =
     each_entered (SentNumbered m.senders.sender) _ m.sent
     (receives_put (SentNumbered m.senders.sender) m.clock (receiver_limits m.limits) (m.receiver phone) phone tag relay o answered) h
   where
-    answered : (v : Option ℕ) (r : Option Report) → Each (SentNumbered m.senders.sender) (to_centre phone (answers FromPhone tag v r))
+    answered : (v : Option ℕ) (r : Option Report) → AllByRecursion (SentNumbered m.senders.sender) (to_centre phone (answers FromPhone tag v r))
     answered v r = unfold bare in (tt, (tt, tt))
 
 carries_all : (m : Machine) (x : Option Sent) → All m → ((y : Sent) → x ≡ Some y → SentNumbered m.senders.sender y) → All (carries m x).after

@@ -1,5 +1,6 @@
 -- Each event keeps that every message of a segment has its piece, and that each segment is accepted at most once.
 use Rattle.std.proofs.Common.{◌≡◌, ◌≢◌, ℕ, zero, suc, ◌+◌, Bool, true, false, cond, ltb, List, [], ◌∷◌, ◌++◌, length, refl, sym, ap, ◌∙◌, subst, Some, None, Option, ◌⊎◌, inl, inr, Contains}
+use Rattle.std.specs.List.{AllByRecursion}
 use Rattle.sms_party.specs.Message.Answers.{answers}
 use Rattle.sms_party.specs.Does.{Does}
 use Rattle.std.proofs.lemmas.Bool.{cond_both}
@@ -35,7 +36,7 @@ use Rattle.sms_world.specs.Machine.Step.{Acts, RunWith}
 use Rattle.sms_world.specs.Texts.Keys.{is_from, stamp_given}
 use Rattle.sms_world.specs.Orderly.{SubmissionsAreOrderly}
 use Rattle.sms_world.proofs.Walk.{may_happen, sent_may_come, message_may_come}
-use Rattle.sms_world.specs.Claims.Pieces.{Each, AcceptedOnce, HasCut, IsSentOf, MessageOf, CentreSound, EachHasItsPiece, EachMessageHasItsPiece}
+use Rattle.sms_world.specs.Claims.Pieces.{AcceptedOnce, HasCut, IsSentOf, MessageOf, CentreSound, EachHasItsPiece, EachMessageHasItsPiece}
 use Rattle.sms_world.specs.Headline.Once.{AcceptedAtMostOnce}
 use Rattle.sms_world.proofs.Entries.{contains_none, contains_cases}
 use Rattle.sms_world.proofs.Tested.{is_from_own, submissions_happen}
@@ -57,17 +58,17 @@ by_sender_once m d h g =
       sent = each_entered (IsSentOf m.phones d.after.texts m.centre.accepted) d.put m.sent g.put (sent' g.grown);
     }
   where
-    texts' : Grown m.senders.texts d.after.texts → Each HasCut d.after.texts
-    texts' (inl e) = subst (Each HasCut) (sym e) h.texts
-    texts' (inr e) = subst (Each HasCut) (sym e.1) (e.2, h.texts)
+    texts' : Grown m.senders.texts d.after.texts → AllByRecursion HasCut d.after.texts
+    texts' (inl e) = subst (AllByRecursion HasCut) (sym e) h.texts
+    texts' (inr e) = subst (AllByRecursion HasCut) (sym e.1) (e.2, h.texts)
 
     centre' : Grown m.senders.texts d.after.texts → CentreSound m.phones d.after.texts m.centre
     centre' (inl e) = subst (λ l. CentreSound m.phones l m.centre) (sym e) h.centre
     centre' (inr e) = subst (λ l. CentreSound m.phones l m.centre) (sym e.1) (centre_more e.0 m.senders.texts m.phones m.centre h.centre)
 
-    sent' : Grown m.senders.texts d.after.texts → Each (IsSentOf m.phones d.after.texts m.centre.accepted) m.sent
-    sent' (inl e) = subst (λ l. Each (IsSentOf m.phones l m.centre.accepted) m.sent) (sym e) h.sent
-    sent' (inr e) = subst (λ l. Each (IsSentOf m.phones l m.centre.accepted) m.sent) (sym e.1)
+    sent' : Grown m.senders.texts d.after.texts → AllByRecursion (IsSentOf m.phones d.after.texts m.centre.accepted) m.sent
+    sent' (inl e) = subst (λ l. AllByRecursion (IsSentOf m.phones l m.centre.accepted) m.sent) (sym e) h.sent
+    sent' (inr e) = subst (λ l. AllByRecursion (IsSentOf m.phones l m.centre.accepted) m.sent) (sym e.1)
         (each_weaker (IsSentOf m.phones m.senders.texts m.centre.accepted) (IsSentOf m.phones (e.0 ∷ m.senders.texts) m.centre.accepted) m.sent
         (λ x s. sent_more e.0 m.senders.texts m.phones m.centre.accepted x s) h.sent)
 
@@ -84,7 +85,7 @@ by_centre_once m phone origin about d h g =
           (each_weaker (IsSentOf m.phones m.senders.texts m.centre.accepted) (IsSentOf m.phones m.senders.texts d.after.accepted) m.sent g.sent h.sent);
     }
 
-by_receiver_once : (m : Machine) (phone : ℕ) (d : Does ReceiverState) → EachHasItsPiece m → Each (IsSentOf m.phones m.senders.texts m.centre.accepted) (to_centre phone d.put)
+by_receiver_once : (m : Machine) (phone : ℕ) (d : Does ReceiverState) → EachHasItsPiece m → AllByRecursion (IsSentOf m.phones m.senders.texts m.centre.accepted) (to_centre phone d.put)
     → EachHasItsPiece (by_receiver m phone d).after
 unfolding by_receiver
 by_receiver_once m phone d h g =
@@ -101,18 +102,18 @@ stays_once m o h = h
 
 -- a receiver puts out answers alone
 pub receives_put : (P : Sent → Type 0) (now : ℕ) (limits : ReceiverLimits) (x : ReceiverState) (phone : ℕ) (tag : Tag) (v : Relay) (o : Option Origin)
-    → ((v : Option ℕ) (r : Option Report) → Each P (to_centre phone (answers FromPhone tag v r))) → Each P (to_centre phone (receiver_opened limits x now tag v o).put)
+    → ((v : Option ℕ) (r : Option Report) → AllByRecursion P (to_centre phone (answers FromPhone tag v r))) → AllByRecursion P (to_centre phone (receiver_opened limits x now tag v o).put)
 receives_put P now limits x phone tag v o h =
-    each_opened (λ (d : Does ReceiverState). Each P (to_centre phone d.put)) limits x now tag v o (λ cause failure report. h _ _)
-    (λ d e. each_offer (λ (d : Does ReceiverState). Each P (to_centre phone d.put)) limits x now tag d o (units_in_delivery d) (λ cause failure e. h _ _) (λ us e f. h _ _)
+    each_opened (λ (d : Does ReceiverState). AllByRecursion P (to_centre phone d.put)) limits x now tag v o (λ cause failure report. h _ _)
+    (λ d e. each_offer (λ (d : Does ReceiverState). AllByRecursion P (to_centre phone d.put)) limits x now tag d o (units_in_delivery d) (λ cause failure e. h _ _) (λ us e f. h _ _)
     (λ us e f. offered d us)) tt
   where
-    offered : (d : Delivery) (us : Units) → Each P (to_centre phone (offers limits x tag d.origin (piece_in now d us) o (answer limits.open_max x.joiner (piece_in now d us))).put)
+    offered : (d : Delivery) (us : Units) → AllByRecursion P (to_centre phone (offers limits x tag d.origin (piece_in now d us) o (answer limits.open_max x.joiner (piece_in now d us))).put)
     offered d us = unfold offers in
-        cond_both (is_taken (answer limits.open_max x.joiner (piece_in now d us))) _ _ (λ (d : Does ReceiverState). Each P (to_centre phone d.put)) (λ _. h _ _) (λ _. h _ _)
+        cond_both (is_taken (answer limits.open_max x.joiner (piece_in now d us))) _ _ (λ (d : Does ReceiverState). AllByRecursion P (to_centre phone d.put)) (λ _. h _ _) (λ _. h _ _)
 
 pub answers_sent : (m : Machine) (phone : ℕ) (tag : Tag) (v : Option ℕ) (r : Option Report)
-    → Each (IsSentOf m.phones m.senders.texts m.centre.accepted) (to_centre phone (answers FromPhone tag v r))
+    → AllByRecursion (IsSentOf m.phones m.senders.texts m.centre.accepted) (to_centre phone (answers FromPhone tag v r))
 unfolding bare
 answers_sent m phone tag v r = (tt, (tt, tt))
 
@@ -143,7 +144,7 @@ unfolding carries
 carries_once all m None h s may = stays_once m _ h
 carries_once all m (Some x) h s may = comes_once all m x.to x.message x.origin x.about h (s x refl) may
 
-pub packet_sent : (m : Machine) (P : Sent → Type 0) (k : ℕ) → Each P m.sent → (y : Sent) → packet m k ≡ Some y → P y
+pub packet_sent : (m : Machine) (P : Sent → Type 0) (k : ℕ) → AllByRecursion P m.sent → (y : Sent) → packet m k ≡ Some y → P y
 unfolding packet
 packet_sent m P zero h y e = cc
 packet_sent m P (suc k) h y e = each_nth P m.sent k y e h

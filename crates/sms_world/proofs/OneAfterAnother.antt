@@ -1,5 +1,6 @@
 -- A run of events, one after another.
 use Rattle.std.proofs.Common.{◌≡◌, ℕ, zero, suc, ◌+◌, List, [], ◌∷◌, ◌++◌, length, take, Some, refl, sym, ap, ◌∙◌, subst, arith}
+use Rattle.std.proofs.lemmas.List.{length_push}
 use Rattle.std.specs.List.{slice_get}
 use Rattle.sms_field.specs.AddressValue.{AddressValue}
 use Rattle.sms_script.specs.declared.script.limits.Limits.{Limits}
@@ -32,9 +33,12 @@ length_taken (y ∷ xs) (suc n) x e = ap suc (length_taken xs n x e)
 pub runs_on : (limits : Limits) (phones : List AddressValue) (events : List script.Event) (n : ℕ) (e : script.Event) (told : List Told) (t : Told) (old new : WorldValue)
     → slice_get events n ≡ Some e → length told ≡ n → Steps (event_of e) old t new → Runs limits phones (take n events) told old → Runs limits phones (take (n + 1) events) (told ++ t ∷ []) new
 runs_on limits phones events n e told t old new there size steps r =
-    let s = steps r.0 r.2 in
+    let s = steps r.1.0 r.1.2 in
     let same : length told ≡ length (take n events) = size ∙ sym (length_taken events n e there) in
     let next : suc n ≡ n + 1 = omega arith in
+    let taken : take n events ++ e ∷ [] ≡ take (n + 1) events = sym (take_next events n e there) ∙ ap (λ k. take k events) next in
+    let sizes : length (told ++ t ∷ []) ≡ length (take (n + 1) events) =
+    length_push told t ∙ ap (λ k. k + 1) same ∙ sym (length_push (take n events) e) ∙ ap length taken in
     let past : (event_of e, t) ∷ told_past (take n events) told ≡ told_past (take (n + 1) events) (told ++ t ∷ []) =
-    sym (told_more (take n events) told e t same) ∙ ap (λ l. told_past l (told ++ t ∷ [])) (sym (take_next events n e there) ∙ ap (λ k. take k events) next) in
-    (s.1, subst (λ p. Run (start limits phones) p s.1) past (r.0, r.1, tt, (s.0, s.2)), s.3)
+    sym (told_more (take n events) told e t same) ∙ ap (λ l. told_past l (told ++ t ∷ [])) taken in
+    (sizes, (s.1, subst (λ p. Run (start limits phones) p s.1) past (r.1.0, r.1.1, tt, (s.0, s.2)), s.3))

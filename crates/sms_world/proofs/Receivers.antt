@@ -1,5 +1,6 @@
 -- What stands at a phone stays right when something is typed, accepted or taken.
 use Rattle.std.proofs.Common.{◌≡◌, ◌≢◌, ℕ, zero, suc, ◌+◌, ◌-◌, ◌<◌, ◌≤◌, Bool, true, false, not, ◌&&◌, ◌||◌, eqb, ltb, List, [], ◌∷◌, ◌++◌, map, take, length, get_or, refl, sym, ap, ◌∙◌, subst, arith, Some, None, Option}
+use Rattle.std.specs.List.{AllByRecursion}
 use Rattle.sms_join.specs.OpenTexts.{StaysRight}
 use Rattle.sms_world.specs.Below.{Below}
 use Rattle.std.proofs.lemmas.Bool.{and_parts, eqb-true, ltb-true, ltb-false, lt-ltb, le-ltb, cond_both}
@@ -33,12 +34,12 @@ use Rattle.sms_world.proofs.Offered.{units_in_delivery, is_taken, stored}
 use Rattle.sms_party.specs.Receiver.Pieces.{piece_in}
 use Rattle.sms_party.specs.Receiver.Offers.{takes}
 use Rattle.sms_join.specs.Aging.{is_old}
-use Rattle.sms_world.specs.Machine.Next.{aged_at}
+use Rattle.sms_party.specs.Receiver.Aging.{ages}
 use Rattle.sms_world.specs.Texts.Keys.{stamp_given, key_in, texts_of}
 use Rattle.sms_world.specs.Texts.{size_in, units_in}
 use Rattle.sms_world.specs.Texts.Stands.{entry_in}
 use Rattle.sms_world.proofs.Walk.{may_arrive}
-use Rattle.sms_world.specs.Claims.Pieces.{Each, HasCut, DeliveryOf}
+use Rattle.sms_world.specs.Claims.Pieces.{HasCut, DeliveryOf}
 use Rattle.sms_world.proofs.Standing.{ArrivalOf, ReceiverSound}
 use Rattle.sms_world.proofs.Growing.{each_weaker, each_nth}
 use Rattle.sms_world.proofs.Arriving.{EachText, completed-same, open_pieces-same_sizes, map_completed-same, map_last-same}
@@ -113,7 +114,7 @@ module _ (phones : List AddressValue) (texts texts' : List Text) (accepted accep
       }
 
   each_text : (P : ℕ → Type 0) (phone : ℕ) (past : List Arrival) → ((a : Arrival) → ArrivalOf phones texts accepted phone a → P a.text)
-      → Each (ArrivalOf phones texts accepted phone) past → EachText P past
+      → AllByRecursion (ArrivalOf phones texts accepted phone) past → EachText P past
   each_text P phone [] f h = tt
   each_text P phone (a ∷ past) f h = (f a h.0, each_text P phone past f h.1)
 
@@ -322,7 +323,7 @@ whole_is phones texts accepted n t e =
     ∙ (units_are phones texts accepted n t (length t.pieces) e (omega arith) ∙ take_all (length t.pieces) t.pieces (omega arith))
 
 pub all_of : (phones : List AddressValue) (texts : List Text) (accepted : List Acceptance) (phone : ℕ) (past : List Arrival)
-    → Each (ArrivalOf phones texts accepted phone) past → AllOf (texts_of phones texts accepted) past
+    → AllByRecursion (ArrivalOf phones texts accepted phone) past → AllOf (texts_of phones texts accepted) past
 all_of phones texts accepted phone [] h = tt
 all_of phones texts accepted phone (a ∷ past) h = (h.0.is_of, all_of phones texts accepted phone past h.1)
 
@@ -341,7 +342,7 @@ taken_open (join.Finished us) h e = cc
 taken_open join.TooManyOpen h e = cc
 
 pub takes_sound : Below → (limits : ReceiverLimits) (phones : List AddressValue) (texts : List Text) (accepted : List Acceptance) (phone : ℕ) (r : ReceiverState)
-    (now : ℕ) (d : Delivery) (o : Origin) (units : Units) → Each HasCut texts
+    (now : ℕ) (d : Delivery) (o : Origin) (units : Units) → AllByRecursion HasCut texts
     → ReceiverSound limits.remembered phones texts accepted phone r → DeliveryOf phones texts accepted phone d o → units_in_delivery d ≡ Some units
     → may_arrive limits.remembered texts r.taken (record { text = o.text; piece = piece_in now d units }) ≡ true
     → is_taken (answer limits.open_max r.joiner (piece_in now d units)) ≡ true
@@ -402,15 +403,15 @@ takes_sound law limits phones texts accepted phone r now d o units cuts h x p ma
         ∙ (h.store ∙ sym (ap (map (λ n. entry_in phones (nth texts n))) list))
 
 -- the clock has moved
-each_remaining : (P : Arrival → Type 0) (size : ℕ → ℕ) (old : Key → Bool) (all past : List Arrival) → Each P past → Each P (remaining size old all past)
+each_remaining : (P : Arrival → Type 0) (size : ℕ → ℕ) (old : Key → Bool) (all past : List Arrival) → AllByRecursion P past → AllByRecursion P (remaining size old all past)
 each_remaining P size old all [] h = tt
 each_remaining P size old all (a ∷ past) h =
-    cond_both (not (is_done size all a.text) && old a.piece.key) _ _ (Each P) (λ _. each_remaining P size old all past h.1)
+    cond_both (not (is_done size all a.text) && old a.piece.key) _ _ (AllByRecursion P) (λ _. each_remaining P size old all past h.1)
     (λ _. (h.0, each_remaining P size old all past h.1))
 
 pub receiver_ages : Below → (remembered : ℕ) (phones : List AddressValue) (texts : List Text) (accepted : List Acceptance) (phone clock : ℕ) (r : ReceiverState)
-    → ReceiverSound remembered phones texts accepted phone r → ReceiverSound remembered phones texts accepted phone (aged_at texts clock r)
-unfolding aged_at texts_of
+    → ReceiverSound remembered phones texts accepted phone r → ReceiverSound remembered phones texts accepted phone (ages (size_in texts) clock r)
+unfolding ages texts_of
 receiver_ages law remembered phones texts accepted phone clock r h =
     record {
       taken = each_remaining (ArrivalOf phones texts accepted phone) (size_in texts) (is_old clock r.joiner.kept) r.taken r.taken h.taken;

@@ -1,5 +1,6 @@
 -- Where duplicates are to be rejected from the first putting out on, each submission says so.
 use Rattle.std.proofs.Common.{◌≡◌, ℕ, ◌+◌, ◌-◌, Bool, true, false, ltb, leb, eqb, ◌&&◌, List, [], ◌∷◌, length, refl, subst, Some, None, Option, inl, inr}
+use Rattle.std.specs.List.{AllByRecursion}
 use Rattle.sms_party.specs.Message.Answers.{answers}
 use Rattle.sms_party.specs.Does.{Does}
 use Rattle.std.proofs.lemmas.Bool.{cond_both}
@@ -39,7 +40,6 @@ use Rattle.sms_world.specs.Machine.{Machine, start}
 use Rattle.sms_world.specs.Machine.Event.{Event, Act, Composes, Carries, TimesOut, Pushes, Ticks, Injects}
 use Rattle.sms_world.specs.Machine.Next.{Next, next, stays, by_sender, by_centre, by_receiver, of_centre, to_phone, pushed, comes, comes_to_phone, carries, packet, ticked, phone_of, to_centre, receiver_limits}
 use Rattle.sms_world.specs.Machine.Step.{Acts, Run}
-use Rattle.sms_world.specs.Claims.Pieces.{Each}
 use Rattle.sms_world.specs.Accepted.Reject.{AllReject, OnlyTimeIsLeft}
 use Rattle.sms_world.proofs.Growing.{each_append, each_entered}
 use Rattle.sms_world.proofs.Once.{packet_sent, receives_put}
@@ -67,27 +67,27 @@ SentRejects x = Rejects x.message
 
 -- what a sender does
 record Keeps (d : Sends SenderState) : Type 0 where
-  put : Each SentRejects d.put
+  put : AllByRecursion SentRejects d.put
   setting : d.after.reject ≡ true
 
-puts_reject : (texts : List Text) (phone : ℕ) (s : Sender) (reject : Bool) → reject ≡ true → Each SentRejects (puts texts phone s reject).sent
+puts_reject : (texts : List Text) (phone : ℕ) (s : Sender) (reject : Bool) → reject ≡ true → AllByRecursion SentRejects (puts texts phone s reject).sent
 unfolding puts puts_first
 puts_reject texts phone s reject h = go s.pending
   where
-    go : (ns : List ℕ) → Each SentRejects (puts_first texts phone s reject ns).sent
+    go : (ns : List ℕ) → AllByRecursion SentRejects (puts_first texts phone s reject ns).sent
     go [] = tt
     go (n ∷ later) = text_rejects phone s n reject h (nth texts n)
       where
-        text_rejects : (phone : ℕ) (s : Sender) (n : ℕ) (reject : Bool) → reject ≡ true → (t : Option Text) → Each SentRejects (puts_text phone s n reject t).sent
+        text_rejects : (phone : ℕ) (s : Sender) (n : ℕ) (reject : Bool) → reject ≡ true → (t : Option Text) → AllByRecursion SentRejects (puts_text phone s n reject t).sent
         text_rejects phone s n reject h None = unfold puts_text in tt
         text_rejects phone s n reject h (Some t) = unfold puts_text submission_of in (h, tt)
 
 module _ (x : SenderState) (phone : ℕ) (setting : x.reject ≡ true) where
-  does_keeps : (o : Outcome) (first : List Sent) (s : Sender) (reject : Bool) → reject ≡ true → Each SentRejects first → Keeps (does x phone o first (puts x.texts phone s reject))
+  does_keeps : (o : Outcome) (first : List Sent) (s : Sender) (reject : Bool) → reject ≡ true → AllByRecursion SentRejects first → Keeps (does x phone o first (puts x.texts phone s reject))
   unfolding does with_sender
   does_keeps o first s reject h f = record { put = each_append SentRejects first _ f (puts_reject x.texts phone s reject h); setting = setting }
 
-  noted_rejects : (tag : Tag) → Each SentRejects (noted phone tag)
+  noted_rejects : (tag : Tag) → AllByRecursion SentRejects (noted phone tag)
   unfolding bare
   noted_rejects tag = (tt, tt)
 
@@ -95,7 +95,7 @@ module _ (x : SenderState) (phone : ℕ) (setting : x.reject ≡ true) where
   unfolding typed does with_sender
   typed_keeps t =
       record {
-        put = cond_both (eqb (length (x.sender phone).pending) 0) _ _ (λ (p : Puts). Each SentRejects p.sent)
+        put = cond_both (eqb (length (x.sender phone).pending) 0) _ _ (λ (p : Puts). AllByRecursion SentRejects p.sent)
             (λ _. puts_reject (t ∷ x.texts) phone _ x.reject setting) (λ _. tt);
         setting = setting;
       }
@@ -138,7 +138,7 @@ module _ (x : SenderState) (phone : ℕ) (setting : x.reject ≡ true) where
 
 -- what the centre does
 abbrev Quiet : ℕ → Option Origin → Option ℕ → Does CentreState → Type 0
-Quiet phone origin about d = Each SentRejects (to_phone phone origin about d.put)
+Quiet phone origin about d = AllByRecursion SentRejects (to_phone phone origin about d.put)
 
 checked_quiet : (c : CentreState) (now phone : ℕ) (tag : Tag) (s : Submission) (o origin : Option Origin) (about : Option ℕ) (k : Check) → Quiet phone origin about (checked c now phone tag s o k)
 unfolding checked
@@ -187,7 +187,7 @@ pushes_quiet phones c phone (a ∷ others) origin about = (tt, tt)
 -- the whole
 record AllSay (m : Machine) : Type 0 where
   setting : m.senders.reject ≡ true
-  sent : Each SentRejects m.sent
+  sent : AllByRecursion SentRejects m.sent
 
 by_sender_says : (m : Machine) (d : Sends SenderState) → AllSay m → Keeps d → AllSay (by_sender m d).after
 unfolding by_sender
@@ -202,7 +202,7 @@ stays_says : (m : Machine) (told : Told) → AllSay m → AllSay (stays m told).
 unfolding stays
 stays_says m told h = h
 
-replies_say : (phone : ℕ) (tag : Tag) (cause : Option ℕ) (report : Option Report) → Each SentRejects (to_centre phone (answers FromPhone tag cause report))
+replies_say : (phone : ℕ) (tag : Tag) (cause : Option ℕ) (report : Option Report) → AllByRecursion SentRejects (to_centre phone (answers FromPhone tag cause report))
 unfolding bare
 replies_say phone tag cause report = (tt, (tt, tt))
 

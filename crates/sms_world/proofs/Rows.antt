@@ -28,6 +28,7 @@ use Rattle.sms_party.specs.Sender.Answers
 use Rattle.sms_party.specs.Receiver.{receiver_takes, receiver_opened}
 use Rattle.sms_party.specs.Receiver.State.{new_receiver}
 use Rattle.sms_party.specs.Receiver.Offers.{settles, receiver_offers}
+use Rattle.sms_party.specs.Receiver.Aging.{ages}
 use Rattle.sms_party.specs.declared.outcome.Outcome.TheVariants.{Typed, Segment, Accepted, Repeated, Held, Refused, Pushed, Delivered, Finished, Kept, Repeat, Ticked}
 use Rattle.sms_party.specs.declared.outcome.Dropped.TheVariants.{Unmatched}
 use Rattle.sms_world.specs.declared.fault.WorldFault.TheVariants.{Party}
@@ -50,7 +51,7 @@ use Rattle.sms_world.specs.Rows.{last_after, answers_after, all_orderly, AreActs
 
 -- what has to compute
 abbrev opened : ℕ
-unfolding code_of character_of units_high_first octets_high_first alphabet_at same_key same_width new_joiner is_repeat is_whole has_room decided answer answered offered is_recent text_of_segments text_of_septets stamp_octets same_address new_centre checked_by checked centre_takes pushes_first centre_pushes settled centre_hears centre_opened centre_answered centre_receives bare Texts.new_sender Texts.new_text Segments.submission_of Putting.puts_text Putting.puts_first Putting.puts Putting.with_sender Putting.sender_drops Putting.does Calls.appended Calls.typed Calls.composes Calls.ends Calls.repeats Calls.times_out Answers.advanced Answers.hears Answers.matches Answers.sender_receives new_receiver settles receiver_offers receiver_takes receiver_opened Aging.aged Machine.start Next.stays Next.by_sender Next.by_receiver Next.by_centre Next.of_centre Next.pushed Next.comes_to_phone Next.comes Next.carries Next.packet Next.aged_at Next.ticked Next.next finished stands texts_of
+unfolding code_of character_of units_high_first octets_high_first alphabet_at same_key same_width new_joiner is_repeat is_whole has_room decided answer answered offered is_recent text_of_segments text_of_septets stamp_octets same_address new_centre checked_by checked centre_takes pushes_first centre_pushes settled centre_hears centre_opened centre_answered centre_receives bare Texts.new_sender Texts.new_text Segments.submission_of Putting.puts_text Putting.puts_first Putting.puts Putting.with_sender Putting.sender_drops Putting.does Calls.appended Calls.typed Calls.composes Calls.ends Calls.repeats Calls.times_out Answers.advanced Answers.hears Answers.matches Answers.sender_receives new_receiver settles receiver_offers receiver_takes receiver_opened Aging.aged Machine.start Next.stays Next.by_sender Next.by_receiver Next.by_centre Next.of_centre Next.pushed Next.comes_to_phone Next.comes Next.carries Next.packet ages Next.ticked Next.next finished stands texts_of
 opened = 0
 
 abbrev a : AddressValue

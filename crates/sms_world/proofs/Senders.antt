@@ -1,5 +1,6 @@
 -- The senders put out segments of their texts alone.
 use Rattle.std.proofs.Common.{◌≡◌, ℕ, suc, ◌-◌, ◌<◌, Bool, true, false, cond, eqb, ltb, leb, List, [], ◌∷◌, ◌++◌, length, refl, subst, arith, Option, ◌⊎◌, inl, inr}
+use Rattle.std.specs.List.{AllByRecursion}
 use Rattle.std.proofs.lemmas.Bool.{ltb-true, cond_both}
 use Rattle.sms_field.specs.AddressValue.{AddressValue}
 use Rattle.sms_relay.specs.declared.side.Side.TheVariants.{FromPhone, ToPhone}
@@ -21,7 +22,7 @@ use Rattle.sms_party.specs.Sender.Putting.{Puts, puts, puts_first, puts_text, wi
 use Rattle.sms_party.specs.Sender.Calls.{appended, typed, composes, ends, repeats, times_out}
 use Rattle.sms_party.specs.Sender.Answers.{advanced, noted, hears, matches, sender_receives, accepts}
 use Rattle.sms_world.specs.Texts.{size_in}
-use Rattle.sms_world.specs.Claims.Pieces.{Each, HasCut, IsSentOf, IsPending, IsUnderWay, SenderSound}
+use Rattle.sms_world.specs.Claims.Pieces.{HasCut, IsSentOf, IsPending, IsUnderWay, SenderSound}
 use Rattle.sms_world.proofs.Growing.{each_append, nth_newest, sender_more, changed_each}
 use Rattle.sms_world.proofs.Pieces.{some_piece}
 
@@ -31,20 +32,20 @@ SendersSound x = (phone : ℕ) → SenderSound x.texts phone (x.sender phone)
 
 pub record Good (phones : List AddressValue) (accepted : List Acceptance) (texts : List Text) (d : Sends SenderState) : Type 0 where
   pub senders : SendersSound d.after
-  pub put : Each (IsSentOf phones d.after.texts accepted) d.put
+  pub put : AllByRecursion (IsSentOf phones d.after.texts accepted) d.put
   -- at most one more text
   pub grown : (d.after.texts ≡ texts) ⊎ ((t : Text) × (d.after.texts ≡ t ∷ texts) × HasCut t)
 
 record GoodPuts (phones : List AddressValue) (accepted : List Acceptance) (texts : List Text) (phone : ℕ) (p : Puts) : Type 0 where
   sender : SenderSound texts phone p.sender
-  put : Each (IsSentOf phones texts accepted) p.sent
+  put : AllByRecursion (IsSentOf phones texts accepted) p.sent
 
 puts_good : (phones : List AddressValue) (accepted : List Acceptance) (texts : List Text) (phone : ℕ) (s : Sender) (reject : Bool)
     → SenderSound texts phone s → GoodPuts phones accepted texts phone (puts texts phone s reject)
 unfolding puts puts_first puts_text
 puts_good phones accepted texts phone s reject h = go s.pending h.pending h.under_way h
   where
-    go : (ns : List ℕ) → Each (IsPending texts phone) ns → IsUnderWay texts ns s.accepted → SenderSound texts phone s
+    go : (ns : List ℕ) → AllByRecursion (IsPending texts phone) ns → IsUnderWay texts ns s.accepted → SenderSound texts phone s
         → GoodPuts phones accepted texts phone (puts_first texts phone s reject ns)
     go [] e u h = record { sender = h; put = tt }
     go (n ∷ later) e u h =
@@ -65,7 +66,7 @@ puts_good phones accepted texts phone s reject h = go s.pending h.pending h.unde
         })
 
 does_good : (phones : List AddressValue) (accepted : List Acceptance) (x : SenderState) (phone : ℕ) (o : Outcome) (first : List Sent) (p : Puts)
-    → SendersSound x → GoodPuts phones accepted x.texts phone p → Each (IsSentOf phones x.texts accepted) first
+    → SendersSound x → GoodPuts phones accepted x.texts phone p → AllByRecursion (IsSentOf phones x.texts accepted) first
     → Good phones accepted x.texts (does x phone o first p)
 unfolding does with_sender
 does_good phones accepted x phone o first p h g f =
@@ -82,7 +83,7 @@ drops_good phones accepted x o h = record { senders = h; put = tt; grown = inl r
 
 -- a text that has ended
 pub ends_sound : (texts : List Text) (phone : ℕ) (s : Sender) (n : ℕ) (later : List ℕ) (good : Bool)
-    → Each (IsPending texts phone) later → SenderSound texts phone (ends s n later good)
+    → AllByRecursion (IsPending texts phone) later → SenderSound texts phone (ends s n later good)
 unfolding ends
 ends_sound texts phone s n [] good h = record { pending = h; under_way = refl }
 ends_sound texts phone s n (k ∷ later) good h =
@@ -136,7 +137,7 @@ composes_good phones accepted x phone target characters pieces is_text is_cut h 
     (record { is_text = is_text; is_cut = is_cut }) h))
 
 repeats_good : (phones : List AddressValue) (accepted : List Acceptance) (x : SenderState) (phone : ℕ) (ns : List ℕ)
-    → Each (IsPending x.texts phone) ns
+    → AllByRecursion (IsPending x.texts phone) ns
     → SendersSound x → Good phones accepted x.texts (repeats x phone (x.sender phone) ns)
 unfolding repeats
 repeats_good phones accepted x phone [] e h = record { senders = h; put = tt; grown = inl refl }
@@ -154,12 +155,12 @@ unfolding times_out
 times_out_good phones accepted x phone h = repeats_good phones accepted x phone (x.sender phone).pending (h phone).pending h
 
 acknowledged : (phones : List AddressValue) (texts : List Text) (accepted : List Acceptance) (phone : ℕ) (tag : Tag)
-    → Each (IsSentOf phones texts accepted) (noted phone tag)
+    → AllByRecursion (IsSentOf phones texts accepted) (noted phone tag)
 unfolding bare
 acknowledged phones texts accepted phone tag = (tt, tt)
 
 hears_good : (phones : List AddressValue) (accepted : List Acceptance) (x : SenderState) (phone : ℕ) (tag : Tag) (n : ℕ) (later : List ℕ)
-    (good more : Bool) (failed : Outcome) → (x.sender phone).pending ≡ n ∷ later → Each (IsPending x.texts phone) (n ∷ later)
+    (good more : Bool) (failed : Outcome) → (x.sender phone).pending ≡ n ∷ later → AllByRecursion (IsPending x.texts phone) (n ∷ later)
     → (more ≡ true → suc (x.sender phone).accepted < size_in x.texts n)
     → SendersSound x → Good phones accepted x.texts (hears x phone tag (x.sender phone) n later good more failed)
 unfolding hears advanced
@@ -184,7 +185,7 @@ matches_good phones accepted x phone tag [] v r p h = drops_good phones accepted
 matches_good phones accepted x phone tag (n ∷ later) v r p h =
     cond_both (same_tag tag (tag_of ((x.sender phone).outs - 1))) _ _ (Good phones accepted x.texts)
     (λ _. hears_good phones accepted x phone tag n later (accepts v r) (ltb (suc (x.sender phone).accepted) (size_in x.texts n)) _
-    p (subst (Each (IsPending x.texts phone)) p (h phone).pending) (λ q. ltb-true _ _ q) h)
+    p (subst (AllByRecursion (IsPending x.texts phone)) p (h phone).pending) (λ q. ltb-true _ _ q) h)
     (λ _. drops_good phones accepted x _ h)
 
 pub sender_receives_good : (phones : List AddressValue) (accepted : List Acceptance) (x : SenderState) (phone : ℕ) (tag : Tag) (v : Relay)

@@ -1,5 +1,6 @@
 -- The stamps that the centre has given: along every run they rise for each recipient, and are moments of the calendar.
 use Rattle.std.proofs.Common.{◌≡◌, ◌≢◌, ℕ, ◌+◌, ◌<◌, Bool, true, false, cond, ◌&&◌, ltb, leb, List, [], ◌∷◌, length, refl, sym, ap, ◌∙◌, subst, arith, Some, None, Option, Ok, Err, Result, inl, inr}
+use Rattle.std.specs.List.{AllByRecursion}
 use Rattle.std.proofs.lemmas.Bool.{cond_both, leb-false}
 use Rattle.sms_field.specs.AddressValue.{AddressValue}
 use Rattle.sms_field.specs.declared.validity.ValidityFault.{ValidityFault}
@@ -34,7 +35,6 @@ use Rattle.sms_world.specs.Machine.Event.{Event, Act, Composes, Carries, TimesOu
 use Rattle.sms_world.specs.Machine.Next.{Next, next, stays, by_sender, by_centre, by_receiver, of_centre, pushed, comes, comes_to_phone, carries, packet, ticked, phone_of}
 use Rattle.sms_world.specs.Machine.Step.{Acts, RunWith}
 use Rattle.sms_world.specs.Texts.Keys.{is_from, stamp_given}
-use Rattle.sms_world.specs.Claims.Pieces.{Each}
 use Rattle.sms_world.proofs.Tested.{from_is}
 
 -- ---- what the centre accepts
@@ -88,7 +88,7 @@ unfolding checked_by
 fits limit phones books now s r e t h = validity_fits limit phones books now s r e t (end_of s.validity now) h
 
 abbrev AllFit : List AddressValue → CentreState → Type 0
-AllFit phones c = Each (Fits phones) c.accepted
+AllFit phones c = AllByRecursion (Fits phones) c.accepted
 
 checked_fits : (phones : List AddressValue) (c : CentreState) (now phone : ℕ) (tag : Tag) (s : Submission) (o : Option Origin) (k : Check)
     → ((r e t : ℕ) → k ≡ Accept r e t → Fit phones s r t) → AllFit phones c → AllFit phones (checked c now phone tag s o k).after
@@ -145,7 +145,7 @@ call_fits phones c now phone h = pushes_fits phones c phone (unended (c.line pho
 pub record Stamped (m : Machine) : Type 0 where
   pub calls : List Call
   pub is : called_all m.limits.held m.phones calls ≡ m.centre
-  pub fit : Each (Fits m.phones) m.centre.accepted
+  pub fit : AllByRecursion (Fits m.phones) m.centre.accepted
 
 module _ (m : Machine) (h : Stamped m) where
   received : (phone : ℕ) (v : Message) (origin about' : Option Origin) (about : Option ℕ)
@@ -223,7 +223,7 @@ rises law m h = subst (λ (c : CentreState). IsRising c.accepted) h.is (law m.li
 
 -- what is accepted of this segment is to this recipient
 abbrev pub IsOnlyTo : List Acceptance → Origin → ℕ → Type 0
-IsOnlyTo accepted o r = Each (λ a. a.origin ≡ Some o → a.recipient ≡ r) accepted
+IsOnlyTo accepted o r = AllByRecursion (λ a. a.origin ≡ Some o → a.recipient ≡ r) accepted
 
 below : (past : List Acceptance) (o : Origin) (r s x : ℕ) → AreBelow past r s → IsOnlyTo past o r → stamp_given past o ≡ Some x → x < s
 below [] o r s x h t g = cc
@@ -255,7 +255,7 @@ stamps_differ (a ∷ past) o p r x y h t u ne f g same =
         let l = below past o r a.stamp x q t.1 f in omega arith
     go false e false e' f g ih = ih f g
 
-pub given_fits : (phones : List AddressValue) (accepted : List Acceptance) (o : Origin) (x : ℕ) → Each (Fits phones) accepted
+pub given_fits : (phones : List AddressValue) (accepted : List Acceptance) (o : Origin) (x : ℕ) → AllByRecursion (Fits phones) accepted
     → stamp_given accepted o ≡ Some x → x < end_of_2099
 given_fits phones [] o x h g = cc
 given_fits phones (a ∷ past) o x h g = go (is_from a.origin o) g (λ f. given_fits phones past o x h.1 f)

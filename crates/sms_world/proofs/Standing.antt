@@ -1,5 +1,6 @@
 -- What the inductions over orderly runs carry. Lists have the newest entry first.
 use Rattle.std.specs.Prelude.{◌≡◌, ℕ, ◌≤◌, List, map, take, length, Some}
+use Rattle.std.specs.List.{AllByRecursion}
 use Rattle.sms_field.specs.AddressValue.{AddressValue}
 use Rattle.sms_join.specs.Arrivals.{Arrival, completed, open_pieces, IsOf, OpenApart}
 use Rattle.sms_party.specs.Address.{phone_at}
@@ -11,7 +12,7 @@ use Rattle.sms_world.specs.Machine.{Machine}
 use Rattle.sms_world.specs.Texts.{size_in}
 use Rattle.sms_world.specs.Texts.Keys.{stamp_given, texts_of}
 use Rattle.sms_world.specs.Texts.Stands.{entry_in}
-use Rattle.sms_world.specs.Claims.Pieces.{Each, EachHasItsPiece}
+use Rattle.sms_world.specs.Claims.Pieces.{EachHasItsPiece}
 
 -- the arrival is of a text that was typed to this phone, and is its piece
 pub record ArrivalOf (phones : List AddressValue) (texts : List Text) (accepted : List Acceptance) (phone : ℕ) (a : Arrival) : Type 0 where
@@ -23,7 +24,7 @@ pub record ArrivalOf (phones : List AddressValue) (texts : List Text) (accepted 
 
 -- what stands at one phone
 pub record ReceiverSound (remembered : ℕ) (phones : List AddressValue) (texts : List Text) (accepted : List Acceptance) (phone : ℕ) (x : ReceiverState) : Type 0 where
-  pub taken : Each (ArrivalOf phones texts accepted phone) x.taken
+  pub taken : AllByRecursion (ArrivalOf phones texts accepted phone) x.taken
   -- the open sets are those of the open texts with just their taken segments
   pub open_sets : x.joiner.kept ≡ open_pieces (size_in texts) x.taken x.taken
   -- no two open texts have one key

@@ -1,5 +1,6 @@
 -- The test of an event holds just where the orderly conditions do.
 use Rattle.std.proofs.Common.{◌≡◌, ◌≢◌, ℕ, ◌<◌, Bool, true, false, not, ◌&&◌, ◌||◌, eqb, ltb, List, [], ◌∷◌, take, length, refl, sym, ap, ◌∙◌, subst, Some, None, Option, ◌⊎◌, inl, inr}
+use Rattle.std.specs.List.{AllByRecursion}
 use Rattle.sms_join.specs.Completion.{CompletedAreWhole}
 use Rattle.sms_world.proofs.Arrived.{listed_in_take}
 use Rattle.std.proofs.lemmas.Bool.{and_parts, and_from, eqb-true, eq-eqb, ltb-true, lt-ltb, ne_eqb}
@@ -39,7 +40,6 @@ use Rattle.sms_world.specs.Orderly.Keys.{HasKey, NoKeyIsUsedAgain}
 use Rattle.sms_world.specs.Orderly.Late.{LateSegmentsAreRemembered}
 use Rattle.sms_world.specs.Orderly.Injections.{NothingIsInjected}
 use Rattle.sms_world.specs.OrderTests.{may_come_again, has_key, is_past, key_is_free, place_is_free, is_remembered, message_in_order, sent_in_order, in_order, OrderIsTested}
-use Rattle.sms_world.specs.Claims.Pieces.{Each}
 use Rattle.sms_world.proofs.Walk.{may_deliver, message_may_come, sent_may_come, may_happen}
 use Rattle.sms_world.proofs.Entries.{each_at, each_of, has_text_of, text_entry}
 
@@ -64,7 +64,7 @@ abbrev IsInTime : ℕ → Bool → Origin → Acceptance → Type 0
 IsInTime now reject o a = a.origin ≡ Some o → (reject ≡ true) × (now < a.ends)
 
 again_says : (accepted : List Acceptance) (now : ℕ) (reject : Bool) (o : Origin) → may_come_again accepted now reject o ≡ true
-    → Each (IsInTime now reject o) accepted
+    → AllByRecursion (IsInTime now reject o) accepted
 again_says [] now reject o h = tt
 again_says (a ∷ past) now reject o h = (entry, again_says past now reject o p.1)
   where
@@ -77,7 +77,7 @@ again_says (a ∷ past) now reject o h = (entry, again_says past now reject o p.
         let q = and_parts reject (ltb now a.ends) f in
         (q.0, ltb-true now a.ends q.1)
 
-again_tests : (accepted : List Acceptance) (now : ℕ) (reject : Bool) (o : Origin) → Each (IsInTime now reject o) accepted
+again_tests : (accepted : List Acceptance) (now : ℕ) (reject : Bool) (o : Origin) → AllByRecursion (IsInTime now reject o) accepted
     → may_come_again accepted now reject o ≡ true
 again_tests [] now reject o h = refl
 again_tests (a ∷ past) now reject o h = and_from _ _ (go (is_from a.origin o) refl) (again_tests past now reject o h.1)
@@ -150,7 +150,7 @@ IsFree m phone d c n a =
     (u : Text) → a.text ≢ n → nth m.senders.texts a.text ≡ Some u → HasKey m.phones u d c → is_past m phone a.text ≡ true
 
 free_says : (m : Machine) (phone : ℕ) (d : Delivery) (c : Concat) (n : ℕ) (past : List Arrival) → key_is_free m phone d c n past ≡ true
-    → Each (IsFree m phone d c n) past
+    → AllByRecursion (IsFree m phone d c n) past
 free_says m phone d c n [] h = tt
 free_says m phone d c n (a ∷ past) h = (entry, free_says m phone d c n past p.1)
   where
@@ -163,7 +163,7 @@ free_says m phone d c n (a ∷ past) h = (entry, free_says m phone d c n past p.
         let f : (eqb a.text n || is_past m phone a.text) ≡ true = subst (λ b. (not b || (eqb a.text n || is_past m phone a.text)) ≡ true) k p.0 in
         subst (λ b. (b || is_past m phone a.text) ≡ true) (ne_eqb a.text n ne) f
 
-free_tests : (m : Machine) (phone : ℕ) (d : Delivery) (c : Concat) (n : ℕ) (past : List Arrival) → Each (IsFree m phone d c n) past
+free_tests : (m : Machine) (phone : ℕ) (d : Delivery) (c : Concat) (n : ℕ) (past : List Arrival) → AllByRecursion (IsFree m phone d c n) past
     → key_is_free m phone d c n past ≡ true
 free_tests m phone d c n [] h = refl
 free_tests m phone d c n (a ∷ past) h =

@@ -1,5 +1,5 @@
 -- A script that was played is a run of the machine.
-use Rattle.std.proofs.Common.{◌≡◌, ℕ, ◌<◌, ◌∙◌, List, [], ◌∷◌, ◌++◌, length, map, reverse, Option, Some, None, Result, Ok, Err, IfOk, slice_get, get_or, refl, sym, ap, subst, append_assoc, arith}
+use Rattle.std.proofs.Common.{◌≡◌, ℕ, suc, ◌<◌, ◌∙◌, List, [], ◌∷◌, ◌++◌, length, map, reverse, Option, Some, None, Result, Ok, Err, IfOk, slice_get, get_or, refl, sym, ap, subst, append_assoc, arith}
 use Rattle.std.proofs.lemmas.List.{append-nil}
 use Rattle.std.proofs.lemmas.Option.{slice_get-get_or}
 use Rattle.sms_field.specs.AddressValue.{AddressValue}
@@ -38,19 +38,19 @@ run_after (x ∷ past) e t put first mid last step (old, run, keeps, steps) =
 -- the events of a script, from a state that the world stands for
 abbrev RunsOn : Machine → List given.Event → List Happened → WorldValue → Type 0
 RunsOn m events happened last =
-    (told : List Told) × AreTold told happened
+    (told : List Told) × AreTold told happened × (length told ≡ length events)
     × (end : Machine) × Run m (told_past events told) end × StandsFor last end
 
 ran_runs : (events : List given.Event) (happened : List Happened) (n last : WorldValue) (m : Machine)
     → StandsFor n m → script.Ran conduct n events happened last → RunsOn m events happened last
 ran_runs [] (h ∷ happened) n last m stand ran = absurd ran
 ran_runs (e ∷ events) [] n last m stand ran = absurd ran
-ran_runs [] [] n last m stand ran = ([], tt, m, refl, subst (λ w. StandsFor w m) (sym ran) stand)
+ran_runs [] [] n last m stand ran = ([], tt, refl, m, refl, subst (λ w. StandsFor w m) (sym ran) stand)
 ran_runs (e ∷ events) (h ∷ happened) n last m stand (next, steps, puts, ran) =
     let (told, words, does) = steps in
     let (put, mid, step, stands_next, packets, add, are_packets) = does m stand in
-    let (others, are, end, run, stands_end) = ran_runs events happened next last mid stands_next ran in
-    (told ∷ others, (words, are), end, run_after (told_past events others) (event_of e) told put m mid end step run, stands_end)
+    let (others, are, size, end, run, stands_end) = ran_runs events happened next last mid stands_next ran in
+    (told ∷ others, (words, are), ap suc size, end, run_after (told_past events others) (event_of e) told put m mid end step run, stands_end)
 
 -- the packets that are told are those that came to those that there were
 ran_puts : (events : List given.Event) (happened : List Happened) (n last : WorldValue)
@@ -73,19 +73,22 @@ after_clock : (clock : Option ℕ) (limits : Limits) (phones : List AddressValue
     → AfterClock clock limits phones events happened last
 after_clock None limits phones first begun last stand clocked events happened ran =
     let stand_begun = subst (λ w. StandsFor w (start limits phones)) (sym clocked) stand in
-    let (told, are, end, run, stand_end) = ran_runs events happened begun last (start limits phones) stand_begun ran in
-    ([], told, refl, are, (end, run, stand_end))
+    let (told, are, size, end, run, stand_end) = ran_runs events happened begun last (start limits phones) stand_begun ran in
+    ([], told, refl, are, (size, (end, run, stand_end)))
 after_clock (Some seconds) limits phones first begun last stand (words, (at_clock, is, does)) events happened ran =
     let (put, mid, step, stand_mid, packets, add, are_packets) = does (start limits phones) stand in
-    let (told, are, end, run, stand_end) = ran_runs events happened begun last mid stand_mid ran in (
+    let (told, are, size, end, run, stand_end) = ran_runs events happened begun last mid stand_mid ran in (
       at_clock ∷ [],
       told,
       refl,
       are,
       (
-        end,
-        run_after (told_past events told) (event_of (Tick seconds)) at_clock put (start limits phones) mid end step run,
-        stand_end,
+        ap suc size,
+        (
+          end,
+          run_after (told_past events told) (event_of (Tick seconds)) at_clock put (start limits phones) mid end step run,
+          stand_end,
+        ),
       ),
     )
 

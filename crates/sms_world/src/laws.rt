@@ -1,4 +1,4 @@
-//! What holds of the whole, whatever comes.
+//! What follows from the definitions. No function here does anything: its contract is the law.
 
 ghost use Rattle.sms_world.specs.Accepted.{AcceptedIsAccepted};
 ghost use Rattle.sms_world.specs.Accepted.Reject.{AllReject, OnlyTimeIsLeft};
@@ -27,7 +27,7 @@ use sms_party::{
     octets_are_read_as_a_message, octets_are_read_as_one_message, others_leave_sender, stamps_rise,
 };
 
-/// Does nothing: its contract collects the laws of the crates below on which the others stand.
+/// The laws of the crates below on which the others stand.
 pub(crate) fn laws_below()
     ensures { Below }
 {
@@ -52,115 +52,111 @@ pub(crate) fn laws_below()
     others_leave_sender();
 }
 
-/// Does nothing: its contract says that each event is one act: a text has one cut, and octets are
-/// read as one message.
+/// Each event is one act: a text has one cut, and octets are read as one message.
 pub fn events_are_one_act()
     ensures { IsOneAct }
 {
     laws_below();
 }
 
-/// Does nothing: its contract says that the test of an event holds just where the four orderly
-/// conditions do.
+/// The test of an event holds just where the four orderly conditions do.
 pub fn order_is_tested()
     ensures { OrderIsTested }
 {
     laws_below();
 }
 
-/// Does nothing: its contract says that where nothing is injected and repeats ask for rejection in
-/// time, every message of a segment has its piece, and each segment is accepted at most once.
+/// Where nothing is injected and repeats ask for rejection in time, every message of a segment has
+/// its piece, and each segment is accepted at most once.
 pub fn each_message_has_its_piece()
     ensures { EachMessageHasItsPiece }
 {}
 
-/// Does nothing: its contract says that after an orderly run the open sets of each phone are those
-/// of its open texts.
+/// After an orderly run the open sets of each phone are those of its open texts.
 pub fn open_sets_are_open_texts()
     ensures { OpenSetsAreOpenTexts }
 {
     laws_below();
 }
 
-/// Does nothing: its contract says that the remembered keys are then those of the last finished
-/// texts.
+/// After an orderly run the remembered keys of each phone are those of the last texts that have
+/// finished there.
 pub fn keys_are_of_finished_texts()
     ensures { KeysAreOfFinished }
 {
     laws_below();
 }
 
-/// Does nothing: its contract says that each store is then, in order of completion, just the texts
-/// that have finished.
+/// After an orderly run each store is, in order of completion, just the texts that have finished at
+/// its phone.
 pub fn stores_stand()
     ensures { StoresStand }
 {
     laws_below();
 }
 
-/// Does nothing: its contract says that these are just the texts typed to the phone of which every
-/// segment was taken, each once, and that they stand in the order in which they were completed.
+/// After an orderly run the texts that have finished at a phone are just those typed to it of which
+/// every segment was taken, each once, and they stand in the order in which they were completed.
 pub fn finished_texts_are_whole()
     ensures { FinishedTexts }
 {
     laws_below();
 }
 
-/// Does nothing: its contract says that a delivery that comes in an orderly run is refused only
-/// where a table is full or memory runs out.
+/// A delivery that comes in an orderly run is refused only where a table is full or memory runs
+/// out.
 pub fn deliveries_are_refused_only_where_full()
     ensures { RefusedOnlyWhereFull }
 {
     laws_below();
 }
 
-/// Does nothing: its contract says that where nothing is injected and repeats ask for rejection in
-/// time, no two accepted submissions are of one segment.
+/// Where nothing is injected and repeats ask for rejection in time, no two accepted submissions are
+/// of one segment.
 pub fn segments_are_accepted_once()
     ensures { AcceptedAtMostOnce }
 {}
 
-/// Does nothing: its contract says that where answers and rejections are of what they seem to be
-/// of, the centre has accepted each segment of a text that is shown as accepted.
+/// Where answers and rejections are of what they seem to be of, the centre has accepted each
+/// segment of a text that is shown as accepted.
 pub fn accepted_texts_were_accepted()
     ensures { AcceptedIsAccepted }
 {}
 
-/// Does nothing: its contract says that up to 1,792 puttings out answers answer what they name.
+/// Where nothing is injected and no phone has put out more than 1,792 times, an answer with the two
+/// numbers of the latest putting out is to that one.
 pub fn few_answers_are_told_apart()
     ensures { FewPuttingsOut }
 {}
 
-/// Does nothing: its contract says that where duplicates are to be rejected from the first putting
-/// out on, each submission says so.
+/// Where duplicates are to be rejected from the first putting out on, each submission says so.
 pub fn submissions_reject_duplicates()
     ensures { AllReject }
 {}
 
-/// Does nothing: its contract says that copies may then come as long as the accepted submission has
-/// not ended.
+/// Where duplicates are to be rejected from the first putting out on, copies may come as long as
+/// the accepted submission has not ended.
 pub fn copies_may_come_in_time()
     ensures { OnlyTimeIsLeft }
 {}
 
-/// Does nothing: its contract says that octets that no CP message reads change nothing and put
-/// nothing out.
+/// Octets that no CP message reads change nothing and put nothing out.
 pub fn unread_octets_change_nothing()
     ensures { UnreadChangesNothing }
 {
     octets_are_read_as_one_message();
 }
 
-/// Does nothing: its contract says that a CP-DATA without a readable RP message, or whose RP-DATA
-/// holds no readable unit, changes no party.
+/// A CP-DATA without a readable RP message, or whose RP-DATA holds no readable unit, changes no
+/// party.
 pub fn unread_units_change_no_party()
     ensures { NothingSaidChangesNoParty }
 {
     octets_are_read_as_one_message();
 }
 
-/// Does nothing: its contract says what holds of every world, by the states of the machine for
-/// which it stands: the stores, what is refused, what is accepted, and what is shown as accepted.
+/// What is claimed of the machine holds of every world, by the states for which it stands: its
+/// stores, what is refused, what is accepted, and what is shown as accepted.
 pub fn claims_hold()
     ensures { ClaimsHold }
 {

@@ -42,8 +42,8 @@ pub fn play<S: Source, K: Sink>(
     sms_script::play::<World, S, K>(alloc, source, sink)
 }
 
-/// Does nothing: its contract says that after an orderly run each store in the transcript is just
-/// the texts that have finished at the phone, as typed, in order of completion.
+/// After an orderly run each store in the transcript is just the texts that have finished at the
+/// phone, as typed, in order of completion. The contract is this law; nothing is done.
 pub fn told_stores_stand()
     ensures { ToldStoresStand }
 {

@@ -1,4 +1,4 @@
-//! The whole.
+//! A world of phones, the centre, and all packets.
 
 mod parties;
 mod sent_packet;
@@ -26,18 +26,15 @@ use crate::fault::WorldFault;
 use crate::laws::{claims_hold, laws_below};
 use crate::world::parties::Parties;
 use crate::world::sent_packet::SentPacket;
-use sms_field::Address;
+use sms_field::{Address, END_OF_2099};
 use sms_party::{Dropped, Entry, Outcome, Status, Step};
 use sms_script::{Event, Limits, Packet};
 use std::alloc::{AllocError, Global};
 use std::marker::Model;
 
-/// The clock stands below this moment, the end of 2099.
-const CLOCK_END: u64 = 3_155_760_000;
-
 /// Phones that send and receive, the service centre between them, and every packet that was ever
 /// put out. Phones are counted from 0, packets and the texts of a phone from 1. The clock counts
-/// seconds since the beginning of 2000.
+/// seconds since the beginning of 2000, and stands below the end of 2099.
 #[derive(Drop)]
 pub struct World {
     limits: Limits,
@@ -196,7 +193,7 @@ impl World {
         ensures phones { length self.new.parties.phones ≡ length self.old.parties.phones }
         ensures packets { self.new.packets ≡ self.old.packets }
     {
-        if seconds >= CLOCK_END - self.clock {
+        if seconds >= END_OF_2099 - self.clock {
             return Err(WorldFault::ClockEnd);
         }
         self.clock += seconds;

@@ -397,7 +397,7 @@ pub static TEXTS: [Shown; 12] = [
 ];
 
 /// Deliveries by their octets and their units of 16 bits, and lines of the answer.
-pub static WIDE_TEXTS: [Shown; 12] = [
+pub static UCS2_TEXTS: [Shown; 12] = [
     Shown {
         octets: "04049110100008001010000000002000000009000B001B001F0020007F005C00780034003100E920AC0436D83DDE00",
         lines: "\ntext: \\x00\\x09\\x0b\\x1b\\x1f \\x7f\\\\x41é€ж😀\n",

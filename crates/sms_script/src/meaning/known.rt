@@ -8,7 +8,6 @@ ghost use Rattle.sms_field.specs.SameAddress.{same_address};
 ghost use Rattle.sms_script.specs.Meaning.Known.{no_phones, with_phone, running, IsNew, ArePhones};
 
 use crate::meaning::statement::Phone;
-use crate::words::is_same_address;
 use indexmap::IndexSet;
 use sms_field::Address;
 use std::alloc::{AllocError, Global};
@@ -80,7 +79,7 @@ impl Known {
     pub fn has_address(&self, address: &Address) -> bool
         ensures { result ≡ list_any (λ a. same_address a address.now) self.now.addresses }
     {
-        self.addresses.iter().any(|a| is_same_address(a, address))
+        self.addresses.iter().any(|a| a.is_same(address))
     }
 
     /// The addresses of the phones.

@@ -29,10 +29,10 @@ impl Limits {
         ensures ranges { AreLimits result }
     {
         Limits {
-            held: 1000,
-            open_max: 16,
-            remembered: 32,
-            store: 500,
+            held: Limit::Held.greatest() as usize,
+            open_max: Limit::Open.greatest() as usize,
+            remembered: Limit::Remembered.greatest() as usize,
+            store: Limit::Store.greatest() as usize,
             wide: false,
             reject: false,
         }

@@ -1,26 +1,51 @@
 //! Texts in one line.
 
 ghost use Rattle.std.specs.Prelude.{◌≡◌, ◌++◌, OnOk};
-ghost use Rattle.sms_script.specs.Transcript.Escapes.{escape, escaped};
+ghost use Rattle.sms_script.specs.Transcript.Escapes.{escape, escape_as, escaped};
 
 use std::alloc::AllocError;
+
+/// How a character of a text stands in one line.
+#[derive(Clone, Copy, Debug, PartialEq, Eq)]
+pub enum Escape {
+    /// As it is.
+    Plain,
+    /// As a backslash and this letter.
+    Letter(u8),
+    /// As a backslash, `x`, and its code in two hexadecimal digits.
+    Digits,
+}
+
+impl Escape {
+    /// How an octet of a text in UTF-8 stands in one line: what would break the line is escaped.
+    /// An octet of a character of several octets stands as it is.
+    pub fn of(octet: u8) -> Escape
+        ensures { escape_as octet result ≡ escape octet }
+    {
+        match octet {
+            b'\\' => Escape::Letter(b'\\'),
+            b'\n' => Escape::Letter(b'n'),
+            b'\r' => Escape::Letter(b'r'),
+            12 => Escape::Letter(b'f'),
+            0..=31 | 127 => Escape::Digits,
+            _ => Escape::Plain,
+        }
+    }
+}
 
 /// Adds an octet of a text, escaped where it would break the line.
 fn push_octet(out: &mut Vec<u8>, octet: u8) -> Result<(), AllocError>
     ensures { OnOk result (out.new.items ≡ out.old.items ++ escape octet) }
 {
-    match octet {
-        b'\\' => out.extend_from_slice(b"\\\\")?,
-        b'\n' => out.extend_from_slice(b"\\n")?,
-        b'\r' => out.extend_from_slice(b"\\r")?,
-        12 => out.extend_from_slice(b"\\f")?,
-        0..=31 | 127 => {
+    match Escape::of(octet) {
+        Escape::Plain => out.push(octet)?,
+        Escape::Letter(letter) => out.extend_from_slice(&[b'\\', letter])?,
+        Escape::Digits => {
             let digits = b"0123456789abcdef";
             out.extend_from_slice(b"\\x")?;
             out.push(digits[octet as usize / 16])?;
             out.push(digits[octet as usize % 16])?;
         }
-        _ => out.push(octet)?,
     }
     Ok(())
 }

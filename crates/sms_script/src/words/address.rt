@@ -1,7 +1,6 @@
 //! Addresses in a script.
 
 ghost use Rattle.std.specs.Prelude.{◌≡◌};
-ghost use Rattle.sms_field.specs.SameAddress.{same_address};
 ghost use Rattle.sms_script.specs.Reasons.{Gives};
 ghost use Rattle.sms_script.specs.Words.Addresses.{address, can_be_phone};
 
@@ -18,14 +17,6 @@ pub fn address_of(alloc: Global, word: &str) -> Result<Address, MeaningFault>
         Err(TextFault::Memory) => Err(MeaningFault::Memory),
         Err(TextFault::Address(_)) => Err(MeaningFault::Script(ScriptFault::BadAddress)),
     }
-}
-
-/// Whether two addresses are the same: of one type and plan, and with the same digits or name.
-#[tactic(auto, unfolding(sms_field::specs::SameAddress::same_address))]
-pub fn is_same_address(a: &Address, b: &Address) -> bool
-    ensures { result ≡ same_address a.now b.now }
-{
-    *a == *b
 }
 
 /// Whether an address may be that of a phone: of type 0 or 1, and with a digit.

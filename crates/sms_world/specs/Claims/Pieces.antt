@@ -2,6 +2,7 @@
 -- that segment's piece, and each segment is accepted at most once, so that all its deliveries have
 -- one stamp. Lists have the newest entry first.
 use Rattle.std.specs.Prelude.{◌≡◌, ℕ, ◌<◌, ◌≤◌, Bool, false, List, [], ◌∷◌, length, Option, Some, None}
+use Rattle.std.specs.List.{AllByRecursion}
 use Rattle.sms_field.specs.AddressValue.{AddressValue}
 use Rattle.sms_tpdu.specs.Submit.{Submission}
 use Rattle.sms_tpdu.specs.Deliver.{Delivery}
@@ -28,11 +29,6 @@ use Rattle.sms_world.specs.Machine.Step.{RunWith}
 use Rattle.sms_world.specs.Texts.{size_in}
 use Rattle.sms_world.specs.Texts.Keys.{stamp_given}
 use Rattle.sms_world.specs.Orderly.{SubmissionsAreOrderly}
-
--- of every entry of the list
-abbrev pub Each : {X : Type 0} → (X → Type 0) → List X → Type 0
-Each P [] = Unit {0}
-Each P (x ∷ xs) = P x × Each P xs
 
 -- the pieces are the cut of the characters
 pub record HasCut (t : Text) : Type 0 where
@@ -133,23 +129,23 @@ AcceptedOnce (a ∷ past) =
     ((o : Origin) → a.origin ≡ Some o → stamp_given past o ≡ None) × AcceptedOnce past
 
 pub record SenderSound (texts : List Text) (phone : ℕ) (s : Sender) : Type 0 where
-  pub pending : Each (IsPending texts phone) s.pending
+  pub pending : AllByRecursion (IsPending texts phone) s.pending
   pub under_way : IsUnderWay texts s.pending s.accepted
 
 pub record CentreSound (phones : List AddressValue) (texts : List Text)
     (c : CentreState) : Type 0 where
-  pub accepted : Each (IsTyped phones texts c.accepted) c.accepted
+  pub accepted : AllByRecursion (IsTyped phones texts c.accepted) c.accepted
   pub once : AcceptedOnce c.accepted
   pub queued : (r : ℕ)
-      → Each (λ a. (a.recipient ≡ r) × IsTyped phones texts c.accepted a) (c.line r).queue
+      → AllByRecursion (λ a. (a.recipient ≡ r) × IsTyped phones texts c.accepted a) (c.line r).queue
 
 -- The pieces of each typed text are its cut; every message of a segment has its text's piece; and
 -- each segment is accepted at most once, so that all deliveries of it have one stamp.
 pub record EachHasItsPiece (m : Machine) : Type 0 where
-  pub texts : Each HasCut m.senders.texts
+  pub texts : AllByRecursion HasCut m.senders.texts
   pub senders : (phone : ℕ) → SenderSound m.senders.texts phone (m.senders.sender phone)
   pub centre : CentreSound m.phones m.senders.texts m.centre
-  pub sent : Each (IsSentOf m.phones m.senders.texts m.centre.accepted) m.sent
+  pub sent : AllByRecursion (IsSentOf m.phones m.senders.texts m.centre.accepted) m.sent
 
 abbrev pub EachMessageHasItsPiece : Type 0
 EachMessageHasItsPiece =

@@ -1,5 +1,6 @@
 -- Which texts have finished at a phone, and in which order. Lists have the newest entry first.
-use Rattle.std.specs.Prelude.{◌≡◌, ◌↔◌, ℕ, true, false, List, [], ◌∷◌}
+use Rattle.std.specs.Prelude.{◌≡◌, ◌↔◌, ℕ, nat_eq, true, List}
+use Rattle.std.specs.List.{IsDistinct}
 use Rattle.sms_field.specs.AddressValue.{AddressValue}
 use Rattle.sms_join.specs.Arrivals.{is_listed}
 use Rattle.sms_join.specs.Completion.{StandsBefore, CameEarlier}
@@ -13,11 +14,6 @@ use Rattle.sms_world.specs.Texts.Taken.{IsComplete}
 use Rattle.sms_world.specs.Texts.Finished.{finished}
 use Rattle.sms_world.specs.Orderly.{OrderlyRun}
 
--- no text twice
-abbrev pub IsDistinct : List ℕ → Type 0
-IsDistinct [] = Unit {0}
-IsDistinct (n ∷ ns) = (is_listed ns n ≡ false) × IsDistinct ns
-
 -- Just the texts typed to the phone of which every segment was taken, each once; and one of them
 -- stands before another just where its last missing segment came earlier.
 pub record FinishedAre (m : Machine) (phone : ℕ) : Type 0 where
@@ -25,7 +21,7 @@ pub record FinishedAre (m : Machine) (phone : ℕ) : Type 0 where
   pub complete : (n : ℕ) → is_listed (finished m phone) n ≡ true → IsComplete m phone n
   pub all : (n : ℕ) → IsTypedTo m phone n → IsComplete m phone n
       → is_listed (finished m phone) n ≡ true
-  pub once : IsDistinct (finished m phone)
+  pub once : IsDistinct nat_eq (finished m phone)
   pub order : (n other : ℕ) → is_listed (finished m phone) n ≡ true
       → is_listed (finished m phone) other ≡ true
       → (StandsBefore (finished m phone) n other

@@ -42,7 +42,8 @@ pub record StoreIsFull (m : Machine) (phone : ℕ) (o : Origin) : Type 0 where
 -- one.
 pub record SetsAreFull (m : Machine) (phone : ℕ) (o : Origin) : Type 0 where
   pub full :
-      length (open_texts (size_in m.senders.texts) (m.receiver phone).taken (m.receiver phone).taken)
+      length
+      (open_texts (size_in m.senders.texts) (m.receiver phone).taken (m.receiver phone).taken)
       ≡ m.limits.open_max
   pub none_taken : (s : ℕ) → ¬ IsTaken m phone o.text s
   pub more : 1 < size_in m.senders.texts o.text

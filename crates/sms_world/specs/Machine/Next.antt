@@ -11,19 +11,18 @@ use Rattle.sms_party.specs.declared.outcome.Dropped.TheVariants as dropped
 use Rattle.sms_field.specs.Times.{end_of_2099}
 use Rattle.sms_party.specs.Sent.{nth, Place, Centre, Phone, Sent, Sends, bare}
 use Rattle.sms_party.specs.Does.{Does}
-use Rattle.sms_party.specs.Sender.Texts.{Text, size_of, SenderState}
+use Rattle.sms_party.specs.Sender.Texts.{size_of, SenderState}
 use Rattle.sms_party.specs.Sender.Calls.{composes, times_out}
 use Rattle.sms_party.specs.Sender.Answers.{sender_receives}
 use Rattle.sms_party.specs.Centre.State.{Pushing, CentreState, changed}
 use Rattle.sms_party.specs.Centre.{centre_receives}
 use Rattle.sms_party.specs.Centre.Pushes.{centre_pushes}
 use Rattle.sms_party.specs.Receiver.{receiver_opened}
-use Rattle.sms_party.specs.Receiver.State.{ReceiverLimits, ReceiverState}
+use Rattle.sms_party.specs.Receiver.Aging.{ages}
+use Rattle.sms_party.specs.Receiver.State.{ReceiverLimits, limits_of, ReceiverState}
 use Rattle.sms_script.specs.declared.script.limits.Limits.{Limits}
 use Rattle.sms_world.specs.declared.fault.WorldFault.TheVariants.{NoSuchPacket, NoSuchPhone, ClockEnd, Party}
 use Rattle.sms_world.specs.Told.{Told, of_party}
-use Rattle.sms_join.specs.Aging.{aged, is_old}
-use Rattle.sms_join.specs.Arrivals.{remaining}
 use Rattle.sms_world.specs.Machine.{Machine}
 use Rattle.sms_world.specs.Machine.Event.{Act, Composes, Carries, TimesOut, Pushes, Ticks, Injects}
 
@@ -60,7 +59,7 @@ to_centre phone (v ∷ vs) = bare (Centre phone) v ∷ to_centre phone vs
 
 abbrev pub receiver_limits : Limits → ReceiverLimits
 receiver_limits limits =
-    record { open_max = limits.open_max; remembered = limits.remembered; store = limits.store }
+    limits_of limits.open_max limits.remembered limits.store
 
 -- The receiver of this phone did this.
 unfoldable pub by_receiver : Machine → ℕ → Does ReceiverState → Next
@@ -134,17 +133,14 @@ carries m (Some x) = comes m x.to x.message x.origin x.about
 
 -- ---- the clock moves
 
--- Open sets that are old are dropped, and what was taken of their texts no longer counts.
-unfoldable pub aged_at : List Text → ℕ → ReceiverState → ReceiverState
-aged_at texts clock r =
-    record r {
-      joiner = aged clock r.joiner;
-      taken = remaining (λ n. size_of (nth texts n)) (is_old clock r.joiner.kept) r.taken r.taken;
-    }
-
+-- At each phone open sets that are old are dropped, and what was taken of their texts no longer
+-- counts.
 unfoldable pub ticked : Machine → ℕ → Machine
 ticked m clock =
-    record m { clock = clock; receiver = λ p. aged_at m.senders.texts clock (m.receiver p) }
+    record m {
+      clock = clock;
+      receiver = λ p. ages (λ n. size_of (nth m.senders.texts n)) clock (m.receiver p);
+    }
 
 -- ---- an event
 

@@ -1,5 +1,5 @@
 -- What it means that a call of the whole is a step of the machine.
-use Rattle.std.specs.Prelude.{◌≡◌, ℕ, List, [], ◌∷◌, ◌++◌, reverse, Option, Some, None}
+use Rattle.std.specs.Prelude.{◌≡◌, ℕ, List, [], ◌∷◌, ◌++◌, length, reverse, Option, Some, None}
 use Rattle.std.specs.Str.{chars}
 use Rattle.sms_field.specs.AddressValue.{AddressValue}
 use Rattle.sms_party.specs.Sent.{Sent}
@@ -51,11 +51,12 @@ told_past [] told = []
 told_past (e ∷ events) [] = []
 told_past (e ∷ events) (t ∷ told) = told_past events told ++ (event_of e, t) ∷ []
 
--- There is a run from the first state, of these events with these answers, to a state that the
+-- There is a run from the first state, of these events, each with its answer, to a state that the
 -- world stands for.
 abbrev pub Runs : Limits → List AddressValue → List script.Event → List Told → WorldValue → Type 0
 Runs limits phones events told world =
-    (m : Machine) × Run (start limits phones) (told_past events told) m × StandsFor world m
+    (length told ≡ length events)
+    × ((m : Machine) × Run (start limits phones) (told_past events told) m × StandsFor world m)
 
 -- The k-th packet carries the k-th message, if as many were put out, in each state that the world
 -- stands for.

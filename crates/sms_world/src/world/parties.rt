@@ -4,6 +4,7 @@ ghost use Rattle.std.specs.Prelude.{◌≡◌, ◌<◌, ◌≤◌, IsTrue, true,
 ghost use Rattle.std.specs.Str.{chars};
 ghost use Rattle.std.specs.List.{AllByRecursion};
 ghost use Rattle.sms_text.specs.Octets.{IsOctets};
+ghost use Rattle.sms_field.specs.Times.{end_of_2099};
 ghost use Rattle.sms_party.specs.Address.{are_distinct};
 ghost use Rattle.sms_party.specs.Sender.Texts.{width_of};
 ghost use Rattle.sms_party.specs.Sender.Value.{status_among};
@@ -146,7 +147,7 @@ impl Parties {
     /// Octets come to the centre from a phone.
     fn reach_centre(&mut self, now: u64, phone: usize, octets: &[u8]) -> Result<Step, Dropped>
         requires phone { phone < length self.old.phones }
-        requires moment { now < 3155760000 }
+        requires moment { now < end_of_2099 }
         ensures receives { Receives now true phone octets.now self.old result self.new }
         ensures phones { length self.new.phones ≡ length self.old.phones }
         ensures octets { IsOctets octets.now }
@@ -164,7 +165,7 @@ impl Parties {
         octets: &[u8],
     ) -> Result<Step, Dropped>
         requires phone { phone < length self.old.phones }
-        requires moment { now < 3155760000 }
+        requires moment { now < end_of_2099 }
         ensures receives { Receives now up phone octets.now self.old result self.new }
         ensures phones { length self.new.phones ≡ length self.old.phones }
         ensures octets { IsOctets octets.now }
