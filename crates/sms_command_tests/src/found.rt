@@ -84,12 +84,3 @@ pub fn is_missed(alloc: Global, kind: &str, front: &str) -> Result<bool, Fail> {
     let line = format!(in alloc; "at {}: short\n", front.len() / 2)?;
     is_answered(alloc, kind, front, &line, 1)
 }
-
-/// A text, as many times as are asked for.
-pub fn repeated(alloc: Global, part: &str, times: usize) -> Result<String, Fail> {
-    let mut text = String::new(alloc);
-    for _ in 0..times {
-        text.push_str(part)?;
-    }
-    Ok(text)
-}

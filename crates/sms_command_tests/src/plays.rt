@@ -66,7 +66,7 @@ fn events_in(alloc: Global, transcript: &str) -> Result<String, Fail> {
 /// Whether lines stand there, from the beginning of one line to the end of another.
 fn has_lines(alloc: Global, lines: &str, wanted: &str) -> Result<bool, Fail> {
     let wanted = expanded(alloc, wanted)?;
-    let between = format!(in alloc; "\n{wanted}\n")?;
+    let between = ["\n", &wanted, "\n"].concat(alloc)?;
     Ok(lines.contains(between.as_str()))
 }
 
@@ -83,7 +83,7 @@ fn have_lines(alloc: Global, lines: &str, wanted: &[&str]) -> Result<bool, Fail>
 /// The script of a row, after its phones.
 fn script_of(alloc: Global, row: &Played) -> Result<String, Fail> {
     let script = expanded(alloc, row.script)?;
-    Ok(format!(in alloc; "{PHONES}{script}")?)
+    Ok([PHONES, &script].concat(alloc)?)
 }
 
 /// Whether the transcript of a row's script says all that the row wants.
@@ -106,14 +106,22 @@ fn are_played(rt: &impl Abort, alloc: Global, rows: &[Played]) -> Result<(), Fai
 }
 
 #[test]
-fn plays_texts(rt: HostRuntime) -> Result<(), Fail> {
-    are_played(&rt, rt.alloc(), STORED.as_slice())?;
+fn plays_stored_texts(rt: HostRuntime) -> Result<(), Fail> {
+    are_played(&rt, rt.alloc(), STORED.as_slice())
+}
+
+#[test]
+fn plays_texts_in_segments(rt: HostRuntime) -> Result<(), Fail> {
     are_played(&rt, rt.alloc(), IN_SEGMENTS.as_slice())
 }
 
 #[test]
-fn plays_what_is_refused_or_unanswered(rt: HostRuntime) -> Result<(), Fail> {
-    are_played(&rt, rt.alloc(), AT_THE_CENTRE.as_slice())?;
+fn plays_what_the_centre_refuses(rt: HostRuntime) -> Result<(), Fail> {
+    are_played(&rt, rt.alloc(), AT_THE_CENTRE.as_slice())
+}
+
+#[test]
+fn plays_what_is_unanswered(rt: HostRuntime) -> Result<(), Fail> {
     are_played(&rt, rt.alloc(), UNANSWERED.as_slice())
 }
 
@@ -161,22 +169,26 @@ impl Read for Breaks<'_> {
 
 /// How much of a transcript stands before the line that begins so.
 fn front_before<'a>(alloc: Global, transcript: &'a str, line: &str) -> Result<&'a str, Fail> {
-    let begin = format!(in alloc; "\n{line}")?;
+    let begin = ["\n", line].concat(alloc)?;
     match transcript.find(begin.as_str()) {
         Some(place) => Ok(transcript.get(..place + 1).ok_or("no front")?),
         None => Ok(""),
     }
 }
 
+/// How the line begins that is told after as many lines of the script.
+fn line_after(alloc: Global, lines: usize) -> Result<String, Fail> {
+    match lines {
+        8 => Ok("sent".to_string(alloc)?),
+        _ => Ok(format!(in alloc; "{} ", lines.saturating_sub(1))?),
+    }
+}
+
 /// What is told where a read fails after as many lines.
 fn told_before(alloc: Global, lines: usize) -> Result<String, Fail> {
-    let next = if lines == 8 {
-        "sent".to_string(alloc)?
-    } else {
-        format!(in alloc; "{} ", lines.saturating_sub(1))?
-    };
+    let next = line_after(alloc, lines)?;
     let told = front_before(alloc, WAY_TOLD, &next)?;
-    Ok(format!(in alloc; "{told}read failed\n")?)
+    Ok([told, "read failed\n"].concat(alloc)?)
 }
 
 /// Whether the lines of a front are told where no more is read.

@@ -14,31 +14,67 @@ use std::process::Abort;
 use std::test::Fail;
 
 #[test]
-fn shows_rp_messages(rt: HostRuntime) -> Result<(), Fail> {
-    are_answered(&rt, rt.alloc(), "rp", DATA_FROM_PHONES.as_slice(), 0)?;
-    are_answered(&rt, rt.alloc(), "rp", DATA_TO_PHONES.as_slice(), 0)?;
-    are_answered(&rt, rt.alloc(), "rp", ACKNOWLEDGEMENTS.as_slice(), 0)?;
+fn shows_rp_data_from_phones(rt: HostRuntime) -> Result<(), Fail> {
+    are_answered(&rt, rt.alloc(), "rp", DATA_FROM_PHONES.as_slice(), 0)
+}
+
+#[test]
+fn shows_rp_data_to_phones(rt: HostRuntime) -> Result<(), Fail> {
+    are_answered(&rt, rt.alloc(), "rp", DATA_TO_PHONES.as_slice(), 0)
+}
+
+#[test]
+fn shows_rp_acknowledgements(rt: HostRuntime) -> Result<(), Fail> {
+    are_answered(&rt, rt.alloc(), "rp", ACKNOWLEDGEMENTS.as_slice(), 0)
+}
+
+#[test]
+fn shows_rp_errors(rt: HostRuntime) -> Result<(), Fail> {
     are_answered(&rt, rt.alloc(), "rp", ERRORS.as_slice(), 0)
 }
 
 #[test]
-fn refuses_what_is_no_rp_message(rt: HostRuntime) -> Result<(), Fail> {
-    are_answered(&rt, rt.alloc(), "rp", NO_RP_TYPES.as_slice(), 1)?;
-    are_answered(&rt, rt.alloc(), "rp", NO_RP_ADDRESSES.as_slice(), 1)?;
-    are_answered(&rt, rt.alloc(), "rp", NO_RP_USER_DATA.as_slice(), 1)?;
+fn refuses_what_has_no_rp_type(rt: HostRuntime) -> Result<(), Fail> {
+    are_answered(&rt, rt.alloc(), "rp", NO_RP_TYPES.as_slice(), 1)
+}
+
+#[test]
+fn refuses_what_has_no_rp_address(rt: HostRuntime) -> Result<(), Fail> {
+    are_answered(&rt, rt.alloc(), "rp", NO_RP_ADDRESSES.as_slice(), 1)
+}
+
+#[test]
+fn refuses_what_has_no_rp_user_data(rt: HostRuntime) -> Result<(), Fail> {
+    are_answered(&rt, rt.alloc(), "rp", NO_RP_USER_DATA.as_slice(), 1)
+}
+
+#[test]
+fn refuses_what_has_no_rp_cause(rt: HostRuntime) -> Result<(), Fail> {
     are_answered(&rt, rt.alloc(), "rp", NO_RP_CAUSES.as_slice(), 1)
 }
 
 #[test]
-fn shows_faults_in_rp_messages(rt: HostRuntime) -> Result<(), Fail> {
-    are_answered(&rt, rt.alloc(), "rp", FAULTS_IN_TRANSFERS.as_slice(), 1)?;
+fn shows_faults_in_transfers(rt: HostRuntime) -> Result<(), Fail> {
+    are_answered(&rt, rt.alloc(), "rp", FAULTS_IN_TRANSFERS.as_slice(), 1)
+}
+
+#[test]
+fn shows_faults_in_answers(rt: HostRuntime) -> Result<(), Fail> {
     are_answered(&rt, rt.alloc(), "rp", FAULTS_IN_ANSWERS.as_slice(), 1)
 }
 
 #[test]
-fn shows_cp_messages(rt: HostRuntime) -> Result<(), Fail> {
-    are_answered(&rt, rt.alloc(), "cp", CP_DATA_OF_TRANSFERS.as_slice(), 0)?;
-    are_answered(&rt, rt.alloc(), "cp", CP_DATA_OF_ANSWERS.as_slice(), 0)?;
+fn shows_cp_data_of_transfers(rt: HostRuntime) -> Result<(), Fail> {
+    are_answered(&rt, rt.alloc(), "cp", CP_DATA_OF_TRANSFERS.as_slice(), 0)
+}
+
+#[test]
+fn shows_cp_data_of_answers(rt: HostRuntime) -> Result<(), Fail> {
+    are_answered(&rt, rt.alloc(), "cp", CP_DATA_OF_ANSWERS.as_slice(), 0)
+}
+
+#[test]
+fn shows_cp_messages_without_data(rt: HostRuntime) -> Result<(), Fail> {
     are_answered(&rt, rt.alloc(), "cp", CP_WITHOUT_DATA.as_slice(), 0)
 }
 
@@ -48,8 +84,12 @@ fn refuses_what_is_no_cp_message(rt: HostRuntime) -> Result<(), Fail> {
 }
 
 #[test]
-fn shows_faults_in_cp_messages(rt: HostRuntime) -> Result<(), Fail> {
-    are_answered(&rt, rt.alloc(), "cp", FAULTS_OF_RP_IN_CP.as_slice(), 1)?;
+fn shows_faults_of_rp_in_cp(rt: HostRuntime) -> Result<(), Fail> {
+    are_answered(&rt, rt.alloc(), "cp", FAULTS_OF_RP_IN_CP.as_slice(), 1)
+}
+
+#[test]
+fn shows_faults_of_units_in_cp(rt: HostRuntime) -> Result<(), Fail> {
     are_answered(&rt, rt.alloc(), "cp", FAULTS_OF_UNITS_IN_CP.as_slice(), 1)
 }
 
@@ -92,7 +132,11 @@ fn are_answered_after_a_centre(
 }
 
 #[test]
-fn shows_messages_after_a_centre(rt: HostRuntime) -> Result<(), Fail> {
-    are_answered_after_a_centre(&rt, rt.alloc(), RP_AFTER_CENTRES.as_slice())?;
+fn shows_rp_messages_after_a_centre(rt: HostRuntime) -> Result<(), Fail> {
+    are_answered_after_a_centre(&rt, rt.alloc(), RP_AFTER_CENTRES.as_slice())
+}
+
+#[test]
+fn shows_cp_messages_after_a_centre(rt: HostRuntime) -> Result<(), Fail> {
     are_answered_after_a_centre(&rt, rt.alloc(), CP_AFTER_CENTRES.as_slice())
 }

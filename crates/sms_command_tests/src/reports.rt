@@ -2,7 +2,7 @@
 
 mod rows;
 
-use crate::found::{are_answered_after_a_centre, is_answered, is_missed, repeated};
+use crate::found::{are_answered_after_a_centre, is_answered, is_missed};
 use rows::{
     CAUSES, DELIVER_ACK_LENGTHS, DELIVER_ACKS, DELIVER_COMBINATIONS, DELIVER_ERROR_LENGTHS,
     DELIVER_ERRORS, DELIVER_REPORTS_AFTER_CENTRES, Data, NO_DELIVER_REPORTS, NO_SUBMIT_REPORTS,
@@ -24,16 +24,32 @@ fn are_answered(rt: &impl Abort, alloc: Global, rows: &[Report], status: u8) -> 
 }
 
 #[test]
-fn shows_each_choice_of_parts(rt: HostRuntime) -> Result<(), Fail> {
-    are_answered(&rt, rt.alloc(), SUBMIT_COMBINATIONS.as_slice(), 0)?;
+fn shows_each_choice_of_parts_in_submit_reports(rt: HostRuntime) -> Result<(), Fail> {
+    are_answered(&rt, rt.alloc(), SUBMIT_COMBINATIONS.as_slice(), 0)
+}
+
+#[test]
+fn shows_each_choice_of_parts_in_deliver_reports(rt: HostRuntime) -> Result<(), Fail> {
     are_answered(&rt, rt.alloc(), DELIVER_COMBINATIONS.as_slice(), 0)
 }
 
 #[test]
-fn shows_reports(rt: HostRuntime) -> Result<(), Fail> {
-    are_answered(&rt, rt.alloc(), SUBMIT_ACKS.as_slice(), 0)?;
-    are_answered(&rt, rt.alloc(), SUBMIT_ERRORS.as_slice(), 0)?;
-    are_answered(&rt, rt.alloc(), DELIVER_ACKS.as_slice(), 0)?;
+fn shows_submit_acks(rt: HostRuntime) -> Result<(), Fail> {
+    are_answered(&rt, rt.alloc(), SUBMIT_ACKS.as_slice(), 0)
+}
+
+#[test]
+fn shows_submit_errors(rt: HostRuntime) -> Result<(), Fail> {
+    are_answered(&rt, rt.alloc(), SUBMIT_ERRORS.as_slice(), 0)
+}
+
+#[test]
+fn shows_deliver_acks(rt: HostRuntime) -> Result<(), Fail> {
+    are_answered(&rt, rt.alloc(), DELIVER_ACKS.as_slice(), 0)
+}
+
+#[test]
+fn shows_deliver_errors(rt: HostRuntime) -> Result<(), Fail> {
     are_answered(&rt, rt.alloc(), DELIVER_ERRORS.as_slice(), 0)
 }
 
@@ -43,44 +59,49 @@ fn shows_causes_of_failure(rt: HostRuntime) -> Result<(), Fail> {
 }
 
 #[test]
-fn refuses_what_is_no_report(rt: HostRuntime) -> Result<(), Fail> {
-    are_answered(&rt, rt.alloc(), NO_SUBMIT_REPORTS.as_slice(), 1)?;
+fn refuses_what_is_no_submit_report(rt: HostRuntime) -> Result<(), Fail> {
+    are_answered(&rt, rt.alloc(), NO_SUBMIT_REPORTS.as_slice(), 1)
+}
+
+#[test]
+fn refuses_what_is_no_deliver_report(rt: HostRuntime) -> Result<(), Fail> {
     are_answered(&rt, rt.alloc(), NO_DELIVER_REPORTS.as_slice(), 1)
 }
 
 #[test]
-fn refuses_data_that_are_too_long(rt: HostRuntime) -> Result<(), Fail> {
-    are_answered(&rt, rt.alloc(), TOO_LONG_SUBMIT_ACKS.as_slice(), 1)?;
-    are_answered(&rt, rt.alloc(), TOO_LONG_SUBMIT_ERRORS.as_slice(), 1)?;
-    are_answered(&rt, rt.alloc(), TOO_LONG_DELIVER_ACKS.as_slice(), 1)?;
+fn refuses_too_long_data_in_submit_acks(rt: HostRuntime) -> Result<(), Fail> {
+    are_answered(&rt, rt.alloc(), TOO_LONG_SUBMIT_ACKS.as_slice(), 1)
+}
+
+#[test]
+fn refuses_too_long_data_in_submit_errors(rt: HostRuntime) -> Result<(), Fail> {
+    are_answered(&rt, rt.alloc(), TOO_LONG_SUBMIT_ERRORS.as_slice(), 1)
+}
+
+#[test]
+fn refuses_too_long_data_in_deliver_acks(rt: HostRuntime) -> Result<(), Fail> {
+    are_answered(&rt, rt.alloc(), TOO_LONG_DELIVER_ACKS.as_slice(), 1)
+}
+
+#[test]
+fn refuses_too_long_data_in_deliver_errors(rt: HostRuntime) -> Result<(), Fail> {
     are_answered(&rt, rt.alloc(), TOO_LONG_DELIVER_ERRORS.as_slice(), 1)
 }
 
 /// The lines of a report, with that of its data, `-` where there are none.
 fn lines_with(alloc: Global, before: &str, data: &str) -> Result<String, Fail> {
-    let mut lines = String::new(alloc);
-    lines.push_str(before)?;
-    lines.push_str("user: ")?;
-    if data.is_empty() {
-        lines.push_str("-")?;
-    }
-    lines.push_str(data)?;
-    lines.push_str("\n")?;
-    Ok(lines)
+    let shown = if data.is_empty() { "-" } else { data };
+    Ok([before, "user: ", shown, "\n"].concat(alloc)?)
 }
 
 /// The octets of a report, with its length and its data.
 fn octets_with(alloc: Global, before: &str, length: &str, data: &str) -> Result<String, Fail> {
-    let mut octets = String::new(alloc);
-    octets.push_str(before)?;
-    octets.push_str(length)?;
-    octets.push_str(data)?;
-    Ok(octets)
+    Ok([before, length, data].concat(alloc)?)
 }
 
 /// Whether a report with data of a number of octets is shown with them.
 fn has_data(alloc: Global, row: &Data) -> Result<bool, Fail> {
-    let data = repeated(alloc, "A5", row.count)?;
+    let data = "A5".repeat(alloc, row.count)?;
     let octets = octets_with(alloc, row.front, row.length, &data)?;
     let lines = lines_with(alloc, row.lines, &data)?;
     is_answered(alloc, row.kind, &octets, &lines, 0)
@@ -96,10 +117,22 @@ fn have_data(rt: &impl Abort, alloc: Global, rows: &[Data]) -> Result<(), Fail> 
 }
 
 #[test]
-fn shows_data_of_each_length(rt: HostRuntime) -> Result<(), Fail> {
-    have_data(&rt, rt.alloc(), SUBMIT_ACK_LENGTHS.as_slice())?;
-    have_data(&rt, rt.alloc(), SUBMIT_ERROR_LENGTHS.as_slice())?;
-    have_data(&rt, rt.alloc(), DELIVER_ACK_LENGTHS.as_slice())?;
+fn shows_data_of_each_length_in_submit_acks(rt: HostRuntime) -> Result<(), Fail> {
+    have_data(&rt, rt.alloc(), SUBMIT_ACK_LENGTHS.as_slice())
+}
+
+#[test]
+fn shows_data_of_each_length_in_submit_errors(rt: HostRuntime) -> Result<(), Fail> {
+    have_data(&rt, rt.alloc(), SUBMIT_ERROR_LENGTHS.as_slice())
+}
+
+#[test]
+fn shows_data_of_each_length_in_deliver_acks(rt: HostRuntime) -> Result<(), Fail> {
+    have_data(&rt, rt.alloc(), DELIVER_ACK_LENGTHS.as_slice())
+}
+
+#[test]
+fn shows_data_of_each_length_in_deliver_errors(rt: HostRuntime) -> Result<(), Fail> {
     have_data(&rt, rt.alloc(), DELIVER_ERROR_LENGTHS.as_slice())
 }
 
@@ -122,7 +155,11 @@ fn misses_each_octet_of_a_report(rt: HostRuntime) -> Result<(), Fail> {
 }
 
 #[test]
-fn shows_reports_after_a_centre(rt: HostRuntime) -> Result<(), Fail> {
-    are_answered_after_a_centre(&rt, rt.alloc(), SUBMIT_REPORTS_AFTER_CENTRES.as_slice())?;
+fn shows_submit_reports_after_a_centre(rt: HostRuntime) -> Result<(), Fail> {
+    are_answered_after_a_centre(&rt, rt.alloc(), SUBMIT_REPORTS_AFTER_CENTRES.as_slice())
+}
+
+#[test]
+fn shows_deliver_reports_after_a_centre(rt: HostRuntime) -> Result<(), Fail> {
     are_answered_after_a_centre(&rt, rt.alloc(), DELIVER_REPORTS_AFTER_CENTRES.as_slice())
 }

@@ -2,7 +2,7 @@
 
 mod rows;
 
-use crate::found::{answer_to, repeated, says};
+use crate::found::{answer_to, says};
 use rows::{
     Greatest, IN_ONE_PIECE, IN_PIECES, REFERENCES, Split, TOO_MANY, WIDE_IN_ONE_PIECE,
     WIDE_IN_PIECES,
@@ -11,17 +11,21 @@ use std::alloc::Global;
 use std::process::Abort;
 use std::test::Fail;
 
+/// Adds a part, as many times as the number after its asterisk says, else once.
+fn put_part(text: &mut String, part: &str) -> Result<(), Fail> {
+    let (unit, times) = part.split_once('*').unwrap_or((part, "1"));
+    for _ in 0..times.parse::<usize>()? {
+        text.push_str(unit)?;
+    }
+    Ok(())
+}
+
 /// The text of parts between bars, each as many times as the number after its asterisk says, else
 /// once.
 pub fn expanded(alloc: Global, parts: &str) -> Result<String, Fail> {
     let mut text = String::new(alloc);
     for part in parts.split('|') {
-        match part.split_once('*') {
-            Some((unit, times)) => {
-                text.push_str(&repeated(alloc, unit, times.parse::<usize>()?)?)?;
-            }
-            None => text.push_str(part)?,
-        }
+        put_part(&mut text, part)?;
     }
     Ok(text)
 }
@@ -43,14 +47,22 @@ fn are_split(rt: &impl Abort, alloc: Global, rows: &[Split]) -> Result<(), Fail>
 }
 
 #[test]
-fn splits_texts_of_septets(rt: HostRuntime) -> Result<(), Fail> {
-    are_split(&rt, rt.alloc(), IN_ONE_PIECE.as_slice())?;
+fn splits_texts_in_one_piece(rt: HostRuntime) -> Result<(), Fail> {
+    are_split(&rt, rt.alloc(), IN_ONE_PIECE.as_slice())
+}
+
+#[test]
+fn splits_texts_in_pieces(rt: HostRuntime) -> Result<(), Fail> {
     are_split(&rt, rt.alloc(), IN_PIECES.as_slice())
 }
 
 #[test]
-fn splits_wide_texts(rt: HostRuntime) -> Result<(), Fail> {
-    are_split(&rt, rt.alloc(), WIDE_IN_ONE_PIECE.as_slice())?;
+fn splits_wide_texts_in_one_piece(rt: HostRuntime) -> Result<(), Fail> {
+    are_split(&rt, rt.alloc(), WIDE_IN_ONE_PIECE.as_slice())
+}
+
+#[test]
+fn splits_wide_texts_in_pieces(rt: HostRuntime) -> Result<(), Fail> {
     are_split(&rt, rt.alloc(), WIDE_IN_PIECES.as_slice())
 }
 
@@ -65,7 +77,7 @@ fn splits_with_references(rt: HostRuntime) -> Result<(), Fail> {
 
 /// The lines of 255 segments of one letter.
 fn lines_of_255(alloc: Global) -> Result<String, Fail> {
-    let rest = repeated(alloc, "E170381C0E87C3", 19)?;
+    let rest = "E170381C0E87C3".repeat(alloc, 19)?;
     let mut lines = String::new(alloc);
     for place in 1..256 {
         let line = format!(in alloc; "{place}/255 gsm 160 05000300FF{place:02X}C2{rest}\n")?;
@@ -82,7 +94,7 @@ fn is_cut(alloc: Global, text: &str, wanted: u8, lines: &str) -> Result<bool, Fa
 
 #[test]
 fn splits_into_255_segments(rt: HostRuntime) -> Result<(), Fail> {
-    let text = repeated(rt.alloc(), "a", 39_015)?;
+    let text = "a".repeat(rt.alloc(), 39_015)?;
     let lines = lines_of_255(rt.alloc())?;
     let split = is_cut(rt.alloc(), &text, 0, &lines)?;
     assert!(rt; split);
@@ -97,7 +109,7 @@ fn has_last(alloc: Global, text: &str, last: &str) -> Result<bool, Fail> {
 
 /// Whether as many characters as a row tells have 255 segments, and one more has too many.
 fn is_greatest(alloc: Global, row: &Greatest) -> Result<bool, Fail> {
-    let mut text = repeated(alloc, row.character, row.count)?;
+    let mut text = row.character.repeat(alloc, row.count)?;
     let split = has_last(alloc, &text, row.last)?;
     text.push_str(row.character)?;
     let refused = is_cut(alloc, &text, 1, "too many segments\n")?;

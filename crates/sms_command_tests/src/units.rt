@@ -3,8 +3,7 @@
 mod rows;
 
 use crate::found::{
-    Shown, answer_to, are_answered, are_answered_after_a_centre, is_answered, is_missed, repeated,
-    says,
+    Shown, answer_to, are_answered, are_answered_after_a_centre, is_answered, is_missed, says,
 };
 use rows::{
     AFTER_CENTRES, BREAKING, CODINGS, DELIVERY_FLAGS, ELEMENTS, ENCODE_WORDS, ENCODED_OPTIONS,
@@ -34,24 +33,52 @@ fn are_shown(rt: &impl Abort, alloc: Global, kind: &str, rows: &[Shown]) -> Resu
 }
 
 #[test]
-fn shows_deliveries(rt: HostRuntime) -> Result<(), Fail> {
-    are_shown(&rt, rt.alloc(), "deliver", DELIVERY_FLAGS.as_slice())?;
-    are_shown(&rt, rt.alloc(), "deliver", ORIGINS.as_slice())?;
-    are_shown(&rt, rt.alloc(), "deliver", CODINGS.as_slice())?;
+fn shows_flags_of_deliveries(rt: HostRuntime) -> Result<(), Fail> {
+    are_shown(&rt, rt.alloc(), "deliver", DELIVERY_FLAGS.as_slice())
+}
+
+#[test]
+fn shows_origins_of_deliveries(rt: HostRuntime) -> Result<(), Fail> {
+    are_shown(&rt, rt.alloc(), "deliver", ORIGINS.as_slice())
+}
+
+#[test]
+fn shows_coding_schemes_of_deliveries(rt: HostRuntime) -> Result<(), Fail> {
+    are_shown(&rt, rt.alloc(), "deliver", CODINGS.as_slice())
+}
+
+#[test]
+fn shows_stamps_of_deliveries(rt: HostRuntime) -> Result<(), Fail> {
     are_shown(&rt, rt.alloc(), "deliver", STAMPS.as_slice())
 }
 
 #[test]
-fn shows_data_of_deliveries(rt: HostRuntime) -> Result<(), Fail> {
-    are_shown(&rt, rt.alloc(), "deliver", TEXTS.as_slice())?;
-    are_shown(&rt, rt.alloc(), "deliver", UCS2_TEXTS.as_slice())?;
-    are_shown(&rt, rt.alloc(), "deliver", PLACES.as_slice())?;
+fn shows_texts_of_deliveries(rt: HostRuntime) -> Result<(), Fail> {
+    are_shown(&rt, rt.alloc(), "deliver", TEXTS.as_slice())
+}
+
+#[test]
+fn shows_ucs2_texts_of_deliveries(rt: HostRuntime) -> Result<(), Fail> {
+    are_shown(&rt, rt.alloc(), "deliver", UCS2_TEXTS.as_slice())
+}
+
+#[test]
+fn shows_places_of_deliveries(rt: HostRuntime) -> Result<(), Fail> {
+    are_shown(&rt, rt.alloc(), "deliver", PLACES.as_slice())
+}
+
+#[test]
+fn shows_elements_of_deliveries(rt: HostRuntime) -> Result<(), Fail> {
     are_shown(&rt, rt.alloc(), "deliver", ELEMENTS.as_slice())
 }
 
 #[test]
 fn shows_submissions(rt: HostRuntime) -> Result<(), Fail> {
-    are_shown(&rt, rt.alloc(), "submit", SUBMISSIONS.as_slice())?;
+    are_shown(&rt, rt.alloc(), "submit", SUBMISSIONS.as_slice())
+}
+
+#[test]
+fn shows_validities_of_submissions(rt: HostRuntime) -> Result<(), Fail> {
     are_shown(&rt, rt.alloc(), "submit", VALIDITIES.as_slice())
 }
 
@@ -104,9 +131,21 @@ fn are_explained(rt: &impl Abort, alloc: Global, rows: &[Explained]) -> Result<(
 
 #[test]
 fn explains_the_words(rt: HostRuntime) -> Result<(), Fail> {
-    are_explained(&rt, rt.alloc(), WHOLE_WORDS.as_slice())?;
-    are_explained(&rt, rt.alloc(), SHOW_WORDS.as_slice())?;
-    are_explained(&rt, rt.alloc(), ENCODE_WORDS.as_slice())?;
+    are_explained(&rt, rt.alloc(), WHOLE_WORDS.as_slice())
+}
+
+#[test]
+fn explains_the_words_of_show(rt: HostRuntime) -> Result<(), Fail> {
+    are_explained(&rt, rt.alloc(), SHOW_WORDS.as_slice())
+}
+
+#[test]
+fn explains_the_words_of_encode(rt: HostRuntime) -> Result<(), Fail> {
+    are_explained(&rt, rt.alloc(), ENCODE_WORDS.as_slice())
+}
+
+#[test]
+fn explains_the_words_of_split(rt: HostRuntime) -> Result<(), Fail> {
     are_explained(&rt, rt.alloc(), SPLIT_WORDS.as_slice())
 }
 
@@ -162,7 +201,7 @@ fn is_encoded(alloc: Global, row: &Encoded) -> Result<bool, Fail> {
 
 /// Whether lines have one of this name with this value, and not as the first.
 fn has_line(alloc: Global, lines: &str, name: &str, value: &str) -> Result<bool, Fail> {
-    let line = format!(in alloc; "\n{name}: {value}\n")?;
+    let line = ["\n", name, ": ", value, "\n"].concat(alloc)?;
     Ok(says(lines, &line))
 }
 
@@ -194,15 +233,27 @@ fn are_encoded(rt: &impl Abort, alloc: Global, rows: &[Encoded]) -> Result<(), F
 }
 
 #[test]
-fn encodes_addresses(rt: HostRuntime) -> Result<(), Fail> {
-    are_encoded(&rt, rt.alloc(), TELEPHONES.as_slice())?;
-    are_encoded(&rt, rt.alloc(), TELEPHONES_OF_EACH_LENGTH.as_slice())?;
+fn encodes_telephone_numbers(rt: HostRuntime) -> Result<(), Fail> {
+    are_encoded(&rt, rt.alloc(), TELEPHONES.as_slice())
+}
+
+#[test]
+fn encodes_telephone_numbers_of_each_length(rt: HostRuntime) -> Result<(), Fail> {
+    are_encoded(&rt, rt.alloc(), TELEPHONES_OF_EACH_LENGTH.as_slice())
+}
+
+#[test]
+fn encodes_names(rt: HostRuntime) -> Result<(), Fail> {
     are_encoded(&rt, rt.alloc(), NAMES.as_slice())
 }
 
 #[test]
-fn encodes_units(rt: HostRuntime) -> Result<(), Fail> {
-    are_encoded(&rt, rt.alloc(), ENCODED_OPTIONS.as_slice())?;
+fn encodes_options(rt: HostRuntime) -> Result<(), Fail> {
+    are_encoded(&rt, rt.alloc(), ENCODED_OPTIONS.as_slice())
+}
+
+#[test]
+fn encodes_texts(rt: HostRuntime) -> Result<(), Fail> {
     are_encoded(&rt, rt.alloc(), ENCODED_TEXTS.as_slice())
 }
 
@@ -226,20 +277,25 @@ fn are_refused(rt: &impl Abort, alloc: Global, rows: &[NotEncoded]) -> Result<()
 }
 
 #[test]
-fn refuses_what_is_not_encoded(rt: HostRuntime) -> Result<(), Fail> {
-    are_refused(&rt, rt.alloc(), NO_ADDRESSES.as_slice())?;
+fn refuses_what_is_no_address(rt: HostRuntime) -> Result<(), Fail> {
+    are_refused(&rt, rt.alloc(), NO_ADDRESSES.as_slice())
+}
+
+#[test]
+fn refuses_what_is_no_option(rt: HostRuntime) -> Result<(), Fail> {
     are_refused(&rt, rt.alloc(), NO_OPTIONS.as_slice())
 }
 
 /// The status and the answer to a delivery with a header, by its coding scheme, length and data.
 fn shown_data(alloc: Global, scheme: &str, length: &str, data: &str) -> Result<(u8, String), Fail> {
-    let octets = format!(in alloc; "440491101000{scheme}00101000000000{length}{data}")?;
+    let parts = ["440491101000", scheme, "00101000000000", length, data];
+    let octets = parts.concat(alloc)?;
     answer_to(alloc, &["sms", "show", "deliver", &octets])
 }
 
 /// Whether data that are full are shown after their header as the septets of a row.
 fn is_full_of_septets(alloc: Global, row: &Filled, data: &str) -> Result<bool, Fail> {
-    let text = repeated(alloc, "à", row.septets)?;
+    let text = "à".repeat(alloc, row.septets)?;
     let (status, lines) = shown_data(alloc, "00", "A0", data)?;
     Ok(status == 0 && has_line(alloc, &lines, "text", &text)?)
 }
@@ -266,14 +322,14 @@ fn is_too_full(alloc: Global, scheme: &str, length: &str, data: &str) -> Result<
 
 /// The data that fill what the header of a row leaves.
 fn after_header(alloc: Global, row: &Filled) -> Result<String, Fail> {
-    let ones = repeated(alloc, "FF", row.ones)?;
-    Ok(format!(in alloc; "{}{ones}", row.first)?)
+    let ones = "FF".repeat(alloc, row.ones)?;
+    Ok([row.first, &ones].concat(alloc)?)
 }
 
 /// The header of a row, and the data that fill what it leaves.
 fn filled(alloc: Global, row: &Filled) -> Result<String, Fail> {
     let data = after_header(alloc, row)?;
-    Ok(format!(in alloc; "{}{data}", row.header)?)
+    Ok([row.header, &data].concat(alloc)?)
 }
 
 #[test]
@@ -311,13 +367,13 @@ fn refuses_what_does_not_fit_after_a_header(rt: HostRuntime) -> Result<(), Fail>
 
 /// The octets of a row.
 fn long_octets(alloc: Global, row: &LongText) -> Result<String, Fail> {
-    let middle = repeated(alloc, row.part, row.times)?;
-    Ok(format!(in alloc; "{}{middle}{}", row.first, row.last)?)
+    let middle = row.part.repeat(alloc, row.times)?;
+    Ok([row.first, &middle, row.last].concat(alloc)?)
 }
 
 /// Whether a text of one character is encoded as the octets of a row.
 fn is_long(alloc: Global, row: &LongText) -> Result<bool, Fail> {
-    let text = repeated(alloc, row.character, row.count)?;
+    let text = row.character.repeat(alloc, row.count)?;
     let (status, answer) = encoding_of(alloc, "submit", &[], "", &text)?;
     Ok(status == 0 && is_line(&answer, &long_octets(alloc, row)?))
 }
@@ -333,7 +389,7 @@ fn encodes_what_fits_one_piece(rt: HostRuntime) -> Result<(), Fail> {
 
 /// Whether a text of one character is refused as one of two pieces.
 fn is_too_long(alloc: Global, row: &TwoPieces) -> Result<bool, Fail> {
-    let text = repeated(alloc, row.character, row.count)?;
+    let text = row.character.repeat(alloc, row.count)?;
     let (status, answer) = encoding_of(alloc, row.kind, &[], "+1002", &text)?;
     Ok(status == 1 && is_line(&answer, "text too long"))
 }

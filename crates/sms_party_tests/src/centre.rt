@@ -114,7 +114,11 @@ fn plays(rt: &impl Abort, alloc: Global, held: usize, rows: &[Row]) -> Result<()
 
 #[test]
 fn refuses_what_cannot_be_held(rt: HostRuntime) -> Result<(), Fail> {
-    plays(&rt, rt.alloc(), 1000, REFUSALS.as_slice())?;
+    plays(&rt, rt.alloc(), 1000, REFUSALS.as_slice())
+}
+
+#[test]
+fn refuses_what_has_no_room(rt: HostRuntime) -> Result<(), Fail> {
     plays(&rt, rt.alloc(), 1, FULL.as_slice())
 }
 
@@ -125,19 +129,35 @@ fn gives_a_stamp_to_each_message(rt: HostRuntime) -> Result<(), Fail> {
 
 #[test]
 fn knows_duplicates(rt: HostRuntime) -> Result<(), Fail> {
-    plays(&rt, rt.alloc(), 1000, DUPLICATES.as_slice())?;
+    plays(&rt, rt.alloc(), 1000, DUPLICATES.as_slice())
+}
+
+#[test]
+fn knows_a_key_to_its_later_end(rt: HostRuntime) -> Result<(), Fail> {
     plays(&rt, rt.alloc(), 1000, TWO_ENDS.as_slice())
 }
 
 #[test]
+fn holds_what_is_delivered(rt: HostRuntime) -> Result<(), Fail> {
+    plays(&rt, rt.alloc(), 1000, DELIVERED.as_slice())
+}
+
+#[test]
 fn pushes_in_turn(rt: HostRuntime) -> Result<(), Fail> {
-    plays(&rt, rt.alloc(), 1000, DELIVERED.as_slice())?;
-    plays(&rt, rt.alloc(), 1000, TURNS.as_slice())?;
+    plays(&rt, rt.alloc(), 1000, TURNS.as_slice())
+}
+
+#[test]
+fn forgets_what_has_ended(rt: HostRuntime) -> Result<(), Fail> {
     plays(&rt, rt.alloc(), 1000, ENDED.as_slice())
 }
 
 #[test]
-fn takes_out_what_was_pushed(rt: HostRuntime) -> Result<(), Fail> {
-    plays(&rt, rt.alloc(), 1000, BETWEEN.as_slice())?;
+fn accepts_between_a_push_and_its_answer(rt: HostRuntime) -> Result<(), Fail> {
+    plays(&rt, rt.alloc(), 1000, BETWEEN.as_slice())
+}
+
+#[test]
+fn takes_out_only_what_was_pushed(rt: HostRuntime) -> Result<(), Fail> {
     plays(&rt, rt.alloc(), 1000, GONE.as_slice())
 }

@@ -75,13 +75,21 @@ fn refuses_what_is_no_text(rt: HostRuntime) -> Result<(), Fail> {
 
 #[test]
 fn stores_texts(rt: HostRuntime) -> Result<(), Fail> {
-    plays(&rt, rt.alloc(), &MANY, TEXTS.as_slice())?;
+    plays(&rt, rt.alloc(), &MANY, TEXTS.as_slice())
+}
+
+#[test]
+fn stores_texts_of_each_width(rt: HostRuntime) -> Result<(), Fail> {
     plays(&rt, rt.alloc(), &MANY, WIDTHS.as_slice())
 }
 
 #[test]
 fn refuses_what_has_no_room(rt: HostRuntime) -> Result<(), Fail> {
-    plays(&rt, rt.alloc(), &ONE, FULL.as_slice())?;
+    plays(&rt, rt.alloc(), &ONE, FULL.as_slice())
+}
+
+#[test]
+fn refuses_what_a_full_store_has_no_room_for(rt: HostRuntime) -> Result<(), Fail> {
     plays(&rt, rt.alloc(), &ONE, FULL_STORE.as_slice())
 }
 

@@ -6,7 +6,10 @@ ghost use Rattle.std.specs.Prelude.{◌<◌};
 ghost use Rattle.sms_text.specs.Bits.{AreSeptets};
 
 use crate::found::{is, is_below, septets_of};
-use rows::{PACKED, Packed};
+use rows::{
+    PACKED, PACKED_AFTER_1, PACKED_AFTER_2, PACKED_AFTER_3, PACKED_AFTER_4, PACKED_AFTER_5,
+    PACKED_AFTER_6, Packed,
+};
 use sms_text::{pack, pack_into, unpack};
 use std::alloc::Global;
 use std::process::Abort;
@@ -75,12 +78,47 @@ fn is_packed(rt: &impl Abort, alloc: Global, row: &Packed) -> Result<(), Fail> {
     come_back(rt, alloc, row, &septets)
 }
 
-#[test]
-fn packing(rt: HostRuntime) -> Result<(), Fail> {
-    for row in PACKED.as_slice() {
-        is_packed(&rt, rt.alloc(), row)?;
+/// The texts of the rows are packed so, and come back.
+fn are_packed(rt: &impl Abort, alloc: Global, rows: &[Packed]) -> Result<(), Fail> {
+    for row in rows {
+        is_packed(rt, alloc, row)?;
     }
     Ok(())
+}
+
+#[test]
+fn packs_whole_septets(rt: HostRuntime) -> Result<(), Fail> {
+    are_packed(&rt, rt.alloc(), PACKED.as_slice())
+}
+
+#[test]
+fn packs_after_1_fill_bit(rt: HostRuntime) -> Result<(), Fail> {
+    are_packed(&rt, rt.alloc(), PACKED_AFTER_1.as_slice())
+}
+
+#[test]
+fn packs_after_2_fill_bits(rt: HostRuntime) -> Result<(), Fail> {
+    are_packed(&rt, rt.alloc(), PACKED_AFTER_2.as_slice())
+}
+
+#[test]
+fn packs_after_3_fill_bits(rt: HostRuntime) -> Result<(), Fail> {
+    are_packed(&rt, rt.alloc(), PACKED_AFTER_3.as_slice())
+}
+
+#[test]
+fn packs_after_4_fill_bits(rt: HostRuntime) -> Result<(), Fail> {
+    are_packed(&rt, rt.alloc(), PACKED_AFTER_4.as_slice())
+}
+
+#[test]
+fn packs_after_5_fill_bits(rt: HostRuntime) -> Result<(), Fail> {
+    are_packed(&rt, rt.alloc(), PACKED_AFTER_5.as_slice())
+}
+
+#[test]
+fn packs_after_6_fill_bits(rt: HostRuntime) -> Result<(), Fail> {
+    are_packed(&rt, rt.alloc(), PACKED_AFTER_6.as_slice())
 }
 
 #[test]

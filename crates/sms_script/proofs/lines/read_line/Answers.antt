@@ -31,3 +31,6 @@ loop-line-preserved g c =
       few = is_not_longer raw test;
       taken = Consumes-add _ _ _ _ _ c.loop-line.invariant.taken octet;
     })
+
+pub returns-in-Ok-None-clause-reads : goal.returns-in-Ok-None-clause-reads
+returns-in-Ok-None-clause-reads g c = search rules
