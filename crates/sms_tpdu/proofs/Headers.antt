@@ -1,6 +1,6 @@
 -- The concatenation of a header is the one that is computed.
 use Rattle.std.proofs.Common.{◌≡◌, ℕ, zero, suc, ◌+◌, ◌-◌, ◌*◌, ◌/◌, ◌%◌, ◌<◌, ◌≤◌, Bool, true, false, cond, ◌&&◌, eqb, List, [], ◌∷◌, length, take, drop, Option, Some, None, refl, sym, ap, ◌∙◌, subst, arith}
-use Rattle.std.specs.Prelude.{nat_le}
+use Rattle.std.specs.Prelude.{nat_le, if◌then◌else◌, option_map, option_and_then}
 use Rattle.std.specs.Option.{option_or}
 use Rattle.std.proofs.lemmas.Bool.{eqb-true, eqb-false, and_parts}
 use Rattle.std.proofs.lemmas.Bool.Decides.{nat_tests}
@@ -12,7 +12,7 @@ use Rattle.sms_tpdu.specs.declared.user_data.concat.Width.TheVariants.{Eight, Si
 use Rattle.sms_tpdu.specs.UserData.Elements.{Element}
 use Rattle.sms_tpdu.specs.UserData.Concatenation.{Tells, TellsNone, ToldBy, IsConcatOf}
 use Rattle.sms_tpdu.proofs.ElementLaws.{Reached, one_list, one_concat, at_start, further, at_end, cut_before_length, cut_after_length}
-use Rattle.sms_tpdu.specs.UserData.ConcatenationFound.{told_by, last_told, concat_of_header, IsPlace, ElementsAreOne, ConcatIsThere, ConcatIsOne, ConcatIsPlace}
+use Rattle.sms_tpdu.specs.UserData.ConcatenationFound.{told_by, elements_in, last_told, concat_of_header, IsPlace, ElementsAreOne, ConcatIsThere, ConcatIsOne, ConcatIsPlace}
 
 abbrev element : ℕ → List ℕ → Element
 element i octets = record { identifier = i; octets = octets }
@@ -116,6 +116,13 @@ told_place i (a ∷ b ∷ c ∷ d ∷ e ∷ more) o = tt
 
 -- ---- the walk
 
+-- the place found in what is left, after what was told before
+abbrev walked : ℕ → List ℕ → Option Concat → Option Concat
+walked n [] last = last
+walked n (i ∷ []) last = None
+walked zero (i ∷ size ∷ after) last = None
+walked (suc n) (i ∷ size ∷ after) last = if nat_le size (length after) then walked n (drop size after) (option_or (told_by i (take size after)) last) else None
+
 octets_taken : (n : ℕ) (xs : List ℕ) → IsOctets xs → IsOctets (take n xs)
 octets_taken zero xs o = tt
 octets_taken (suc n) [] o = tt
@@ -151,12 +158,12 @@ module _ (header : List ℕ) (i size : ℕ) (after : List ℕ) (last : Option Co
       let few : length after < size = grind (arith, nat_tests) in
       cut_after_length header (i ∷ size ∷ after) last (omega arith) (subst (λ (l : List ℕ). length l < size) (sym all) few) r
 
-walk : (n : ℕ) (header rest : List ℕ) (last : Option Concat) → length rest ≤ n → IsOctets rest → Reached header rest last → IsConcatOf header (last_told n rest last)
+walk : (n : ℕ) (header rest : List ℕ) (last : Option Concat) → length rest ≤ n → IsOctets rest → Reached header rest last → IsConcatOf header (walked n rest last)
 walk n header [] last le o r = at_end header [] last refl r
 walk n header (i ∷ []) last le o r = cut_before_length header (i ∷ []) last (omega arith) (omega arith) r
 walk zero header (i ∷ size ∷ after) last le o r = absurd (omega arith)
 walk (suc n) header (i ∷ size ∷ after) last le o r =
-    over header i size after last o.1.1 r (nat_le size (length after)) refl (last_told n (drop size after) (option_or (told_by i (take size after)) last))
+    over header i size after last o.1.1 r (nat_le size (length after)) refl (walked n (drop size after) (option_or (told_by i (take size after)) last))
     (λ enough. walk n header (drop size after) (option_or (told_by i (take size after)) last) (let h = less_dropped size after in omega arith)
     (octets_dropped size after o.1.1) (one_further header i size after last o.1.1 r enough))
 
@@ -164,7 +171,7 @@ test_place : (b : Bool) (a : Option Concat) → IsPlace a → IsPlace (cond b a 
 test_place true a p = p
 test_place false a p = tt
 
-places : (n : ℕ) (rest : List ℕ) (last : Option Concat) → IsOctets rest → IsPlace last → IsPlace (last_told n rest last)
+places : (n : ℕ) (rest : List ℕ) (last : Option Concat) → IsOctets rest → IsPlace last → IsPlace (walked n rest last)
 places n [] last o p = p
 places n (i ∷ []) last o p = tt
 places zero (i ∷ size ∷ after) last o p = tt
@@ -172,14 +179,51 @@ places (suc n) (i ∷ size ∷ after) last o p =
     test_place (nat_le size (length after)) _ (places n (drop size after) (option_or (told_by i (take size after)) last) (octets_dropped size after o.1.1)
     (either_place (told_by i (take size after)) last (told_place i (take size after) (octets_taken size after o.1.1)) p))
 
+-- ---- the walk finds what the last of the elements tells
+
+abbrev found : Option Concat → Option (List Element) → Option Concat
+found last None = None
+found last (Some elements) = option_or (last_told elements) last
+
+or_or : (a b c : Option Concat) → option_or a (option_or b c) ≡ option_or (option_or a b) c
+or_or None b c = refl
+or_or (Some x) b c = refl
+
+found_next : (e : Element) (last : Option Concat) (others : Option (List Element)) → found (option_or (told_by e.identifier e.octets) last) others ≡ found last (option_map (λ more. e ∷ more) others)
+found_next e last None = refl
+found_next e last (Some more) = or_or (last_told more) (told_by e.identifier e.octets) last
+
+walked_next : (b : Bool) (e : Element) (last w : Option Concat) (others : Option (List Element)) → w ≡ found (option_or (told_by e.identifier e.octets) last) others → cond b w None ≡ found last (cond b (option_map (λ more. e ∷ more) others) None)
+walked_next true e last w others same = same ∙ found_next e last others
+walked_next false e last w others same = refl
+
+walked_is : (n : ℕ) (rest : List ℕ) (last : Option Concat) → walked n rest last ≡ found last (elements_in n rest)
+walked_is n [] last = refl
+walked_is n (i ∷ []) last = refl
+walked_is zero (i ∷ size ∷ after) last = refl
+walked_is (suc n) (i ∷ size ∷ after) last =
+    walked_next (nat_le size (length after)) (element i (take size after)) last _ (elements_in n (drop size after))
+    (walked_is n (drop size after) (option_or (told_by i (take size after)) last))
+
+or_none : (a : Option Concat) → option_or a None ≡ a
+or_none None = refl
+or_none (Some x) = refl
+
+found_first : (elements : Option (List Element)) → found None elements ≡ option_and_then last_told elements
+found_first None = refl
+found_first (Some elements) = or_none (last_told elements)
+
+walked_whole : (header : List ℕ) → walked (length header) header None ≡ concat_of_header (Some header)
+walked_whole header = walked_is (length header) header None ∙ found_first (elements_in (length header) header)
+
 pub concat_is_there : ConcatIsThere
-concat_is_there header o = walk (length header) header header None (omega arith) o (at_start header)
+concat_is_there header o = subst (IsConcatOf header) (walked_whole header) (walk (length header) header header None (omega arith) o (at_start header))
 
 pub concat_is_one : ConcatIsOne
 concat_is_one header told o h = one_concat header told (concat_of_header (Some header)) h (concat_is_there header o)
 
 pub concat_is_place : ConcatIsPlace
-concat_is_place header o = places (length header) header None o tt
+concat_is_place header o = subst IsPlace (walked_whole header) (places (length header) header None o tt)
 
 pub elements_are_one : ElementsAreOne
 elements_are_one header elements others p q = one_list header others elements q p

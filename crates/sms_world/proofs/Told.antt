@@ -12,7 +12,6 @@ use Rattle.sms_join.specs.declared.units.Units.{Units}
 use Rattle.sms_join.specs.declared.units.Units.TheVariants.{Gsm, Ucs2}
 use Rattle.sms_join.specs.SegmentUser.{dcs_of, body_of, header_of}
 use Rattle.sms_tpdu.specs.UserData.ConcatenationFound.{concat_of_header, in_order}
-use Rattle.std.specs.Option.{option_or}
 use Rattle.sms_party.specs.Receiver.Pieces.{units_in}
 
 in_order_is : (c : Concat) → 0 < c.sequence → c.sequence ≤ c.maximum → in_order c ≡ Some c
@@ -24,11 +23,11 @@ in_order_is c f l =
 told : (w : Width) (r m s : ℕ) → 0 < s → s ≤ m
     → concat_of_header (Some (element_octets (element_for w r m s))) ≡ Some (record { width = w; reference = r; maximum = m; sequence = s })
 told Eight r m s f l =
-    ap (λ v. option_or v None) (in_order_is (record { width = Eight; reference = r; maximum = m; sequence = s }) f l)
+    in_order_is (record { width = Eight; reference = r; maximum = m; sequence = s }) f l
 told Sixteen r m s f l =
     let again : 256 * (r / 256) + r % 256 ≡ r = omega arith in
     subst (λ (v : ℕ). concat_of_header (Some (element_octets (element_for Sixteen r m s))) ≡ Some (record { width = Sixteen; reference = v; maximum = m; sequence = s })) again
-    (ap (λ v. option_or v None) (in_order_is (record { width = Sixteen; reference = 256 * (r / 256) + r % 256; maximum = m; sequence = s }) f l))
+    (in_order_is (record { width = Sixteen; reference = 256 * (r / 256) + r % 256; maximum = m; sequence = s }) f l)
 
 pub told_among : (w : Width) (r m s : ℕ) → 1 < m → 0 < s → s ≤ m
     → concat_of_header (header_of w r m s) ≡ Some (record { width = w; reference = r; maximum = m; sequence = s })

@@ -1,6 +1,6 @@
 -- The place of a segment that a user data header tells, as a function (3GPP TS 23.040, 9.2.3.24.1
 -- and 9.2.3.24.8).
-use Rattle.std.specs.Prelude.{◌≡◌, ℕ, zero, suc, ◌+◌, ◌*◌, ◌^◌, ◌<◌, ◌≤◌, ◌&&◌, ◌==◌, nat_le, if◌then◌else◌, List, [], ◌∷◌, length, take, drop, Option, Some, None}
+use Rattle.std.specs.Prelude.{◌≡◌, ℕ, zero, suc, ◌+◌, ◌*◌, ◌^◌, ◌<◌, ◌≤◌, ◌&&◌, ◌==◌, nat_le, if◌then◌else◌, List, [], ◌∷◌, length, take, drop, Option, Some, None, option_map, option_and_then}
 use Rattle.std.specs.Option.{option_or}
 use Rattle.sms_text.specs.Octets.{IsOctets}
 use Rattle.sms_tpdu.specs.UserData.Concatenation.{IsConcatOf}
@@ -35,21 +35,26 @@ told_by identifier (high ∷ low ∷ maximum ∷ sequence ∷ []) =
     else None
 told_by identifier _ = None
 
--- the last place that the elements tell, after what was told before; none where the last element is
--- cut; the first number bounds the elements
-abbrev pub last_told : ℕ → List ℕ → Option Concat → Option Concat
-last_told n [] last = last
-last_told n (identifier ∷ []) last = None
-last_told zero (identifier ∷ size ∷ after) last = None
-last_told (suc n) (identifier ∷ size ∷ after) last =
+-- the elements that spell these octets, where the last one is whole; the number bounds how many
+abbrev pub elements_in : ℕ → List ℕ → Option (List Element)
+elements_in n [] = Some []
+elements_in n (identifier ∷ []) = None
+elements_in zero (identifier ∷ size ∷ after) = None
+elements_in (suc n) (identifier ∷ size ∷ after) =
+    let element : Element = record { identifier = identifier; octets = take size after } in
     if nat_le size (length after)
-    then last_told n (drop size after) (option_or (told_by identifier (take size after)) last)
+    then option_map (λ others. element ∷ others) (elements_in n (drop size after))
     else None
+
+-- the place that the last element that tells one tells
+abbrev pub last_told : List Element → Option Concat
+last_told [] = None
+last_told (e ∷ others) = option_or (last_told others) (told_by e.identifier e.octets)
 
 -- the place that the header of a unit tells, if it has one and that tells one
 abbrev pub concat_of_header : Option (List ℕ) → Option Concat
 concat_of_header None = None
-concat_of_header (Some header) = last_told (length header) header None
+concat_of_header (Some header) = option_and_then last_told (elements_in (length header) header)
 
 -- the reference is one octet or two, by the width
 abbrev pub FitsWidth : Width → ℕ → Type 0
