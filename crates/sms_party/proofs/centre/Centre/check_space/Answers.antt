@@ -1,4 +1,4 @@
-use Rattle.std.proofs.Common.{◌≡◌, ◌<◌, length, max, sym, ap, subst, ◌∙◌, arith}
+use Rattle.std.proofs.Common.{◌≡◌, ◌<◌, length, max, sym, ap, subst, ◌∙◌, arith, rules}
 use Rattle.sms_party.specs.Centre.Value.{CentreValue}
 use Rattle.sms_party.specs.Centre.Kept.{books_in, free_at}
 use Rattle.sms_party.proofs.Taking.{space_late, space_free}
@@ -19,3 +19,6 @@ returns-clause-result_is c =
     (subst (λ (v : CentreValue). length v.held.endings < v.limit) c.self.view_is (let n : c.count.result ≡ length c.self.inside.holdings.held.endings = c.count.ensures in omega arith))
     (c.max-stamp.ensures ∙ ap (λ n. max n c.args.now) (c.free.ensures ∙ ap (λ (v : CentreValue). free_at v.lines c.args.recipient) c.self.view_is))
     c.if-stamp-ge-END_OF_2099.false
+
+pub returns-then-count-self-clause-result_is : goal.returns-then-count-self-clause-result_is
+returns-then-count-self-clause-result_is c = search rules

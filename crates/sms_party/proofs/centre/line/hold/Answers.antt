@@ -1,4 +1,4 @@
-use Rattle.std.proofs.Common.{◌≡◌, ℕ, ◌+◌, ◌-◌, ◌^◌, ◌<◌, ◌≤◌, List, [], ◌∷◌, ◌++◌, sym, ap, ◌∙◌, subst, arith}
+use Rattle.std.proofs.Common.{◌≡◌, ℕ, ◌+◌, ◌-◌, ◌^◌, ◌<◌, ◌≤◌, List, [], ◌∷◌, ◌++◌, sym, ap, ◌∙◌, subst, arith, rules}
 use Rattle.lru.specs.LruCache.{LruCache}
 use Rattle.sms_party.specs.Centre.Lines.{accepting_line}
 use Rattle.sms_party.specs.Centre.Queue.{queue_of, IsQueue}
@@ -49,3 +49,6 @@ returns-in-Err-clause-err_line c =
     let same = put_undone inside.queue c.put.new.self c.take_out.new.queue k c.args.message put c.take_out.ensures in
     let made : LruCache ℕ WaitingValue → LineValue = λ q. record { address = inside.address; queue = queue_of q.entries; free = inside.free; value = inside.value; reference = inside.reference; latest = inside.latest } in
     ap made same ∙ c.line.view_is
+
+pub returns-in-Ok-clause-held : goal.returns-in-Ok-clause-held
+returns-in-Ok-clause-held c = search rules

@@ -1,4 +1,4 @@
-use Rattle.std.proofs.Common.{List, ◌∷◌, ap, ◌∙◌, sym, arith}
+use Rattle.std.proofs.Common.{List, ◌∷◌, ap, ◌∙◌, sym, arith, rules}
 use Rattle.std.specs.Map.{keys_of, values_of}
 use Rattle.sms_party.specs.Centre.Value.{HeldValue}
 use Rattle.sms_party.specs.Centre.Kept.{is_kept}
@@ -22,3 +22,6 @@ returns c =
         c.forget_key.ensures.gone,
       ),
     )
+
+pub returns-then-first-now : goal.returns-then-first-now
+returns-then-first-now c = search rules

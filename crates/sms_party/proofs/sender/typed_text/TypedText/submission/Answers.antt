@@ -1,4 +1,4 @@
-use Rattle.std.proofs.Common.{◌≡◌, ◌<◌, refl, sym, ap, ◌∙◌, subst, arith}
+use Rattle.std.proofs.Common.{◌≡◌, ◌<◌, refl, sym, ap, ◌∙◌, subst, arith, rules}
 use Rattle.sms_field.specs.AddressValue.{HasSpelling}
 use Rattle.sms_field.specs.Coding.{alphabet_at}
 use Rattle.sms_field.specs.declared.coding.Alphabet.{Alphabet}
@@ -23,3 +23,6 @@ invariant_of-result c =
       dcs = subst (λ n. n < 256) (sym dcs) (dcs_range c.args.segment.now.units);
       user = subst (λ (a : Alphabet). FitsAlphabet a c.in_ok-user.field-0) (sym c.coding_scheme.ensures.alphabet) c.in_ok-user.ensures.fits;
     }
+
+pub returns : goal.returns
+returns c = search rules
