@@ -57,6 +57,8 @@ fn put_shown<W: Write>(
     put_kind(alloc, shown.kind, unit, lines)
 }
 
+/// Writes what octets are shown as. Where they are at fault, the lines before the fault stand; a
+/// write that fails counts first.
 fn show<W: Write>(alloc: Global, shown: Shown<'_>, output: &mut W) -> Result<(), Fault> {
     let octets = octets_of(alloc, shown.octets)?;
     let mut lines = Lines::new(output);
@@ -65,6 +67,7 @@ fn show<W: Write>(alloc: Global, shown: Shown<'_>, output: &mut W) -> Result<(),
     answered
 }
 
+/// Does what a request asks, and writes what comes of it. A script is read from the input.
 fn answer<R: Read, W: Write>(
     alloc: Global,
     request: Request<'_>,

@@ -88,9 +88,10 @@ impl Joiner {
         })
     }
 
-    /// Takes a message or a segment: the moment, whom it is from, its time stamp, its place among
-    /// the segments of its message, if it is one, and its units. The moment is in seconds from the
-    /// start of 2000, like that of `age`.
+    /// Takes a message or a segment: the moment, whom it is from (TP-OA), its time stamp (TP-SCTS),
+    /// its place among the segments of its message, if it is one, and its units. The moment is in
+    /// seconds from the start of 2000, like that of `age`. A place has a sequence from 1 to its
+    /// maximum, and with `Width::Eight` a reference below 256.
     ///
     /// A segment whose set is not whole is kept; the last one finishes the set with its text. A
     /// piece that is there already, or whose set is among those that finished last, is a repeat. A
@@ -134,7 +135,8 @@ impl Joiner {
         Ok(Offer::Finished(text))
     }
 
-    /// Whether such a message or segment would finish its set. It takes no memory.
+    /// Whether such a message or segment would finish its set. Its place, if it has one, is as for
+    /// `offer`. It takes no memory.
     pub fn would_finish(&self, origin: &Address, stamp: Stamp, concat: Option<Concat>) -> bool
         requires { IsPlace concat }
         ensures { (now : ℕ) (units : TheUnits)

@@ -11,17 +11,23 @@ use std::alloc::{AllocError, Global};
 /// What a set of segments is known by.
 #[derive(Debug, PartialEq, Eq, Hash, Drop)]
 pub enum Key {
-    /// A message in one piece: whom it is from, and its time stamp.
+    /// A message in one piece.
     Single {
+        /// Whom it is from (TP-OA).
         origin: Address,
+        /// Its time stamp (TP-SCTS).
         stamp: Stamp,
     },
-    /// A message in segments (3GPP TS 23.040, 9.2.3.24.1 and 9.2.3.24.8): whom it is from, and what
-    /// its segments share.
+    /// A message in segments: whom it is from, and what the information elements 00 or 08 of its
+    /// segments share (3GPP TS 23.040, 9.2.3.24.1 and 9.2.3.24.8).
     Segmented {
+        /// Whom it is from (TP-OA).
         origin: Address,
+        /// Which element it is: of 00 the reference has eight bits, of 08 sixteen.
         width: Width,
+        /// The reference number of the concatenated short message.
         reference: u16,
+        /// The maximum number of short messages in the concatenated short message.
         maximum: u8,
     },
 }

@@ -13,8 +13,9 @@ ghost use Rattle.sms_join.specs.Pieces.{FinishesOnce, FinishesText};
 ghost use Rattle.sms_join.specs.Reading.{CutIsReadAsText};
 ghost use Rattle.sms_join.specs.Same.{AnswersAlike};
 
-/// The pieces of a message that are offered under its key finish it once, by the first offer with
-/// which all have come, where no aging drops them between.
+/// Where only the pieces of a message are offered under its key, which is at first neither open nor
+/// remembered, none is refused or dropped by age, and fewer other keys finish after it than are
+/// remembered, just one offer finishes it: the first by which all have come.
 pub fn pieces_finish_once()
     ensures { FinishesOnce }
 {}
@@ -42,7 +43,8 @@ pub fn arrivals_join_in_order()
     ensures { JoinsInOrder }
 {}
 
-/// A piece makes its set whole just where the set then has as many pieces as its maximum.
+/// A piece that is no repeat makes its set whole just where the set then has as many pieces as its
+/// maximum.
 pub fn whole_by_count()
     ensures { WholeByCount }
 {}
@@ -78,12 +80,12 @@ pub fn aging_keeps_texts()
     ensures { AgesOne }
 {}
 
-/// As many sets are open as texts are.
+/// Where no two open texts have one key, as many sets are open as texts are.
 pub fn open_sets_are_open_texts()
     ensures { OpenSetsAreOpenTexts }
 {}
 
-/// An arrival in order leaves no two open texts with one key.
+/// Where no two open texts have one key, no two have one after an arrival in order.
 pub fn open_texts_stay_apart()
     ensures { StayApart }
 {}
@@ -93,7 +95,8 @@ pub fn new_piece_is_fresh()
     ensures { NewIsFresh }
 {}
 
-/// When a piece that arrives in order is turned away.
+/// A piece that arrives in order is turned away only where as many texts are open as may be, no
+/// piece of its text has arrived, and it does not complete its text.
 pub fn piece_is_turned_away()
     ensures { TurnsAway }
 {}

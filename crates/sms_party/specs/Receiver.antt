@@ -22,7 +22,8 @@ use Rattle.sms_party.specs.declared.message.Tag.{Tag}
 use Rattle.sms_party.specs.declared.outcome.Dropped.TheVariants as dropped
 
 -- The text of an SMS-DELIVER is offered. Another type of unit: B0, TPDU not supported. A unit with
--- another fault: FF, unspecified. The RP-Cause is 111, protocol error.
+-- another fault: FF, unspecified. The RP-Cause is 111, protocol error (3GPP TS 24.011, 8.2.5.4; TS
+-- 23.040, 9.2.3.22).
 unfoldable pub receiver_takes : ReceiverLimits → ReceiverState → ℕ → Tag → TransferUnit
     → Option Origin → Does ReceiverState
 receiver_takes limits s now tag (Deliver d) origin =

@@ -72,7 +72,8 @@ impl Centre {
     }
 
     /// Forgets the messages whose validity has ended at this moment, in seconds since the beginning
-    /// of 2000. It takes no memory.
+    /// of 2000. The moment is not before that of an earlier call: nothing is promised of one that
+    /// is. It takes no memory.
     pub fn advance(&mut self, now: u64)
         ensures stands { StandsLater now self.old self.new }
         ensures phones { phones_of self.new ≡ phones_of self.old }
@@ -89,7 +90,11 @@ impl Centre {
     }
 
     /// Hands a message to this phone at a moment, in seconds since the beginning of 2000: the one
-    /// whose latest acceptance or push is the earliest. It fails only where memory runs out.
+    /// whose latest acceptance or push is the earliest. Where no message waits, it answers
+    /// `NothingWaits` and puts nothing out. It fails only where memory runs out.
+    ///
+    /// The phone is one of the centre's. The moment is not before that of an earlier call: nothing
+    /// is promised of one that is.
     pub fn push(&mut self, now: u64, phone: usize) -> Result<Step, Dropped>
         requires { phone < length (phones_of self.old) }
         ensures steps { PushSteps now phone self.old result self.new }
@@ -99,9 +104,17 @@ impl Centre {
         self.holdings.push(self.alloc, phone)
     }
 
-    /// Takes octets that come from this phone at a moment, in seconds since the beginning of 2000:
-    /// a submission, or the answer to a push. Octets that are no CP message, and answers that are
-    /// not waited for, are dropped.
+    /// Takes octets that come from this phone at a moment, in seconds since the beginning of 2000.
+    /// A CP-ACK or CP-ERROR is noted.
+    ///
+    /// In a transaction that the phone has opened, an RP-DATA from the phone, and a CP-DATA whose
+    /// octets, two or more, are no RP message, are answered by a CP-ACK, and by an RP-ACK or
+    /// RP-ERROR. In one that the centre has opened, an RP-ACK or RP-ERROR from the phone with the
+    /// TI value and the RP-Message Reference of the latest push to it is answered by a CP-ACK,
+    /// where the push was not answered yet and its message has not ended. All else is dropped.
+    ///
+    /// The phone is one of the centre's. The moment is before the end of 2099, and not before that
+    /// of an earlier call: nothing is promised of one that is.
     pub fn receive(&mut self, now: u64, phone: usize, octets: &[u8]) -> Result<Step, Dropped>
         requires phone { phone < length (phones_of self.old) }
         requires moment { now < 3155760000 }

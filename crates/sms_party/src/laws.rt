@@ -33,7 +33,7 @@ pub fn stamps_rise()
 {}
 
 /// Deliveries of different messages to one phone, each in one piece, have different keys, so that
-/// the phone stores both.
+/// neither is taken for a repeat of the other.
 pub fn deliveries_have_own_keys()
     ensures { DeliveriesHaveOwnKeys }
 {

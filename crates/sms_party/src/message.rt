@@ -61,7 +61,8 @@ pub struct Tag {
     pub reference: u8,
 }
 
-/// What travels in one packet.
+/// What travels in one packet. `flag` is the TI flag: 1 where the packet goes to the side that
+/// opened the transaction; `value` is the TI value, 0 to 6 (3GPP TS 24.007, 11.2.3.1.3).
 #[derive(Drop)]
 pub enum Message {
     /// The octets are no CP message.

@@ -49,8 +49,8 @@ fn is_answer(message: &Message) -> bool
 
 impl Phone {
     /// A phone that has typed nothing, with an empty store: how many sets of segments may be open,
-    /// how many finished ones are remembered, and how many texts are stored. `width` and `reject`
-    /// are those of `Sender::new`.
+    /// how many finished ones are remembered, and how many texts are stored. The first two must be
+    /// above 0. `width` and `reject` are those of `Sender::new`.
     pub fn new(
         alloc: Global,
         open_max: usize,
@@ -108,9 +108,15 @@ impl Phone {
         self.sender.status(number)
     }
 
-    /// Takes octets that come to the phone at a moment, in seconds since the beginning of 2000: the
-    /// answer to a submission, or a delivery. Octets that are no CP message, and answers that are
-    /// not waited for, are dropped.
+    /// Takes octets that come to the phone at a moment, in seconds since the beginning of 2000. A
+    /// CP-ACK or CP-ERROR is noted.
+    ///
+    /// In a transaction that the centre has opened, an RP-DATA to the phone, and a CP-DATA whose
+    /// octets, two or more, are no RP message, are answered by a CP-ACK, and by an RP-ACK or
+    /// RP-ERROR. In one that the phone has opened, while a text waits, an RP-ACK or RP-ERROR to the
+    /// phone with the TI value and the RP-Message Reference of the latest submission is answered by
+    /// a CP-ACK, and the next segment that waits is put out, if there is one. All else is dropped.
+    /// If it is dropped, or memory runs out, nothing has changed.
     pub fn receive(&mut self, now: u64, octets: &[u8]) -> Result<Step, Dropped>
         ensures receives { PhoneReceives now octets.now self.old result self.new }
         ensures refused { OnErr result (self.new ≡ self.old) }

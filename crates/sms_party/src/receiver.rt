@@ -30,10 +30,12 @@ use sms_tpdu::{Body, Concat, Deliver, Header};
 use std::alloc::{AllocError, Global};
 use std::marker::Model;
 
-/// A text that came: whom it is from, and the text.
+/// A text that came.
 #[derive(Drop)]
 pub struct Entry {
+    /// Whom it is from (TP-OA).
     pub origin: Address,
+    /// Its text, of the TP-UD of its segments.
     pub text: String,
 }
 
@@ -95,7 +97,7 @@ fn units_of(alloc: Global, alphabet: Alphabet, body: Body) -> Result<Option<Unit
 
 impl Receiver {
     /// A phone with an empty store: how many sets of segments may be open, how many finished ones
-    /// are remembered, and how many texts are stored.
+    /// are remembered, and how many texts are stored. The first two must be above 0.
     pub fn new(
         alloc: Global,
         open_max: usize,
@@ -134,8 +136,10 @@ impl Receiver {
     }
 
     /// Takes octets that come to the phone in a transaction that the centre has opened, at a moment
-    /// in seconds since the beginning of 2000: a delivery. Octets that are no CP message, and
-    /// messages of other kinds, are dropped.
+    /// in seconds since the beginning of 2000. A CP-ACK or CP-ERROR is noted. An RP-DATA to the
+    /// phone, and a CP-DATA whose octets, two or more, are no RP message, are answered by a CP-ACK,
+    /// and by an RP-ACK or RP-ERROR. All else is dropped. If it is dropped, or memory runs out,
+    /// nothing has changed.
     pub fn receive(&mut self, now: u64, octets: &[u8]) -> Result<Step, Dropped>
         ensures receives { ReceivesAs now octets.now self.old result self.new }
         ensures refused { OnErr result (self.new ≡ self.old) }
@@ -260,8 +264,7 @@ impl Receiver {
         self.store.len() >= self.limit && self.joiner.would_finish(origin, stamp, concat)
     }
 
-    /// Takes a message or a segment. All growths come before the joiner's, which is the last call
-    /// that can fail.
+    /// Takes a message or a segment. Nothing grows after the joiner has taken the piece.
     fn take_piece(
         &mut self,
         now: u64,

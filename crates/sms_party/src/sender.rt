@@ -38,9 +38,10 @@ const REPEATS_MAX: u8 = 3;
 pub enum Status {
     /// It has not ended.
     Waiting,
-    /// The service centre has accepted each of its segments.
+    /// Each of its segments was answered as accepted: by an RP-ACK, or an RP-ERROR that rejects a
+    /// duplicate (TP-FCS C5).
     Accepted,
-    /// The service centre has refused one, or has not answered.
+    /// One was answered by another RP-ERROR, or not in time.
     Failed,
 }
 
@@ -281,8 +282,11 @@ impl Sender {
         }
     }
 
-    /// Takes octets that come to the phone in a transaction that it has opened: the answer to a
-    /// submission. Octets that are no CP message, and answers that are not waited for, are dropped.
+    /// Takes octets that come to the phone in a transaction that it has opened. A CP-ACK or
+    /// CP-ERROR is noted. While a text waits, an RP-ACK or RP-ERROR to the phone with the TI value
+    /// and the RP-Message Reference of the latest submission is answered by a CP-ACK, and the next
+    /// segment that waits is put out, if there is one. All else is dropped. If it is dropped, or
+    /// memory runs out, nothing has changed.
     pub fn receive(&mut self, octets: &[u8]) -> Result<Step, Dropped>
         ensures receives { Receives octets.now self.old result self.new }
         ensures refused { OnErr result (self.new ≡ self.old) }

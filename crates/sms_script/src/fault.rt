@@ -17,8 +17,10 @@ pub enum ScriptFault {
     /// A line has at most 4,096 octets.
     #[error("line too long")]
     LineTooLong,
+    /// The octets of the line are not UTF-8.
     #[error("not utf-8")]
     NotUtf8,
+    /// The first word is no command, or `inject` stands without `up` or `down`.
     #[error("unknown command")]
     UnknownCommand,
     /// Settings and phones stand before the first event.
@@ -30,16 +32,22 @@ pub enum ScriptFault {
     /// Not 1 to 10 decimal digits, or out of range.
     #[error("bad number")]
     BadNumber,
+    /// Not 1 to 16 of `a` to `z` and `0` to `9`, a letter first; or `centre`.
     #[error("bad name")]
     BadName,
+    /// Not the text of an address; or the address of a phone has a type above 1 or no digit.
     #[error("bad address")]
     BadAddress,
+    /// Not two hexadecimal digits for each octet, nor `-`.
     #[error("bad hex")]
     BadHex,
+    /// No phone has this name.
     #[error("unknown phone")]
     UnknownPhone,
+    /// Another phone has this name.
     #[error("name taken")]
     NameTaken,
+    /// Another phone has this address.
     #[error("address taken")]
     AddressTaken,
     /// A script has at most 100 phones.
@@ -50,8 +58,10 @@ pub enum ScriptFault {
 /// Why a line has no meaning: it is at fault, or memory ran out.
 #[derive(Clone, Copy, Debug, PartialEq, Eq, Error)]
 pub enum MeaningFault {
+    /// Memory ran out.
     #[error("out of memory")]
     Memory,
+    /// The line is at fault.
     #[error("{0}")]
     Script(ScriptFault),
 }

@@ -64,8 +64,8 @@ fn is_longer(line: &[u8], octet: u8) -> bool
     length > LINE_LIMIT
 }
 
-/// Reads one line, without its line feed and the carriage return before it. Of a line that is too
-/// long no octet is read after the one that shows it.
+/// Reads one line, without its line feed and the carriage return before it, from a source that must
+/// not have failed yet. Of a line that is too long no octet is read after the one that shows it.
 pub fn read_line<S: Source>(source: &mut S, line: &mut Vec<u8>) -> Result<LineEnd, LineFault>
     requires { S.has_failed source.old ≡ false }
     ensures reads { let old = S.remaining source.old in

@@ -207,7 +207,8 @@ fn statement_in(alloc: Global, known: &Known, line: &str) -> Result<Statement, M
     statement_of(alloc, known, command, rest)
 }
 
-/// What a line means, after lines that told what is known.
+/// What a line means, after lines that told what is known. How long the line is and how many came
+/// before it are not looked at here: `play` does that.
 pub fn meaning_of(alloc: Global, known: &Known, line: &[u8]) -> Result<Statement, MeaningFault>
     ensures means { Gives (λ s. s) result (meaning known.now line.now) }
     ensures fits { IfOk result (λ s. Fits known.now s) }

@@ -132,8 +132,11 @@ impl Script {
         Ok(event)
     }
 
-    /// Takes the next line, and answers the event that it is. A line that is at fault is not
-    /// taken, nor one for which memory runs out: then all is as it was.
+    /// Takes the next line, without its line feed, and answers the event that it is. A line that is
+    /// at fault is not taken, nor one for which memory runs out: then all is as it was.
+    ///
+    /// How long the line is and how many came before it are not looked at here: `play` does that.
+    /// Fewer than 2^60 lines were taken before.
     pub fn take(&mut self, alloc: Global, line: &[u8]) -> Result<Option<Event>, PlayFault>
         requires { self.old.lines < 2 ^ 60 }
         ensures { TakesLine self.old self.new line.now result }

@@ -25,7 +25,7 @@ pub record IsOrderly (m : Machine) (event : Event) : Type 0 where
 abbrev pub OrderlyRun : Machine → List (Event × Told) → Machine → Type 0
 OrderlyRun first past last = RunWith IsOrderly first past last
 
--- a run in which submissions come in order, and nothing is injected
+-- the submission that the event brings, if it brings one, comes in order, and nothing is injected
 pub record SubmissionsAreOrderly (m : Machine) (event : Event) : Type 0 where
   pub repeats : RepeatsAskForRejection m event
   pub plain : NothingIsInjected event

@@ -117,8 +117,8 @@ pub fn segments_are_accepted_once()
     ensures { AcceptedAtMostOnce }
 {}
 
-/// Where answers and rejections are of what they seem to be of, the centre has accepted each
-/// segment of a text that is shown as accepted.
+/// Where answers and rejections are of what they seem to be of, and nothing is injected, the centre
+/// has accepted each segment of a text that is shown as accepted.
 pub fn accepted_texts_were_accepted()
     ensures { AcceptedIsAccepted }
 {}

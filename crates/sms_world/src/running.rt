@@ -17,8 +17,11 @@ use sms_script::{Event, Limits};
 use std::alloc::{AllocError, Global};
 
 /// Makes a world with these limits and phones, and lets these events happen, one after another. It
-/// answers the world afterwards, and what each event has answered. An event that answers a fault
-/// changes nothing, and the next one happens all the same.
+/// answers the world afterwards, and what each event has answered. After an event that answers a
+/// fault the clock, the phones, the centre and the packets stand as before, and the next one
+/// happens all the same.
+///
+/// Limits are in their ranges; phones are different and at most 100.
 pub fn run(
     alloc: Global,
     limits: Limits,

@@ -66,7 +66,8 @@ impl Model for World {
 
 impl World {
     /// A world in which nothing has happened: phones of these addresses, which are different and at
-    /// most 100, and a centre between them. The clock stands at the beginning of 2000.
+    /// most 100, and a centre between them. The limits are in their ranges. The clock stands at the
+    /// beginning of 2000.
     pub fn new(alloc: Global, limits: Limits, phones: &[Address]) -> Result<World, AllocError>
         requires limits { AreLimits limits }
         requires phones { ArePhones phones.now }
@@ -82,8 +83,8 @@ impl World {
         })
     }
 
-    /// What happens at an event. If it answers a fault, the world is as it was; only the messages
-    /// whose validity has ended may be gone from the centre.
+    /// What happens at an event. If it answers a fault, the clock, the phones, the centre and the
+    /// packets stand as before.
     ///
     /// A text is typed at a phone, a packet comes to its destination, a phone has waited long
     /// enough for an answer, the centre hands a message to a phone, the clock moves on by some
@@ -233,7 +234,7 @@ impl World {
         self.packets.len()
     }
 
-    /// The packet of this number with its way, if as many were put out.
+    /// The packet of this number with its way, if as many were put out. The number must be above 0.
     pub fn packet_on_way(&self, number: usize) -> Option<Packet<'_>>
         requires { 1 ≤ number }
         ensures { option_map shown result ≡ slice_get self.now.packets (number - 1) }
@@ -246,7 +247,8 @@ impl World {
         })
     }
 
-    /// The texts that came to a phone, in order of completion. It takes no memory.
+    /// The texts that came to a phone, in order of completion. The phone must be one of the
+    /// world's. It takes no memory.
     pub fn store(&self, phone: usize) -> &[Entry]
         requires { phone < length self.now.parties.phones }
         ensures store { result.now ≡ store_in self.now.parties.phones phone }
@@ -255,7 +257,7 @@ impl World {
         self.parties.store(phone)
     }
 
-    /// How many texts were typed at a phone.
+    /// How many texts were typed at a phone. The phone must be one of the world's.
     pub fn typed(&self, phone: usize) -> usize
         requires { phone < length self.now.parties.phones }
         ensures { result ≡ length (statuses_at self.now.parties.phones phone) }
@@ -263,8 +265,8 @@ impl World {
         self.parties.typed(phone)
     }
 
-    /// How the text of this number of a phone stands; the first typed text has number 1. It takes
-    /// no memory.
+    /// How the text of this number of a phone stands; the first typed text has number 1. The phone
+    /// must be one of the world's. It takes no memory.
     pub fn status(&self, phone: usize, number: usize) -> Option<Status>
         requires { phone < length self.now.parties.phones }
         ensures status { let all = statuses_at self.now.parties.phones phone in

@@ -51,7 +51,8 @@ checked c now phone tag s origin (Accept recipient ends stamp) =
     }
 
 -- An SMS-SUBMIT is checked. Another type of unit: B0, TPDU not supported. A unit with another
--- fault: FF, unspecified.
+-- fault: FF, unspecified. The RP-Cause is 21, short message transfer rejected (3GPP TS 24.011,
+-- 8.2.5.4; TS 23.040, 9.2.3.22).
 unfoldable pub centre_takes : ℕ → List AddressValue → CentreState → ℕ → ℕ → Tag → TransferUnit
     → Option Origin → Does CentreState
 centre_takes limit phones c now phone tag (Submit s) origin =

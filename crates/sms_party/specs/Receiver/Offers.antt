@@ -47,7 +47,8 @@ after_piece limits s p origin given store =
 
 -- The joiner answers a piece from this address. A repeat and a piece that is kept are acknowledged;
 -- a message that is whole goes to the store as its text. Too many open sets: D3, memory capacity
--- exceeded, with RP-Cause 22.
+-- exceeded, with RP-Cause 22, memory capacity exceeded (3GPP TS 24.011, 8.2.5.4; TS 23.040,
+-- 9.2.3.22).
 unfoldable pub settles : ReceiverLimits → ReceiverState → Tag → AddressValue → Piece → Option Origin
     → Answer → Does ReceiverState
 settles limits s tag from p origin joiner.Repeat =
@@ -63,7 +64,8 @@ settles limits s tag from p origin joiner.TooManyOpen = refuses s tag 22 0xD3
 abbrev pub is_full_for : ReceiverLimits → ReceiverState → Piece → Bool
 is_full_for limits s p = nat_le limits.store (length s.store) && would_finish s.joiner p
 
--- The store is asked before the joiner is.
+-- The store is asked before the joiner is. A store that is full is answered like too many open
+-- sets.
 unfoldable pub receiver_offers : ReceiverLimits → ReceiverState → Tag → AddressValue → Piece
     → Option Origin → Does ReceiverState
 receiver_offers limits s tag from p origin =
@@ -71,7 +73,8 @@ receiver_offers limits s tag from p origin =
     then refuses s tag 22 0xD3
     else settles limits s tag from p origin (answer limits.open_max s.joiner p)
 
--- A body that is no text's: 90, data coding scheme (alphabet) not supported.
+-- A body that is no text's: 90, data coding scheme (alphabet) not supported, with RP-Cause 111,
+-- protocol error (3GPP TS 24.011, 8.2.5.4; TS 23.040, 9.2.3.22).
 abbrev pub offers_units : ReceiverLimits → ReceiverState → ℕ → Tag → Delivery → Option Origin
     → Option Units → Does ReceiverState
 offers_units limits s now tag d origin None = refuses s tag 111 0x90

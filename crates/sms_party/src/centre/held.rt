@@ -24,11 +24,11 @@ pub struct HeldKey {
 /// When a held message ends, and which it is: no two messages to one recipient have one stamp.
 #[derive(Clone, Copy, Debug, PartialEq, Eq, PartialOrd, Ord, Drop)]
 pub struct Ending {
-    /// The end of its validity.
+    /// The end of its validity (TP-VP), in seconds since the beginning of 2000.
     pub end: u64,
     /// The phone that has the recipient's address, counted from 0.
     pub recipient: usize,
-    /// The moment of its TP-SCTS.
+    /// The moment of its TP-SCTS, in seconds since the beginning of 2000.
     pub stamp: u64,
 }
 

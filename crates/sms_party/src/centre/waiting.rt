@@ -12,13 +12,13 @@ use std::marker::Model;
 /// The latest push to a phone.
 #[derive(Drop)]
 pub struct Push {
-    /// The value of its transaction.
+    /// The TI value of its transaction, 0 to 6.
     pub value: u8,
     /// Its RP-Message Reference.
     pub reference: u8,
-    /// The moment of its TP-SCTS.
+    /// The moment of its TP-SCTS, in seconds since the beginning of 2000.
     pub stamp: u64,
-    /// The end of the message's validity.
+    /// The end of the message's validity (TP-VP), in seconds since the beginning of 2000.
     pub ends: u64,
 }
 

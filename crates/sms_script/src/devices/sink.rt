@@ -28,8 +28,8 @@ pub trait Sink {
         ensures { result ≡ has_failed self.now };
 }
 
-/// Writes all of the octets, in as many writes as the sink needs. Where one fails, the sink has
-/// taken the octets of those before.
+/// Writes all of the octets, in as many writes as the sink needs. It must not have failed yet.
+/// Where a write fails, the sink has taken the octets of those before.
 pub fn write_whole<K: Sink>(sink: &mut K, octets: &[u8]) -> Result<(), DeviceFailed>
     requires { K.has_failed sink.old ≡ false }
     ensures ok { OnOk result (Appends (K.contents sink.old) (K.contents sink.new) octets.now) }

@@ -13,6 +13,7 @@ pub enum Event {
     /// A text is typed at a phone.
     Compose {
         phone: usize,
+        /// Whom it is for (TP-DA).
         target: Address,
         text: Text,
     },

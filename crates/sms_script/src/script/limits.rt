@@ -38,7 +38,7 @@ impl Limits {
         }
     }
 
-    /// Sets one limit.
+    /// Sets one limit to a number in its range. All limits are in their ranges before.
     pub fn set(&mut self, which: Limit, n: u64)
         requires limits { AreLimits self.old }
         requires range { IsIn which n }
