@@ -1,6 +1,6 @@
 //! The octets of a unit whose text is in one piece.
 
-ghost use Rattle.std.specs.Prelude.{◌≡◌, All, IfOk};
+ghost use Rattle.std.specs.Prelude.{All, IfOk};
 ghost use Rattle.sms_field.specs.Coding.{alphabet_at};
 ghost use Rattle.sms_tpdu.specs.UserData.{FitsAlphabet};
 ghost use Rattle.sms_tpdu.specs.Submit.ValidityPeriod.{IsInRange};

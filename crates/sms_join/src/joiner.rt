@@ -7,7 +7,7 @@ ghost use Rattle.sms_join.specs.Finishing.{would_finish};
 ghost use Rattle.sms_join.specs.Piece.{piece_of, key_of, sequence_of, size_of};
 ghost use Rattle.sms_tpdu.specs.UserData.ConcatenationFound.{IsPlace};
 ghost use Rattle.sms_join.specs.Sets.{is_open};
-ghost use Rattle.sms_join.specs.Joiner.{new_joiner, is_among, answer, offered};
+ghost use Rattle.sms_join.specs.Joiner.{new_joiner, is_among, offered};
 ghost use Rattle.sms_join.specs.JoinerValue.{SameLimits};
 ghost use Rattle.sms_join.specs.Same.{IsSame};
 ghost use Rattle.sms_join.specs.Offering.{Says};

@@ -46,9 +46,10 @@ impl Segments {
         Segments { units, ends }
     }
 
-    /// How many segments there are, at most 255.
+    /// How many segments there are.
     pub fn len(&self) -> usize
-        ensures { result ≡ length self.now }
+        ensures count { result ≡ length self.now }
+        ensures few { result ≤ 255 }
     {
         self.ends.len()
     }

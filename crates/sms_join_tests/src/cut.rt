@@ -185,7 +185,7 @@ fn have_counts(pieces: &[Units], counts: &[usize]) -> bool {
 }
 
 /// Whether the text has segments of these numbers of units, and they are read as the text.
-fn is_cut(alloc: Global, text: &str, width: Width, counts: &[usize]) -> Result<bool, Fail> {
+fn is_cut(alloc: Global, text: &str, width: Width, counts: &[usize]) -> Result<bool, SplitFault> {
     let segments = split(alloc, text, width)?;
     let pieces = pieces_of(alloc, segments)?;
     let read = read_units(alloc, &pieces)?;
@@ -237,5 +237,42 @@ fn refuses_a_longer_text(rt: HostRuntime) -> Result<(), Fail> {
         &fault,
         &Some(SplitFault::TooManySegments),
     );
+    Ok(())
+}
+
+/// Whether such a text has segments of these numbers of units, and they are read as the text.
+fn is_repeated_cut(
+    alloc: Global,
+    letter: &str,
+    times: usize,
+    then: &str,
+    counts: &[usize],
+) -> Result<bool, SplitFault> {
+    let text = repeated(alloc, letter, times, then)?;
+    is_cut(alloc, &text, Width::Eight, counts)
+}
+
+/// The same, asked once more where memory ran out.
+fn is_cut_at_last(
+    alloc: Global,
+    letter: &str,
+    times: usize,
+    then: &str,
+    counts: &[usize],
+) -> Result<bool, SplitFault> {
+    match is_repeated_cut(alloc, letter, times, then, counts) {
+        Ok(cut) => Ok(cut),
+        Err(_) => is_repeated_cut(alloc, letter, times, then, counts),
+    }
+}
+
+/// One growth is refused, whichever it is (docs/CONTRIBUTING.md says how): the text is then cut as
+/// where none was refused.
+#[test]
+fn cuts_after_a_refused_growth(rt: HostRuntime) -> Result<(), Fail> {
+    let gsm = is_cut_at_last(rt.alloc(), "a", 161, "", &[153, 8])?;
+    let ucs2 = is_cut_at_last(rt.alloc(), "ж", 65, "😀жжжж", &[67, 4])?;
+    holds(&rt, &"GSM", gsm);
+    holds(&rt, &"UCS-2", ucs2);
     Ok(())
 }

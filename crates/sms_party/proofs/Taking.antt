@@ -141,14 +141,14 @@ noted limit phones now v c step e f s = (ap Ok (sym e), subst (λ (ps : List (Li
 
 -- ---- whether there is room
 
-pub space_late : (limit : ℕ) (books : Books) (sub : Submission) (ends r stamp : ℕ) → (sub.reject && books.is_held r) ≡ false → books.count < limit → stamp ≡ books.stamp r → 3155760000 ≤ stamp
+pub space_late : (limit : ℕ) (books : Books) (sub : Submission) (ends r stamp : ℕ) → (sub.reject && books.is_held r) ≡ false → books.count < limit → stamp ≡ books.stamp r → end_of_2099 ≤ stamp
     → Refuse 38 0xC2 ≡ check_space limit books sub ends r
 space_late limit books sub ends r stamp e f g h =
     let full : nat_le limit books.count ≡ false = grind (arith, nat_tests) in
     let late : nat_le end_of_2099 (books.stamp r) ≡ true = subst (λ n. nat_le end_of_2099 n ≡ true) g (grind (arith, nat_tests)) in
     rw (e, full, late) refl
 
-pub space_free : (limit : ℕ) (books : Books) (sub : Submission) (ends r stamp : ℕ) → (sub.reject && books.is_held r) ≡ false → books.count < limit → stamp ≡ books.stamp r → stamp < 3155760000
+pub space_free : (limit : ℕ) (books : Books) (sub : Submission) (ends r stamp : ℕ) → (sub.reject && books.is_held r) ≡ false → books.count < limit → stamp ≡ books.stamp r → stamp < end_of_2099
     → Accept r ends stamp ≡ check_space limit books sub ends r
 space_free limit books sub ends r stamp e f g h =
     let full : nat_le limit books.count ≡ false = grind (arith, nat_tests) in

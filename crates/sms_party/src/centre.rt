@@ -1,6 +1,7 @@
 //! The service centre.
 
-ghost use Rattle.std.specs.Prelude.{◌≡◌, ◌<◌, ◌≤◌, IsTrue, length, ◌&&◌, IfSome, IfOk};
+ghost use Rattle.std.specs.Prelude.{◌≡◌, ◌<◌, ◌≤◌, IsTrue, length, ◌&&◌, IfSome, IfOk, IfErr};
+ghost use Rattle.sms_field.specs.Times.{end_of_2099};
 ghost use Rattle.sms_party.specs.Address.{are_distinct, phone_at};
 ghost use Rattle.sms_party.specs.Message.Reading.{HasTag};
 ghost use Rattle.sms_party.specs.Centre.State.{new_centre};
@@ -10,6 +11,7 @@ ghost use Rattle.sms_party.specs.Centre.{centre_opened, centre_answered, centre_
 ghost use Rattle.sms_party.specs.Centre.Value.{phones_of};
 ghost use Rattle.sms_party.specs.Centre.Kept.{books_in, is_kept, key_of, IsLawfulCheck};
 ghost use Rattle.sms_party.specs.Centre.Calls.{StandsLater, StandsAlways, PushSteps, SettlesAs, Steps, ReceivesAs};
+ghost use Rattle.sms_party.specs.declared.outcome.Dropped.TheVariants.{Memory};
 
 mod answering;
 mod check;
@@ -78,14 +80,6 @@ impl Centre {
         ensures stands { StandsLater now self.old self.new }
         ensures phones { phones_of self.new ≡ phones_of self.old }
     {
-        self.forget(now);
-    }
-
-    /// Forgets the messages whose validity has ended.
-    fn forget(&mut self, now: u64)
-        ensures stands { StandsLater now self.old self.new }
-        ensures phones { phones_of self.new ≡ phones_of self.old }
-    {
         self.holdings.forget(now);
     }
 
@@ -98,9 +92,10 @@ impl Centre {
     pub fn push(&mut self, now: u64, phone: usize) -> Result<Step, Dropped>
         requires { phone < length (phones_of self.old) }
         ensures steps { PushSteps now phone self.old result self.new }
+        ensures memory { IfErr result (λ e. e ≡ Memory) }
         ensures phones { phones_of self.new ≡ phones_of self.old }
     {
-        self.forget(now);
+        self.advance(now);
         self.holdings.push(self.alloc, phone)
     }
 
@@ -117,11 +112,11 @@ impl Centre {
     /// of an earlier call: nothing is promised of one that is.
     pub fn receive(&mut self, now: u64, phone: usize, octets: &[u8]) -> Result<Step, Dropped>
         requires phone { phone < length (phones_of self.old) }
-        requires moment { now < 3155760000 }
+        requires moment { now < end_of_2099 }
         ensures receives { ReceivesAs now phone octets.now self.old result self.new }
         ensures phones { phones_of self.new ≡ phones_of self.old }
     {
-        self.forget(now);
+        self.advance(now);
         let message = read_message(self.alloc, octets)?;
         self.take(now, phone, message)
     }
@@ -129,7 +124,7 @@ impl Centre {
     /// Takes a message from this phone.
     fn take(&mut self, now: u64, phone: usize, message: Message) -> Result<Step, Dropped>
         requires phone { phone < length (phones_of self.old) }
-        requires moment { now < 3155760000 }
+        requires moment { now < end_of_2099 }
         requires tag { HasTag message }
         ensures steps { Steps now (λ limit phones c origin.
             centre_receives limit phones c now phone message origin)
@@ -162,7 +157,7 @@ impl Centre {
         relay: Relay,
     ) -> Result<Step, Dropped>
         requires phone { phone < length (phones_of self.old) }
-        requires moment { now < 3155760000 }
+        requires moment { now < end_of_2099 }
         requires tag { tag.value < 7 }
         ensures steps { Steps now (λ limit phones c origin.
             centre_opened limit phones c now phone tag relay origin)
@@ -225,7 +220,7 @@ impl Centre {
         unit: TransferUnit,
     ) -> Result<Step, Dropped>
         requires phone { phone < length (phones_of self.old) }
-        requires moment { now < 3155760000 }
+        requires moment { now < end_of_2099 }
         requires tag { tag.value < 7 }
         ensures steps { Steps now (λ limit phones c origin.
             centre_takes limit phones c now phone tag unit origin)
@@ -271,7 +266,7 @@ impl Centre {
         check: Check,
     ) -> Result<Step, Dropped>
         requires phone { phone < length (phones_of self.old) }
-        requires moment { now < 3155760000 }
+        requires moment { now < end_of_2099 }
         requires tag { tag.value < 7 }
         requires check { IsLawfulCheck self.old check }
         ensures steps { SettlesAs now phone tag submission check self.old result self.new }
@@ -306,7 +301,7 @@ impl Centre {
     /// What becomes of a submission.
     #[tactic(auto, unfolding(crate::specs::Centre::Checks::checked_by))]
     fn check(&self, now: u64, phone: usize, submission: &Submit) -> Check
-        requires { now < 3155760000 }
+        requires { now < end_of_2099 }
         ensures result_is { result ≡ checked_by self.now.limit (phones_of self.now)
             (books_in self.now now phone submission.now) now submission.now }
         ensures lawful { IsLawfulCheck self.now result }

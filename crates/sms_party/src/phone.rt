@@ -1,6 +1,6 @@
 //! A phone, which sends and receives.
 
-ghost use Rattle.std.specs.Prelude.{◌≡◌, ◌<◌, ◌≤◌, IfOk, OnErr, length};
+ghost use Rattle.std.specs.Prelude.{◌≡◌, ◌<◌, ◌≤◌, IfOk, IfErr, OnErr, length};
 ghost use Rattle.std.specs.Str.{chars};
 ghost use Rattle.sms_party.specs.Sender.Calls.{times_out};
 ghost use Rattle.sms_party.specs.Sender.Value.{status_among, statuses_in};
@@ -8,6 +8,7 @@ ghost use Rattle.sms_party.specs.Sender.Stands.{Steps, Types, TellsStatus, IsNew
 ghost use Rattle.sms_party.specs.Receiver.State.{limits_of};
 ghost use Rattle.sms_party.specs.Receiver.Standing.{IsNew, AgesTo};
 ghost use Rattle.sms_party.specs.Phone.{is_answer, PhoneReceives};
+ghost use Rattle.sms_party.specs.declared.outcome.Dropped.TheVariants.{Memory};
 
 use crate::message::Message;
 use crate::message::reading::read_message;
@@ -87,6 +88,7 @@ impl Phone {
     /// out.
     pub fn timeout(&mut self) -> Result<Step, Dropped>
         ensures steps { Steps times_out self.old.sender result self.new.sender }
+        ensures memory { IfErr result (λ e. e ≡ Memory) }
         ensures receiver { self.new.receiver ≡ self.old.receiver }
         ensures refused { OnErr result (self.new ≡ self.old) }
     {

@@ -1,6 +1,6 @@
 //! The receiving phone.
 
-ghost use Rattle.std.specs.Prelude.{◌≡◌, ◌<◌, ◌≤◌, nat_le, length, ◌&&◌, ℕ, IfOk, IfErr, OnErr};
+ghost use Rattle.std.specs.Prelude.{◌≡◌, ◌<◌, ◌≤◌, nat_le, length, ◌&&◌, ℕ, IfOk, OnErr};
 ghost use Rattle.sms_field.specs.Coding.{alphabet_at};
 ghost use Rattle.sms_join.specs.declared.units.Units.{Units as TheUnits};
 ghost use Rattle.sms_join.specs.Piece.{piece_of};
@@ -20,7 +20,7 @@ use crate::message::packets::relay_refusal;
 use crate::message::reading::read_message;
 use crate::message::{Message, Relay, Tag, TransferUnit, failure_cause, rp_cause};
 use crate::outcome::{Dropped, Outcome, Step};
-use crate::receiver::replying::{approval, refusal};
+use crate::receiver::replying::{approval, no_room, refusal};
 use sms_field::{Address, Alphabet, Stamp, alphabet_of};
 use sms_join::laws::{agings_keep_same, answer_finishes, answers_alike, same_is_equivalence};
 use sms_join::{Joiner, Offer, OfferFault, Ucs2Units, Units};
@@ -285,12 +285,7 @@ impl Receiver {
         answer_finishes();
         same_is_equivalence();
         if self.is_full_for(&origin, stamp, concat) {
-            return refusal(
-                self.alloc,
-                tag,
-                rp_cause::MEMORY_CAPACITY_EXCEEDED,
-                failure_cause::MEMORY_CAPACITY_EXCEEDED,
-            );
+            return no_room(self.alloc, tag);
         }
         self.store.reserve(1)?;
         let packets = approval(self.alloc, tag)?;
@@ -310,12 +305,7 @@ impl Receiver {
                     packets,
                 })
             }
-            Err(OfferFault::TooManyOpen) => refusal(
-                self.alloc,
-                tag,
-                rp_cause::MEMORY_CAPACITY_EXCEEDED,
-                failure_cause::MEMORY_CAPACITY_EXCEEDED,
-            ),
+            Err(OfferFault::TooManyOpen) => no_room(self.alloc, tag),
             Err(OfferFault::Memory) => Err(Dropped::Memory),
         }
     }

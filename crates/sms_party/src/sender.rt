@@ -7,7 +7,7 @@ ghost use Rattle.sms_party.specs.Message.Reading.{HasTag};
 ghost use Rattle.sms_party.specs.Centre.Pushes.{is_more};
 ghost use Rattle.sms_party.specs.Sender.Calls.{times_out};
 ghost use Rattle.sms_party.specs.Sender.Answers.{failure_of, accepts, sender_receives, sender_takes};
-ghost use Rattle.sms_party.specs.Sender.Value.{text_in, enters, first_put, waits_no_more, hears_at, text_put, following, next_set, counted, puts_again, puts_next, ends_first, CarriesOptional, Did, status_among, statuses_in};
+ghost use Rattle.sms_party.specs.Sender.Value.{text_in, enters, first_put, hears_at, text_put, following, next_set, counted, puts_again, puts_next, ends_first, CarriesOptional, Did, status_among, statuses_in};
 ghost use Rattle.sms_party.specs.Sender.Stands.{Steps, Receives, Types, TellsStatus, IsNewSender};
 ghost use Rattle.sms_party.specs.declared.outcome.Dropped.TheVariants.{Memory};
 ghost use Rattle.sms_party.specs.declared.message.Message.{Message as MessageValue};
@@ -266,6 +266,7 @@ impl Sender {
     /// next one's turn comes. It fails only where memory runs out.
     pub fn timeout(&mut self) -> Result<Step, Dropped>
         ensures steps { Steps times_out self.old result self.new }
+        ensures memory { IfErr result (λ e. e ≡ Memory) }
         ensures refused { OnErr result (self.new ≡ self.old) }
     {
         if self.pending.is_empty() {
@@ -406,6 +407,7 @@ impl Sender {
     fn repeat(&mut self) -> Result<Step, Dropped>
         requires { self.old.repeats < 3 }
         ensures did { Did (puts_again self.old) self.old result self.new }
+        ensures memory { IfErr result (λ e. e ≡ Memory) }
         ensures refused { OnErr result (self.new ≡ self.old) }
     {
         let text = self.ended.len() + 1;
@@ -449,6 +451,7 @@ impl Sender {
     ) -> Result<Step, Dropped>
         ensures did { (messages : List MessageValue) → CarriesOptional note messages
             → Did (ends_first self.old outcome status messages) self.old result self.new }
+        ensures memory { IfErr result (λ e. e ≡ Memory) }
         ensures refused { OnErr result (self.new ≡ self.old) }
     {
         let submission = self.submission(1, 0, self.reject)?;

@@ -1,6 +1,6 @@
 //! Lines read from a source.
 
-ghost use Rattle.std.specs.Prelude.{◌≡◌, ◌≢◌, ◌++◌, ◌∷◌, [], Ok, Err, true, false, ℕ, List, length, nat_lt};
+ghost use Rattle.std.specs.Prelude.{◌≡◌, ◌≢◌, ◌++◌, ◌∷◌, [], Ok, Err, true, false, length, nat_lt};
 ghost use Rattle.sms_script.specs.Lines.{line_limit, strip_carriage_return};
 ghost use Rattle.sms_script.specs.Lines.Reading.{ReadsLine};
 ghost use Rattle.sms_script.specs.declared.lines.LineFault.TheVariants.{Memory};

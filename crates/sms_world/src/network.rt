@@ -1,6 +1,5 @@
 //! The world as the network of a script.
 
-ghost use Rattle.std.specs.Prelude.{◌≡◌};
 ghost use Rattle.sms_world.specs.Network.{conduct};
 
 use crate::words::{status_text, told_text};

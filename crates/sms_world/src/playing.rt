@@ -32,7 +32,7 @@ pub fn play<S: Source, K: Sink>(
         let now_left = S.remaining source.new in
         let had = K.contents sink.old in
         IfOk result (λ _. Transcribes left now_left had (K.contents sink.new)) }
-    ensures once { ToldStoresStand }
+    ensures whole { ToldStoresStand }
     ensures read_fails { result ≡ Err Read → S.has_failed source.new ≡ true }
     ensures read_works { result ≢ Err Read → S.has_failed source.new ≡ false }
     ensures write_fails { result ≡ Err Write → K.has_failed sink.new ≡ true }

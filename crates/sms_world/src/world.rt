@@ -3,7 +3,7 @@
 mod parties;
 mod sent_packet;
 
-ghost use Rattle.std.specs.Prelude.{◌≡◌, ◌≤◌, ◌<◌, ◌-◌, ◌+◌, ◌++◌, IfOk, length, slice_get};
+ghost use Rattle.std.specs.Prelude.{◌≡◌, ◌≢◌, ◌≤◌, ◌<◌, ◌-◌, ◌+◌, ◌++◌, IfOk, OnErr, length, slice_get};
 ghost use Rattle.std.specs.Str.{chars};
 ghost use Rattle.std.specs.Vec.{vec_len, vec_capacity};
 ghost use Rattle.std.specs.Option.{option_map};
@@ -93,6 +93,7 @@ impl World {
         ensures steps { Steps (event_of event.now) self.old result self.new }
         ensures phones { length self.new.parties.phones ≡ length self.old.parties.phones }
         ensures packets { PutsMore self.old self.new }
+        ensures kept { OnErr result (self.new.packets ≡ self.old.packets) }
         ensures ticks { IsTick event.now → self.new.packets ≡ self.old.packets }
         ensures whole { StoresAreWhole self.new }
         ensures refused { RefusesOnlyWhereFull (event_of event.now) self.old result self.new }
@@ -109,6 +110,7 @@ impl World {
         ensures steps { Steps (event_of event.now) self.old result self.new }
         ensures phones { length self.new.parties.phones ≡ length self.old.parties.phones }
         ensures packets { PutsMore self.old self.new }
+        ensures kept { OnErr result (self.new.packets ≡ self.old.packets) }
         ensures ticks { IsTick event.now → self.new.packets ≡ self.old.packets }
     {
         match event {
@@ -130,6 +132,7 @@ impl World {
         ensures steps { Steps (Compose phone target.now (chars text.now)) self.old result self.new }
         ensures phones { length self.new.parties.phones ≡ length self.old.parties.phones }
         ensures packets { PutsMore self.old self.new }
+        ensures kept { OnErr result (self.new.packets ≡ self.old.packets) }
     {
         laws_below();
         if phone >= self.parties.count() {
@@ -145,6 +148,7 @@ impl World {
         ensures steps { Steps (Carry number) self.old result self.new }
         ensures phones { length self.new.parties.phones ≡ length self.old.parties.phones }
         ensures packets { PutsMore self.old self.new }
+        ensures kept { OnErr result (self.new.packets ≡ self.old.packets) }
     {
         laws_below();
         if number == 0 || number > self.packets.len() as u64 {
@@ -163,6 +167,7 @@ impl World {
         ensures steps { Steps (Timeout phone) self.old result self.new }
         ensures phones { length self.new.parties.phones ≡ length self.old.parties.phones }
         ensures packets { PutsMore self.old self.new }
+        ensures kept { OnErr result (self.new.packets ≡ self.old.packets) }
     {
         laws_below();
         if phone >= self.parties.count() {
@@ -178,6 +183,7 @@ impl World {
         ensures steps { Steps (Push phone) self.old result self.new }
         ensures phones { length self.new.parties.phones ≡ length self.old.parties.phones }
         ensures packets { PutsMore self.old self.new }
+        ensures kept { OnErr result (self.new.packets ≡ self.old.packets) }
     {
         laws_below();
         if phone >= self.parties.count() {
@@ -207,6 +213,7 @@ impl World {
         ensures steps { Steps (Inject (place_at up phone) octets.now) self.old result self.new }
         ensures phones { length self.new.parties.phones ≡ length self.old.parties.phones }
         ensures packets { PutsMore self.old self.new }
+        ensures kept { OnErr result (self.new.packets ≡ self.old.packets) }
     {
         laws_below();
         if phone >= self.parties.count() {
@@ -219,7 +226,10 @@ impl World {
 
     /// The octets of the packet of this number, if as many were put out. It takes no memory.
     pub fn packet(&self, number: u64) -> Option<&[u8]>
-        ensures { GivesPacket self.now number (option_map (λ octets. octets.now) result) }
+        ensures carries { let told = option_map (λ octets. octets.now) result in
+            GivesPacket self.now number told }
+        ensures kept { number ≢ 0 → option_map (λ octets. octets.now) result
+            ≡ option_map (λ packet. packet.octets) (slice_get self.now.packets (number - 1)) }
     {
         if number == 0 || number > self.packets.len() as u64 {
             return None;

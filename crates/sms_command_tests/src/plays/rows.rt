@@ -136,7 +136,10 @@ pub static STORED: [Played; 4] = [
             "7 pushed #9\n8 finished #10 #11\n9 finished #12 #13",
             "store b 2\n+1001 hi\n+1001 hi",
         ],
-        packets: &[],
+        packets: &[
+            "#8 centre>b 0901190100039101000011000491011000000010100000000002E834",
+            "#9 centre>b 1901190101039101000011000491011000000010100000100002E834",
+        ],
     },
     Played {
         script: "remembered 2\ntype a +1002 one\ncarry 1\ncarry 3\npush b\ncarry 5\ncarry 7\ntype a +1002 two\n|\

@@ -1,6 +1,7 @@
 -- What the code checks a submission against.
 use Rattle.std.specs.Prelude.{◌≡◌, ℕ, ◌<◌, ◌≤◌, max, Bool, false, ◌&&◌, ◌||◌, nat_lt, length, zero, suc, List, [], ◌∷◌, ◌++◌, All, Option, Some, None, IfSome}
 use Rattle.std.specs.Map.{lookup}
+use Rattle.sms_field.specs.Times.{end_of_2099}
 use Rattle.sms_tpdu.specs.Submit.{Submission}
 use Rattle.sms_party.specs.Centre.Checks.{Books}
 use Rattle.sms_party.specs.Centre.Value.{LineValue, HeldValue, CentreValue, key_eq, phones_of, endings_after}
@@ -78,4 +79,4 @@ books_in v now phone s =
 abbrev pub IsLawfulCheck : CentreValue → Check → Type 0
 IsLawfulCheck v (Refuse cause failure) = cause < 128
 IsLawfulCheck v (Accept recipient ends stamp) =
-    (recipient < length (phones_of v)) × (stamp < 3155760000) × (free_at v.lines recipient ≤ stamp)
+    (recipient < length (phones_of v)) × (stamp < end_of_2099) × (free_at v.lines recipient ≤ stamp)

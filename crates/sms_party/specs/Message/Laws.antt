@@ -9,7 +9,9 @@ abbrev pub EachIsRead : Type 0
 EachIsRead = (octets : List ℕ) → IsOctets octets → (message : Message) × ReadsAs octets message
 
 abbrev pub OneMessageIsRead : Type 0
-OneMessageIsRead = (octets : List ℕ) (m n : Message) → IsOctets octets → ReadsAs octets m → ReadsAs octets n → n ≡ m
+OneMessageIsRead =
+    (octets : List ℕ) (m n : Message) → IsOctets octets
+    → ReadsAs octets m → ReadsAs octets n → n ≡ m
 
 abbrev pub CarriedIsRead : Type 0
 CarriedIsRead = (packet : List ℕ) (m : Message) → Carries packet m → ReadsAs packet m

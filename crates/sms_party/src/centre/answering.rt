@@ -1,16 +1,10 @@
 //! The packets of the centre's answers to submissions.
 
-ghost use Rattle.std.specs.Prelude.{◌≡◌, ◌<◌, ℕ, [], ◌∷◌, true, None, Some, IfOk, IfErr, option_copied, List, Option, Bool};
-ghost use Rattle.std.specs.Option.{ForSome};
-ghost use Rattle.sms_relay.specs.Carried as carried;
+ghost use Rattle.std.specs.Prelude.{◌<◌, true, None, Some};
+ghost use Rattle.sms_field.specs.Times.{end_of_2099};
 ghost use Rattle.sms_relay.specs.declared.side.Side.TheVariants.{ToPhone};
-ghost use Rattle.sms_party.specs.declared.message.Message.TheVariants.{Note, Data};
-ghost use Rattle.sms_party.specs.declared.message.Relay.TheVariants.{Answer};
-ghost use Rattle.sms_party.specs.declared.message.Report.{Report};
-ghost use Rattle.sms_party.specs.Message.Carrying.{Carries, SpellsReport};
 ghost use Rattle.sms_party.specs.Message.Answers.{answers, submit_error_of, submit_ack_of};
 ghost use Rattle.sms_party.specs.Does.{Puts};
-ghost use Rattle.sms_party.specs.declared.outcome.Dropped.TheVariants.{Memory};
 ghost use Rattle.sms_party.specs.declared.outcome.Outcome.TheVariants.{Held, Refused};
 
 use crate::message::Tag;
@@ -30,7 +24,7 @@ pub(crate) fn refusal(
     failure: u8,
 ) -> Result<Step, Dropped>
     requires value { tag.value < 7 }
-    requires moment { now < 3155760000 }
+    requires moment { now < end_of_2099 }
     requires cause { cause < 128 }
     ensures { Puts (Refused cause (Some failure))
         (answers ToPhone tag (Some cause) (Some (submit_error_of failure now))) result }
@@ -63,7 +57,7 @@ pub(crate) fn refusal(
 /// A CP-ACK, and an RP-ACK with a report.
 pub(crate) fn approval(alloc: Global, tag: Tag, stamp: u64) -> Result<Step, Dropped>
     requires value { tag.value < 7 }
-    requires moment { stamp < 3155760000 }
+    requires moment { stamp < end_of_2099 }
     ensures { Puts Held (answers ToPhone tag None (Some (submit_ack_of stamp))) result }
 {
     let report = SubmitAck {

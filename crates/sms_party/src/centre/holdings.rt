@@ -1,6 +1,6 @@
 //! What the centre holds, and what of it waits for the recipients.
 
-ghost use Rattle.std.specs.Prelude.{◌≡◌, [], ◌<◌, ◌≤◌, IsTrue, length, map, IfOk, IfErr, OnOk, OnErr};
+ghost use Rattle.std.specs.Prelude.{◌≡◌, ◌<◌, ◌≤◌, IsTrue, length, map, IfOk, IfErr, OnOk, OnErr};
 ghost use Rattle.sms_party.specs.Address.{are_distinct, phone_at, address_of};
 ghost use Rattle.sms_party.specs.Centre.Value.{addresses, line_at};
 ghost use Rattle.sms_party.specs.Centre.Lines.{accepting_line, LinePushes, LineHears, ChangesLine};
@@ -112,6 +112,7 @@ impl Holdings {
         ensures held { self.new.held ≡ self.old.held }
         ensures line { ChangesLine phone self.old.lines self.new.lines
             (λ line new. LinePushes line result new) }
+        ensures memory { IfErr result (λ e. e ≡ Memory) }
     {
         self.lines.push(alloc, phone)
     }

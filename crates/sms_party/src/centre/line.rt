@@ -184,7 +184,8 @@ impl Line {
     /// Puts out the first message of the queue, which goes to its end. If memory runs out, the line
     /// is as it was.
     pub(crate) fn push(&mut self, alloc: Global) -> Result<Step, Dropped>
-        ensures { LinePushes self.old result self.new }
+        ensures pushes { LinePushes self.old result self.new }
+        ensures memory { IfErr result (λ e. e ≡ Memory) }
     {
         let Some((stamp, first)) = self.queue.peek_lru() else {
             return Ok(Step {

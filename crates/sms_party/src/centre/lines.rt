@@ -88,7 +88,9 @@ impl Lines {
     /// Puts out the first message of a phone's queue. If memory runs out, the line is as it was.
     pub(crate) fn push(&mut self, alloc: Global, phone: usize) -> Result<Step, Dropped>
         requires { phone < length self.old }
-        ensures { ChangesLine phone self.old self.new (λ line new. LinePushes line result new) }
+        ensures line { ChangesLine phone self.old self.new
+            (λ line new. LinePushes line result new) }
+        ensures memory { IfErr result (λ e. e ≡ Memory) }
     {
         let line = &mut self.lines[phone];
         line.push(alloc)

@@ -1,6 +1,6 @@
 //! Messages that wait for their delivery.
 
-ghost use Rattle.std.specs.Prelude.{◌≡◌, Bool, IfOk};
+ghost use Rattle.std.specs.Prelude.{◌≡◌, IfOk};
 ghost use Rattle.sms_party.specs.Centre.Lines.{delivery_of};
 
 use crate::message::stamping::stamp_of;
@@ -34,6 +34,7 @@ pub(crate) struct WaitingMessage {
 
 impl Model for WaitingMessage {
     ghost use Rattle.std.specs.Prelude.{◌<◌};
+    ghost use Rattle.sms_field.specs.Times.{end_of_2099};
     ghost use Rattle.sms_party.specs.Centre.Value.{WaitingValue};
 
     ghost Value = { WaitingValue };
@@ -45,7 +46,7 @@ impl Model for WaitingMessage {
       ends = m.ends;
     } };
 
-    ghost invariant = { λ m. m.stamp < 3155760000 };
+    ghost invariant = { λ m. m.stamp < end_of_2099 };
 }
 
 impl WaitingMessage {

@@ -10,8 +10,8 @@ ghost use Rattle.sms_relay.specs.declared.side.Side.TheVariants.{FromPhone};
 ghost use Rattle.sms_party.specs.declared.outcome.Dropped.TheVariants.{Memory};
 ghost use Rattle.sms_party.specs.declared.outcome.Outcome.TheVariants.{Refused};
 
-use crate::message::Tag;
 use crate::message::packets::{acknowledgement, answered, wrapped};
+use crate::message::{Tag, failure_cause, rp_cause};
 use crate::outcome::{Dropped, Outcome, Step};
 use sms_relay::{Side, wrap_answer};
 use sms_tpdu::{DeliverAck, DeliverError};
@@ -80,6 +80,20 @@ pub(crate) fn refusal(alloc: Global, tag: Tag, cause: u8, failure: u8) -> Result
         failure: Some(failure),
     };
     answered(alloc, outcome, tag, packet)
+}
+
+/// The refusal of a message or a segment that no room is left for.
+pub(crate) fn no_room(alloc: Global, tag: Tag) -> Result<Step, Dropped>
+    requires value { tag.value < 7 }
+    ensures { Puts (Refused 22 (Some 0xD3))
+        (answers FromPhone tag (Some 22) (Some (deliver_error_of 0xD3))) result }
+{
+    refusal(
+        alloc,
+        tag,
+        rp_cause::MEMORY_CAPACITY_EXCEEDED,
+        failure_cause::MEMORY_CAPACITY_EXCEEDED,
+    )
 }
 
 /// A CP-ACK, and an RP-ACK with a report: what a piece that is taken is answered, whatever becomes

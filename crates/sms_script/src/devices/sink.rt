@@ -1,6 +1,6 @@
 //! What takes octets.
 
-ghost use Rattle.std.specs.Prelude.{◌≡◌, ◌≤◌, ◌<◌, ◌↔◌, List, ℕ, Option, Bool, true, false, IfOk, IsErr, IsOk, OnOk, length, take};
+ghost use Rattle.std.specs.Prelude.{◌≡◌, ◌≤◌, ◌<◌, ◌↔◌, List, ℕ, Option, Bool, true, false, IfOk, IsErr, IsOk, OnOk, length};
 ghost use Rattle.std.specs.Io.KnownBytes.{Appends, WriteAppends};
 ghost use Rattle.sms_script.specs.Devices.{AppendsFront};
 

@@ -10,8 +10,10 @@ use std::io::{Read, Write};
 /// nothing.
 #[derive(Drop)]
 pub struct Watched<T> {
-    inner: T,
-    failed: bool,
+    /// The reader or writer.
+    pub inner: T,
+    /// Whether a call of it failed.
+    pub failed: bool,
 }
 
 impl<T> Watched<T> {

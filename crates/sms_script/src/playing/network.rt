@@ -1,6 +1,6 @@
 //! What a script is played on.
 
-ghost use Rattle.std.specs.Prelude.{◌≡◌, ◌++◌, ◌-◌, ◌<◌, ◌≤◌, List, [], IfOk, length, slice_get};
+ghost use Rattle.std.specs.Prelude.{◌≡◌, ◌-◌, ◌<◌, ◌≤◌, [], IfOk, length, slice_get};
 ghost use Rattle.std.specs.Option.{option_map};
 ghost use Rattle.sms_script.specs.Meaning.Known.{ArePhones};
 ghost use Rattle.sms_script.specs.Play.Network.{Conduct};

@@ -1,6 +1,6 @@
 //! Texts put into a sink.
 
-ghost use Rattle.std.specs.Prelude.{◌≡◌, false, IsErr};
+ghost use Rattle.std.specs.Prelude.{◌≡◌, false};
 ghost use Rattle.sms_script.specs.Play.Puts.{Puts, HasFailed};
 
 use crate::devices::{Sink, write_whole};

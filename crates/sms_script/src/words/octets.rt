@@ -1,6 +1,5 @@
 //! Octets in a script.
 
-ghost use Rattle.std.specs.Prelude.{◌≡◌};
 ghost use Rattle.sms_script.specs.Reasons.{Gives};
 ghost use Rattle.sms_script.specs.Words.Hexadecimal.{hexadecimal};
 

@@ -55,7 +55,7 @@ fn new_phones(alloc: Global, limits: Limits, count: usize) -> Result<Vec<Phone>,
     ensures new { IfOk result (λ phones. AllByRecursion (IsNewPhone limits) phones.items) }
 {
     let width = width_by(limits.wide);
-    let mut phones = Vec::new(alloc);
+    let mut phones = Vec::with_capacity(alloc, count)?;
     for _ in 0..count {
         phones.push(Phone::new(
             alloc,

@@ -1,6 +1,5 @@
 //! Packets that were put out.
 
-ghost use Rattle.std.specs.Prelude.{◌≡◌};
 
 use std::marker::Model;
 

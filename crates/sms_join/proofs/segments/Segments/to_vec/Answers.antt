@@ -32,8 +32,8 @@ loop-index-preserved c = elim c.match-get.branch [
       ∙ ap (λ (x : Segment). take c.loop-index.index c.args.self.now ++ x ∷ []) w.in_ok-to_value.ensures
       ∙ sym (take_next c.args.self.now c.loop-index.index w.in-Some.segment (sym c.get.ensures.value ∙ w.in-Some.is))
   | in_default w ↦
-      absurd (is_there c.args.self.now c.loop-index.index (omega (arith, c.loop-index-test.true, c.len-index-end.ensures)) (sym c.get.ensures.value ∙ w.in_default.is))
+      absurd (is_there c.args.self.now c.loop-index.index (omega (arith, c.loop-index-test.true, c.len-index-end.ensures.count)) (sym c.get.ensures.value ∙ w.in_default.is))
 ]
 
 pub returns : goal.returns
-returns c = c.loop-index.invariant ∙ take_all c.args.self.now c.loop-index.index (omega (arith, c.loop-index-test.false, c.len-index-end.ensures))
+returns c = c.loop-index.invariant ∙ take_all c.args.self.now c.loop-index.index (omega (arith, c.loop-index-test.false, c.len-index-end.ensures.count))

@@ -13,8 +13,8 @@ returns-clause-steps c = λ limit phones clock s le stands.
     subst (λ (held : HeldValue). CentreAnswers limit phones c.args.now s (centre_pushes phones s c.args.now c.args.phone) c.push.result (record { limit = v.limit; held = held; lines = c.push.new.self.lines })) (sym c.push.ensures.held)
     (subst (λ (lines : List LineValue). CentreAnswers limit phones c.args.now s (centre_pushes phones s c.args.now c.args.phone) c.push.result (record { limit = v.limit; held = v.held; lines = lines })) (sym h.others_stay)
     (push_steps limit phones c.args.now v s c.args.phone h.before h.after h.is_there
-    (subst (λ (w : CentreValue). StandsFor limit phones c.args.now w s) (sym c.self.view_is) (c.forget.ensures.stands limit phones clock s le stands)) c.push.result h.how))
+    (subst (λ (w : CentreValue). StandsFor limit phones c.args.now w s) (sym c.self.view_is) (c.advance.ensures.stands limit phones clock s le stands)) c.push.result h.how))
 
 pub returns-clause-phones : goal.returns-clause-phones
 returns-clause-phones c =
-    pushed_phones c.args.phone c.self.inside.holdings.lines c.push.new.self.lines c.push.result c.push.ensures.line ∙ (ap phones_of c.self.view_is ∙ c.forget.ensures.phones)
+    pushed_phones c.args.phone c.self.inside.holdings.lines c.push.new.self.lines c.push.result c.push.ensures.line ∙ (ap phones_of c.self.view_is ∙ c.advance.ensures.phones)

@@ -15,8 +15,8 @@ use Rattle.sms_party.proofs.receiver.Receiver.take_piece.Goals as goal
 pub returns-then-is_full_for-clause-steps : goal.returns-then-is_full_for-clause-steps
 returns-then-is_full_for-clause-steps c = λ limits s origin stands.
     let p : Piece = piece_of c.args.now c.args.origin c.args.stamp c.args.concat c.args.units in
-    is_refused (record { alike = c.answers_alike.ensures; finishes = c.answer_finishes.ensures; same = c.same_is_equivalence.ensures }) limits c.args.self.now s stands p c.args.tag c.args.origin origin c.refusal.result
-    (sym (c.is_full_for.ensures c.args.now c.args.units) ∙ c.if-is_full_for.true) c.refusal.ensures
+    is_refused (record { alike = c.answers_alike.ensures; finishes = c.answer_finishes.ensures; same = c.same_is_equivalence.ensures }) limits c.args.self.now s stands p c.args.tag c.args.origin origin c.no_room.result
+    (sym (c.is_full_for.ensures c.args.now c.args.units) ∙ c.if-is_full_for.true) c.no_room.ensures
 
 pub returns-in-Ok-Repeat-clause-steps : goal.returns-in-Ok-Repeat-clause-steps
 returns-in-Ok-Repeat-clause-steps c = λ limits s origin stands.
@@ -64,7 +64,7 @@ returns-in-Err-TooManyOpen-clause-steps c = λ limits s origin stands.
     (subst (λ (w : ReceiverValue). StandsFor limits w s) (sym c.self.view_is) stands) p c.args.tag c.args.origin origin
     (subst (λ (w : ReceiverValue). Room w p) (sym c.self.view_is) (sym (c.is_full_for.ensures c.args.now c.args.units) ∙ c.if-is_full_for.false))
     (record { limit = c.self.inside.limit; joiner = c.offer.new.self; store = c.reserve.new.self.items })
-    c.refusal-in-Err-TooManyOpen.result
+    c.no_room-in-Err-TooManyOpen.result
     (subst (λ (f : OfferFault). Says c.self.inside.joiner.open_max c.self.inside.joiner.holds p (Err f)) c.in-Err-TooManyOpen.field-0-is c.in-Err-TooManyOpen.ensures.says)
     (same_value c.self.inside.limit _ _ _ _ c.in-Err-TooManyOpen.ensures.refused c.in_ok-reserve.ensures.items)
-    c.refusal-in-Err-TooManyOpen.ensures
+    c.no_room-in-Err-TooManyOpen.ensures

@@ -14,7 +14,7 @@ returns-clause-did c =
     let out : CarriesEach (map (λ (p : Vec ℕ Global). p.items) (option_to_list c.in_ok-submission.submission)) messages = c.in_ok-submission.ensures.carries in
     let ended : c.len.result ≡ length c.args.self.now.ended = c.len.ensures ∙ (c.self.inside.ended.ok.0 ∙ ap (λ (v : SenderValue). length v.ended) c.self.view_is) in
     let pending : c.len-2.result ≡ length c.args.self.now.pending = c.len-2.ensures ∙ (c.self.inside.pending.ok.0 ∙ ap (λ (v : SenderValue). length v.pending) c.self.view_is) in
-    let size : c.len-size.result ≡ length c.args.text.segments = c.len-size.ensures ∙ ap (λ (t : TextValue). length t.segments) c.text.view_is in
+    let size : c.len-size.result ≡ length c.args.text.segments = c.len-size.ensures.count ∙ ap (λ (t : TextValue). length t.segments) c.text.view_is in
     let pushed : c.push_back_reserved.new.self.items ≡ c.self.inside.pending.items ++ c.args.text ∷ [] =
     c.push_back_reserved.ensures.items ∙ ap (λ (l : List TextValue). l ++ c.args.text ∷ []) c.in_ok-reserve.ensures.items in
     let next : c.next_set-self-inside.result ≡ next_set c.self.inside.width c.len-size.result c.self.inside.set_reference = c.next_set-self-inside.ensures in

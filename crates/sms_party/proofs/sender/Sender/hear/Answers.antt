@@ -39,7 +39,7 @@ pub returns-then-more-clause-did : goal.returns-then-more-clause-did
 returns-then-more-clause-did c =
     let latest : c.self.inside.latest ≡ c.args.self.now.latest = ap (λ (v : SenderValue). v.latest) c.self.view_is in
     let accepted : c.from.result ≡ c.args.self.now.accepted = c.from.ensures ∙ ap (λ (v : SenderValue). v.accepted) c.self.view_is in
-    let size : c.len.result ≡ length c.in-Some.first.now.segments = c.len.ensures ∙ ap (λ (t : TextValue). length t.segments) c.first.view_is in
+    let size : c.len.result ≡ length c.in-Some.first.now.segments = c.len.ensures.count ∙ ap (λ (t : TextValue). length t.segments) c.first.view_is in
     heard_more (λ (d : Does SenderValue). Did d c.args.self.now c.go_on.result c.go_on.new.self) c.args.self.now c.args.tag c.args.cause c.args.report.now
     (ap (λ (t : Tag). same_tag c.args.tag t) (sym latest) ∙ same_parts c.args.tag c.self.inside.latest c.if-tag-self.false c.if-tag-self-2.false) c.in-Some.first.now c.args.self.now.pending
     (some_pending _ _ _ (c.in-Some.ensures.variant.0 refl) c.self.inside.pending.ok.0 (ap (λ (v : SenderValue). length v.pending) c.self.view_is))
@@ -53,7 +53,7 @@ returns-else-more-clause-did c =
     let number : c.len-text.result ≡ length c.args.self.now.ended = c.len-text.ensures ∙ (c.self.inside.ended.ok.0 ∙ ap (λ (v : SenderValue). length v.ended) c.self.view_is) in
     let latest : c.self.inside.latest ≡ c.args.self.now.latest = ap (λ (v : SenderValue). v.latest) c.self.view_is in
     let accepted : c.from.result ≡ c.args.self.now.accepted = c.from.ensures ∙ ap (λ (v : SenderValue). v.accepted) c.self.view_is in
-    let size : c.len.result ≡ length c.in-Some.first.now.segments = c.len.ensures ∙ ap (λ (t : TextValue). length t.segments) c.first.view_is in
+    let size : c.len.result ≡ length c.in-Some.first.now.segments = c.len.ensures.count ∙ ap (λ (t : TextValue). length t.segments) c.first.view_is in
     heard_last (λ (d : Does SenderValue). Did d c.args.self.now c.end-else-more.result c.end-else-more.new.self) c.args.self.now c.args.tag c.args.cause c.args.report.now
     (ap (λ (t : Tag). same_tag c.args.tag t) (sym latest) ∙ same_parts c.args.tag c.self.inside.latest c.if-tag-self.false c.if-tag-self-2.false) c.in-Some.first.now c.args.self.now.pending
     (some_pending _ _ _ (c.in-Some.ensures.variant.0 refl) c.self.inside.pending.ok.0 (ap (λ (v : SenderValue). length v.pending) c.self.view_is))

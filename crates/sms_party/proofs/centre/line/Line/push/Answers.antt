@@ -15,8 +15,8 @@ invariant_of-self c =
     let turned = pushed_queue inside.queue c.promote.new.self (2 ^ 64 - 1) inside.free (c.in-Some.stamp.now, c.in-Some.first.now) c.promote.ensures.entries c.self.invariant.1 c.self.invariant.2 (sym c.in-Some.ensures) in
     (omega arith, turned.0, turned.1)
 
-pub returns : goal.returns
-returns c =
+pub returns-clause-pushes : goal.returns-clause-pushes
+returns-clause-pushes c =
     let inside = c.self.inside in
     let key = c.in-Some.stamp.now in
     let m : WaitingValue = c.in-Some.first.now in

@@ -2,7 +2,7 @@ use Rattle.std.proofs.Common.{List, ◌∙◌, sym, ap, subst}
 use Rattle.sms_party.specs.Centre.Value.{LineValue, CentreValue, addresses, phones_of}
 use Rattle.sms_party.specs.Centre.Standing.{StandsFor}
 use Rattle.sms_party.proofs.Keeping.{stands_later, addresses_later}
-use Rattle.sms_party.proofs.centre.Centre.forget.Goals as goal
+use Rattle.sms_party.proofs.centre.Centre.advance.Goals as goal
 
 pub returns-clause-stands : goal.returns-clause-stands
 returns-clause-stands c = λ limit phones clock s le stands.
