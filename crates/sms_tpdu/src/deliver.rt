@@ -75,9 +75,7 @@ impl Model for Deliver {
 const FRONT_MAX: usize = 22;
 
 impl Unit for Deliver {
-    ghost use Rattle.std.specs.Prelude.{ℕ, List};
     ghost use Rattle.sms_tpdu.specs.Deliver.{deliver, SpellsDeliver};
-    ghost use Rattle.sms_tpdu.specs.declared.fault.UnitFault.TheVariants.{Short};
     ghost use Rattle.sms_tpdu.specs.Deliver.Laws.{deliver_laws};
 
     type Why = UnitFault;

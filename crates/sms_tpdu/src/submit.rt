@@ -76,9 +76,7 @@ impl Model for Submit {
 const FRONT_MAX: usize = 23;
 
 impl Unit for Submit {
-    ghost use Rattle.std.specs.Prelude.{ℕ, List};
     ghost use Rattle.sms_tpdu.specs.Submit.{submit, SpellsSubmit};
-    ghost use Rattle.sms_tpdu.specs.declared.fault.UnitFault.TheVariants.{Short};
     ghost use Rattle.sms_tpdu.specs.Submit.Laws.{submit_laws};
 
     type Why = UnitFault;

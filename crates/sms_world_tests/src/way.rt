@@ -1,6 +1,5 @@
 //! A text of one segment on its way.
 
-ghost use Rattle.std.specs.Prelude.{◌≡◌, length};
 
 use crate::two::{Two, address, all_answer, has_stored, new_two, typing};
 use sms_party::{Outcome, Status};

@@ -1,6 +1,6 @@
 //! The elements of a user data header, where they lie.
 
-ghost use Rattle.std.specs.Prelude.{◌≡◌, length};
+ghost use Rattle.std.specs.Prelude.{length};
 ghost use Rattle.std.specs.Iterator.{at_most};
 ghost use Rattle.sms_tpdu.specs.UserData.Elements.{StartsAt};
 

@@ -4,7 +4,7 @@ ghost use Rattle.std.specs.Prelude.{◌≡◌, ◌<◌, ◌≤◌, ◌++◌, len
 ghost use Rattle.sms_tpdu.specs.UserData.Header.{header};
 ghost use Rattle.sms_tpdu.specs.declared.user_data.concat.Concat.{Concat};
 ghost use Rattle.sms_tpdu.specs.declared.user_data.concat.Width.TheVariants.{Eight};
-ghost use Rattle.sms_tpdu.specs.UserData.Elements.{Element, element_octets};
+ghost use Rattle.sms_tpdu.specs.UserData.Elements.{element_octets};
 ghost use Rattle.sms_tpdu.specs.UserData.ConcatenationFound.{IsPlace, concat_of_header};
 ghost use Rattle.sms_tpdu.specs.UserData.Concatenation.{concat_element, IsInOrder, ToldBy, IsConcatOf};
 
