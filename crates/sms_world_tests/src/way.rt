@@ -1,6 +1,5 @@
 //! A text of one segment on its way.
 
-
 use crate::two::{Two, address, all_answer, has_stored, new_two, typing};
 use sms_party::{Outcome, Status};
 use sms_world::{Event, Limits, World, WorldFault, run};

@@ -1,6 +1,5 @@
 //! Packets that were put out.
 
-
 use std::marker::Model;
 
 /// A packet that was put out, with its way.
