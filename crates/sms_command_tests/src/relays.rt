@@ -4,9 +4,10 @@ mod rows;
 
 use crate::found::{AfterCentre, answer_to, are_answered, is_missed};
 use rows::{
-    ACKNOWLEDGEMENTS, AFTER_CENTRES, CP_DATA_OF_ANSWERS, CP_DATA_OF_TRANSFERS, CP_WITHOUT_DATA,
-    DATA_FROM_PHONES, DATA_TO_PHONES, ERRORS, FAULTS_IN_CP, FAULTS_OF_UNITS, NO_CP_MESSAGES,
-    NO_RP_ADDRESSES, NO_RP_CAUSES, NO_RP_TYPES, NO_RP_USER_DATA, WHOLE_MESSAGES, WholeMessage,
+    ACKNOWLEDGEMENTS, CP_AFTER_CENTRES, CP_DATA_OF_ANSWERS, CP_DATA_OF_TRANSFERS, CP_WITHOUT_DATA,
+    DATA_FROM_PHONES, DATA_TO_PHONES, ERRORS, FAULTS_IN_ANSWERS, FAULTS_IN_TRANSFERS,
+    FAULTS_OF_RP_IN_CP, FAULTS_OF_UNITS_IN_CP, NO_CP_MESSAGES, NO_RP_ADDRESSES, NO_RP_CAUSES,
+    NO_RP_TYPES, NO_RP_USER_DATA, RP_AFTER_CENTRES, WHOLE_MESSAGES, WholeMessage,
 };
 use std::alloc::Global;
 use std::process::Abort;
@@ -53,8 +54,13 @@ fn refuses_what_has_no_rp_cause(rt: HostRuntime) -> Result<(), Fail> {
 }
 
 #[test]
-fn shows_faults_of_units(rt: HostRuntime) -> Result<(), Fail> {
-    are_answered(&rt, rt.alloc(), "rp", FAULTS_OF_UNITS.as_slice(), 1)
+fn shows_faults_in_transfers(rt: HostRuntime) -> Result<(), Fail> {
+    are_answered(&rt, rt.alloc(), "rp", FAULTS_IN_TRANSFERS.as_slice(), 1)
+}
+
+#[test]
+fn shows_faults_in_answers(rt: HostRuntime) -> Result<(), Fail> {
+    are_answered(&rt, rt.alloc(), "rp", FAULTS_IN_ANSWERS.as_slice(), 1)
 }
 
 #[test]
@@ -78,8 +84,13 @@ fn refuses_what_is_no_cp_message(rt: HostRuntime) -> Result<(), Fail> {
 }
 
 #[test]
-fn shows_faults_in_cp(rt: HostRuntime) -> Result<(), Fail> {
-    are_answered(&rt, rt.alloc(), "cp", FAULTS_IN_CP.as_slice(), 1)
+fn shows_faults_of_rp_in_cp(rt: HostRuntime) -> Result<(), Fail> {
+    are_answered(&rt, rt.alloc(), "cp", FAULTS_OF_RP_IN_CP.as_slice(), 1)
+}
+
+#[test]
+fn shows_faults_of_units_in_cp(rt: HostRuntime) -> Result<(), Fail> {
+    are_answered(&rt, rt.alloc(), "cp", FAULTS_OF_UNITS_IN_CP.as_slice(), 1)
 }
 
 /// The octets of a message are missed at each place but where it may end.
@@ -121,6 +132,11 @@ fn are_answered_after_a_centre(
 }
 
 #[test]
-fn shows_messages_after_a_centre(rt: HostRuntime) -> Result<(), Fail> {
-    are_answered_after_a_centre(&rt, rt.alloc(), AFTER_CENTRES.as_slice())
+fn shows_rp_messages_after_a_centre(rt: HostRuntime) -> Result<(), Fail> {
+    are_answered_after_a_centre(&rt, rt.alloc(), RP_AFTER_CENTRES.as_slice())
+}
+
+#[test]
+fn shows_cp_messages_after_a_centre(rt: HostRuntime) -> Result<(), Fail> {
+    are_answered_after_a_centre(&rt, rt.alloc(), CP_AFTER_CENTRES.as_slice())
 }

@@ -4,9 +4,11 @@ mod rows;
 
 use crate::found::{are_answered_after_a_centre, is_answered, is_missed};
 use rows::{
-    AFTER_CENTRES, CAUSES, DATA_LENGTHS, DELIVER_COMBINATIONS, DELIVER_REPORTS, Data,
-    NO_DELIVER_REPORTS, NO_SUBMIT_REPORTS, Report, SUBMIT_COMBINATIONS, SUBMIT_REPORTS, TOO_LONG,
-    WHOLE_REPORTS, WholeReport,
+    CAUSES, DELIVER_ACK_LENGTHS, DELIVER_ACKS, DELIVER_COMBINATIONS, DELIVER_ERROR_LENGTHS,
+    DELIVER_ERRORS, DELIVER_REPORTS_AFTER_CENTRES, Data, NO_DELIVER_REPORTS, NO_SUBMIT_REPORTS,
+    Report, SUBMIT_ACK_LENGTHS, SUBMIT_ACKS, SUBMIT_COMBINATIONS, SUBMIT_ERROR_LENGTHS,
+    SUBMIT_ERRORS, SUBMIT_REPORTS_AFTER_CENTRES, TOO_LONG_DELIVER_ACKS, TOO_LONG_DELIVER_ERRORS,
+    TOO_LONG_SUBMIT_ACKS, TOO_LONG_SUBMIT_ERRORS, WHOLE_REPORTS, WholeReport,
 };
 use std::alloc::Global;
 use std::process::Abort;
@@ -32,13 +34,23 @@ fn shows_each_choice_of_parts_in_deliver_reports(rt: HostRuntime) -> Result<(), 
 }
 
 #[test]
-fn shows_submit_reports(rt: HostRuntime) -> Result<(), Fail> {
-    are_answered(&rt, rt.alloc(), SUBMIT_REPORTS.as_slice(), 0)
+fn shows_submit_acks(rt: HostRuntime) -> Result<(), Fail> {
+    are_answered(&rt, rt.alloc(), SUBMIT_ACKS.as_slice(), 0)
 }
 
 #[test]
-fn shows_deliver_reports(rt: HostRuntime) -> Result<(), Fail> {
-    are_answered(&rt, rt.alloc(), DELIVER_REPORTS.as_slice(), 0)
+fn shows_submit_errors(rt: HostRuntime) -> Result<(), Fail> {
+    are_answered(&rt, rt.alloc(), SUBMIT_ERRORS.as_slice(), 0)
+}
+
+#[test]
+fn shows_deliver_acks(rt: HostRuntime) -> Result<(), Fail> {
+    are_answered(&rt, rt.alloc(), DELIVER_ACKS.as_slice(), 0)
+}
+
+#[test]
+fn shows_deliver_errors(rt: HostRuntime) -> Result<(), Fail> {
+    are_answered(&rt, rt.alloc(), DELIVER_ERRORS.as_slice(), 0)
 }
 
 #[test]
@@ -57,8 +69,23 @@ fn refuses_what_is_no_deliver_report(rt: HostRuntime) -> Result<(), Fail> {
 }
 
 #[test]
-fn refuses_too_long_data(rt: HostRuntime) -> Result<(), Fail> {
-    are_answered(&rt, rt.alloc(), TOO_LONG.as_slice(), 1)
+fn refuses_too_long_data_in_submit_acks(rt: HostRuntime) -> Result<(), Fail> {
+    are_answered(&rt, rt.alloc(), TOO_LONG_SUBMIT_ACKS.as_slice(), 1)
+}
+
+#[test]
+fn refuses_too_long_data_in_submit_errors(rt: HostRuntime) -> Result<(), Fail> {
+    are_answered(&rt, rt.alloc(), TOO_LONG_SUBMIT_ERRORS.as_slice(), 1)
+}
+
+#[test]
+fn refuses_too_long_data_in_deliver_acks(rt: HostRuntime) -> Result<(), Fail> {
+    are_answered(&rt, rt.alloc(), TOO_LONG_DELIVER_ACKS.as_slice(), 1)
+}
+
+#[test]
+fn refuses_too_long_data_in_deliver_errors(rt: HostRuntime) -> Result<(), Fail> {
+    are_answered(&rt, rt.alloc(), TOO_LONG_DELIVER_ERRORS.as_slice(), 1)
 }
 
 /// The lines of a report, with that of its data, `-` where there are none.
@@ -90,8 +117,23 @@ fn have_data(rt: &impl Abort, alloc: Global, rows: &[Data]) -> Result<(), Fail> 
 }
 
 #[test]
-fn shows_data_of_each_length(rt: HostRuntime) -> Result<(), Fail> {
-    have_data(&rt, rt.alloc(), DATA_LENGTHS.as_slice())
+fn shows_data_of_each_length_in_submit_acks(rt: HostRuntime) -> Result<(), Fail> {
+    have_data(&rt, rt.alloc(), SUBMIT_ACK_LENGTHS.as_slice())
+}
+
+#[test]
+fn shows_data_of_each_length_in_submit_errors(rt: HostRuntime) -> Result<(), Fail> {
+    have_data(&rt, rt.alloc(), SUBMIT_ERROR_LENGTHS.as_slice())
+}
+
+#[test]
+fn shows_data_of_each_length_in_deliver_acks(rt: HostRuntime) -> Result<(), Fail> {
+    have_data(&rt, rt.alloc(), DELIVER_ACK_LENGTHS.as_slice())
+}
+
+#[test]
+fn shows_data_of_each_length_in_deliver_errors(rt: HostRuntime) -> Result<(), Fail> {
+    have_data(&rt, rt.alloc(), DELIVER_ERROR_LENGTHS.as_slice())
 }
 
 /// The octets of a report are missed at each place.
@@ -113,6 +155,11 @@ fn misses_each_octet_of_a_report(rt: HostRuntime) -> Result<(), Fail> {
 }
 
 #[test]
-fn shows_reports_after_a_centre(rt: HostRuntime) -> Result<(), Fail> {
-    are_answered_after_a_centre(&rt, rt.alloc(), AFTER_CENTRES.as_slice())
+fn shows_submit_reports_after_a_centre(rt: HostRuntime) -> Result<(), Fail> {
+    are_answered_after_a_centre(&rt, rt.alloc(), SUBMIT_REPORTS_AFTER_CENTRES.as_slice())
+}
+
+#[test]
+fn shows_deliver_reports_after_a_centre(rt: HostRuntime) -> Result<(), Fail> {
+    are_answered_after_a_centre(&rt, rt.alloc(), DELIVER_REPORTS_AFTER_CENTRES.as_slice())
 }

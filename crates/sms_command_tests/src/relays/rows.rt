@@ -533,15 +533,27 @@ pub static NO_RP_CAUSES: [Shown; 16] = [
     },
 ];
 
-/// RP messages whose unit is none, and the answer.
-pub static FAULTS_OF_UNITS: [Shown; 22] = [
+/// RP-DATA whose unit is none, and the answer.
+pub static FAULTS_IN_TRANSFERS: [Shown; 20] = [
     Shown {
         octets: "0000000391010000",
         lines: "rp: data from phone\nreference: 00\naddress: +1000\nat 0: short\n",
     },
     Shown {
+        octets: "000000039101000100",
+        lines: "rp: data from phone\nreference: 00\naddress: +1000\nat 0: wrong type\n",
+    },
+    Shown {
+        octets: "000000039101000102",
+        lines: "rp: data from phone\nreference: 00\naddress: +1000\nat 0: wrong type\n",
+    },
+    Shown {
         octets: "000000039101000101",
         lines: "rp: data from phone\nreference: 00\naddress: +1000\nat 1: short\n",
+    },
+    Shown {
+        octets: "000000039101000A010004910120000002E8",
+        lines: "rp: data from phone\nreference: 00\naddress: +1000\nat 10: short\n",
     },
     Shown {
         octets: "000000039101000A0100150120000002E834",
@@ -560,11 +572,27 @@ pub static FAULTS_OF_UNITS: [Shown; 22] = [
         lines: "rp: data from phone\nreference: 00\naddress: +1000\nat 8: header too long\n",
     },
     Shown {
+        octets: "000000039101000B4100049101200000020300",
+        lines: "rp: data from phone\nreference: 00\naddress: +1000\nat 9: header too long\n",
+    },
+    Shown {
         octets: "000000039101000100FF",
         lines: "rp: data from phone\nreference: 00\naddress: +1000\nrest: 1\nat 0: wrong type\n",
     },
     Shown {
+        octets: "0000000391010011040491101000000010100000000002E834",
+        lines: "rp: data from phone\nreference: 00\naddress: +1000\nat 0: wrong type\n",
+    },
+    Shown {
+        octets: "0100039101000000",
+        lines: "rp: data to phone\nreference: 00\naddress: +1000\nat 0: short\n",
+    },
+    Shown {
         octets: "010003910100000101",
+        lines: "rp: data to phone\nreference: 00\naddress: +1000\nat 0: wrong type\n",
+    },
+    Shown {
+        octets: "010003910100000B010004910120000002E834",
         lines: "rp: data to phone\nreference: 00\naddress: +1000\nat 0: wrong type\n",
     },
     Shown {
@@ -572,12 +600,32 @@ pub static FAULTS_OF_UNITS: [Shown; 22] = [
         lines: "rp: data to phone\nreference: 00\naddress: +1000\nat 16: short\n",
     },
     Shown {
+        octets: "0100039101000003041591",
+        lines: "rp: data to phone\nreference: 00\naddress: +1000\nat 1: address too long\n",
+    },
+    Shown {
+        octets: "010003910100000F0404911010000000101000000000A1",
+        lines: "rp: data to phone\nreference: 00\naddress: +1000\nat 14: data too long\n",
+    },
+    Shown {
         octets: "0100039101000001030102",
         lines: "rp: data to phone\nreference: 00\naddress: +1000\nrest: 2\nat 0: wrong type\n",
     },
     Shown {
+        octets: "00000003910100E9FFFFFFFFFFFFFFFFFFFFFFFFFFFFFFFFFFFFFFFFFFFFFFFFFFFFFFFFFFFFFFFFFFFFFFFFFFFFFFFFFFFFFFFFFFFFFFFFFFFFFFFFFFFFFFFFFFFFFFFFFFFFFFFFFFFFFFFFFFFFFFFFFFFFFFFFFFFFFFFFFFFFFFFFFFFFFFFFFFFFFFFFFFFFFFFFFFFFFFFFFFFFFFFFFFFFFFFFFFFFFFFFFFFFFFFFFFFFFFFFFFFFFFFFFFFFFFFFFFFFFFFFFFFFFFFFFFFFFFFFFFFFFFFFFFFFFFFFFFFFFFFFFFFFFFFFFFFFFFFFFFFFFFFFFFFFFFFFFFFFFFFFFFFFFFFFFFFFFFFFFFFFFFFFFFFFFFFFFFFFFFFFFFFFFFFFFFFFFFFFFFFFFFFFFFFFFFFFFFFFFFFFFFFFFFFFFFFFFFFFFFFFFFFFFFFFFFFFFFFFFFFFFF",
+        lines: "rp: data from phone\nreference: 00\naddress: +1000\nat 0: wrong type\n",
+    },
+];
+
+/// RP-ACK and RP-ERROR whose unit is none, and the answer.
+pub static FAULTS_IN_ANSWERS: [Shown; 23] = [
+    Shown {
         octets: "02004100",
         lines: "rp: ack from phone\nreference: 00\nat 0: short\n",
+    },
+    Shown {
+        octets: "03004100",
+        lines: "rp: ack to phone\nreference: 00\nat 0: short\n",
     },
     Shown {
         octets: "03004100FF",
@@ -588,6 +636,10 @@ pub static FAULTS_OF_UNITS: [Shown; 22] = [
         lines: "rp: ack from phone\nreference: 00\nat 0: wrong type\n",
     },
     Shown {
+        octets: "0200410100",
+        lines: "rp: ack from phone\nreference: 00\nat 1: short\n",
+    },
+    Shown {
         octets: "020041020080",
         lines: "rp: ack from phone\nreference: 00\nat 2: short\n",
     },
@@ -596,20 +648,52 @@ pub static FAULTS_OF_UNITS: [Shown; 22] = [
         lines: "rp: ack from phone\nreference: 00\nat 2: data too long\n",
     },
     Shown {
+        octets: "02004109010000101000000000",
+        lines: "rp: ack from phone\nreference: 00\nat 0: wrong type\n",
+    },
+    Shown {
         octets: "030041020000",
         lines: "rp: ack to phone\nreference: 00\nat 0: wrong type\n",
+    },
+    Shown {
+        octets: "030041020100",
+        lines: "rp: ack to phone\nreference: 00\nat 2: short\n",
+    },
+    Shown {
+        octets: "030041080100001010000000",
+        lines: "rp: ack to phone\nreference: 00\nat 8: short\n",
     },
     Shown {
         octets: "0300410A010400101000000000B6",
         lines: "rp: ack to phone\nreference: 00\nat 9: data too long\n",
     },
     Shown {
+        octets: "0300410102FF",
+        lines: "rp: ack to phone\nreference: 00\nrest: 1\nat 0: wrong type\n",
+    },
+    Shown {
+        octets: "040001164100",
+        lines: "rp: error from phone\nreference: 00\ncause: 22\nat 0: short\n",
+    },
+    Shown {
         octets: "04000116410101",
         lines: "rp: error from phone\nreference: 00\ncause: 22\nat 0: wrong type\n",
     },
     Shown {
+        octets: "04000116410100",
+        lines: "rp: error from phone\nreference: 00\ncause: 22\nat 1: short\n",
+    },
+    Shown {
+        octets: "04000116410200D3",
+        lines: "rp: error from phone\nreference: 00\ncause: 22\nat 2: short\n",
+    },
+    Shown {
         octets: "0400021607410400D304FF00",
         lines: "rp: error from phone\nreference: 00\ncause: 22\ndiagnostic: 7\nrest: 1\nat 3: data too long\n",
+    },
+    Shown {
+        octets: "050001154100",
+        lines: "rp: error to phone\nreference: 00\ncause: 21\nat 0: short\n",
     },
     Shown {
         octets: "05000115410100",
@@ -618,6 +702,10 @@ pub static FAULTS_OF_UNITS: [Shown; 22] = [
     Shown {
         octets: "05000115410901C500001010000000",
         lines: "rp: error to phone\nreference: 00\ncause: 21\nat 9: short\n",
+    },
+    Shown {
+        octets: "05000115410300D300",
+        lines: "rp: error to phone\nreference: 00\ncause: 21\nat 0: wrong type\n",
     },
     Shown {
         octets: "050002958141010241",
@@ -822,7 +910,7 @@ pub static CP_WITHOUT_DATA: [Shown; 13] = [
 ];
 
 /// Octets that are no CP message, and the answer.
-pub static NO_CP_MESSAGES: [Shown; 19] = [
+pub static NO_CP_MESSAGES: [Shown; 30] = [
     Shown {
         octets: "",
         lines: "at 0: short\n",
@@ -836,6 +924,10 @@ pub static NO_CP_MESSAGES: [Shown; 19] = [
         lines: "at 0: not sms\n",
     },
     Shown {
+        octets: "08",
+        lines: "at 0: not sms\n",
+    },
+    Shown {
         octets: "F0",
         lines: "at 0: not sms\n",
     },
@@ -844,7 +936,23 @@ pub static NO_CP_MESSAGES: [Shown; 19] = [
         lines: "at 0: not sms\n",
     },
     Shown {
+        octets: "7A",
+        lines: "at 0: not sms\n",
+    },
+    Shown {
+        octets: "FA02",
+        lines: "at 0: not sms\n",
+    },
+    Shown {
         octets: "79",
+        lines: "at 0: bad transaction\n",
+    },
+    Shown {
+        octets: "F9",
+        lines: "at 0: bad transaction\n",
+    },
+    Shown {
+        octets: "7904",
         lines: "at 0: bad transaction\n",
     },
     Shown {
@@ -860,6 +968,10 @@ pub static NO_CP_MESSAGES: [Shown; 19] = [
         lines: "at 1: unknown type\n",
     },
     Shown {
+        octets: "0903",
+        lines: "at 1: unknown type\n",
+    },
+    Shown {
         octets: "0905",
         lines: "at 1: unknown type\n",
     },
@@ -872,6 +984,10 @@ pub static NO_CP_MESSAGES: [Shown; 19] = [
         lines: "at 1: unknown type\n",
     },
     Shown {
+        octets: "0914",
+        lines: "at 1: unknown type\n",
+    },
+    Shown {
         octets: "09FF",
         lines: "at 1: unknown type\n",
     },
@@ -880,7 +996,15 @@ pub static NO_CP_MESSAGES: [Shown; 19] = [
         lines: "at 1: unknown type\n",
     },
     Shown {
+        octets: "09FF00",
+        lines: "at 1: unknown type\n",
+    },
+    Shown {
         octets: "09",
+        lines: "at 1: short\n",
+    },
+    Shown {
+        octets: "89",
         lines: "at 1: short\n",
     },
     Shown {
@@ -892,6 +1016,10 @@ pub static NO_CP_MESSAGES: [Shown; 19] = [
         lines: "at 2: short\n",
     },
     Shown {
+        octets: "090101",
+        lines: "at 3: short\n",
+    },
+    Shown {
         octets: "0901FF",
         lines: "at 3: short\n",
     },
@@ -899,10 +1027,18 @@ pub static NO_CP_MESSAGES: [Shown; 19] = [
         octets: "89010206",
         lines: "at 4: short\n",
     },
+    Shown {
+        octets: "09011300",
+        lines: "at 4: short\n",
+    },
 ];
 
-/// CP-DATA whose RP message, or whose unit, is none, and the answer.
-pub static FAULTS_IN_CP: [Shown; 18] = [
+/// CP-DATA whose RP message is none, and the answer.
+pub static FAULTS_OF_RP_IN_CP: [Shown; 25] = [
+    Shown {
+        octets: "090100",
+        lines: "cp: data\ntransaction: 0 0\nat 0: short\n",
+    },
     Shown {
         octets: "090100FF",
         lines: "cp: data\ntransaction: 0 0\nrest: 1\nat 0: short\n",
@@ -910,6 +1046,14 @@ pub static FAULTS_IN_CP: [Shown; 18] = [
     Shown {
         octets: "09010106",
         lines: "cp: data\ntransaction: 0 0\nat 0: unknown type\n",
+    },
+    Shown {
+        octets: "09010107FF",
+        lines: "cp: data\ntransaction: 0 0\nrest: 1\nat 0: unknown type\n",
+    },
+    Shown {
+        octets: "09010100",
+        lines: "cp: data\ntransaction: 0 0\nat 1: short\n",
     },
     Shown {
         octets: "0901020000",
@@ -924,16 +1068,48 @@ pub static FAULTS_IN_CP: [Shown; 18] = [
         lines: "cp: data\ntransaction: 0 0\nat 2: bad address\n",
     },
     Shown {
-        octets: "090104020041EA",
-        lines: "cp: data\ntransaction: 0 0\nat 3: data too long\n",
+        octets: "0901040000000C",
+        lines: "cp: data\ntransaction: 0 0\nat 3: bad address\n",
+    },
+    Shown {
+        octets: "090103010001",
+        lines: "cp: data\ntransaction: 0 0\nat 3: short\n",
     },
     Shown {
         octets: "09010701000391010001",
         lines: "cp: data\ntransaction: 0 0\nat 6: bad address\n",
     },
     Shown {
+        octets: "0901060000000391F1",
+        lines: "cp: data\ntransaction: 0 0\nat 5: bad address\n",
+    },
+    Shown {
+        octets: "09010500000000EA",
+        lines: "cp: data\ntransaction: 0 0\nat 4: data too long\n",
+    },
+    Shown {
+        octets: "090104020041EA",
+        lines: "cp: data\ntransaction: 0 0\nat 3: data too long\n",
+    },
+    Shown {
+        octets: "090103050001",
+        lines: "cp: data\ntransaction: 0 0\nat 3: short\n",
+    },
+    Shown {
+        octets: "0901020500",
+        lines: "cp: data\ntransaction: 0 0\nat 2: short\n",
+    },
+    Shown {
         octets: "090103040003",
         lines: "cp: data\ntransaction: 0 0\nat 2: bad cause\n",
+    },
+    Shown {
+        octets: "090103040000",
+        lines: "cp: data\ntransaction: 0 0\nat 2: bad cause\n",
+    },
+    Shown {
+        octets: "8901030400FF",
+        lines: "cp: data\ntransaction: 1 0\nat 2: bad cause\n",
     },
     Shown {
         octets: "0901050500011541",
@@ -944,28 +1120,68 @@ pub static FAULTS_IN_CP: [Shown; 18] = [
         lines: "cp: data\ntransaction: 0 0\nat 5: data too long\n",
     },
     Shown {
+        octets: "090103030041",
+        lines: "cp: data\ntransaction: 0 0\nat 3: short\n",
+    },
+    Shown {
+        octets: "09010106FF",
+        lines: "cp: data\ntransaction: 0 0\nrest: 1\nat 0: unknown type\n",
+    },
+    Shown {
+        octets: "090112000000039101000B010004910120000002E8",
+        lines: "cp: data\ntransaction: 0 0\nat 18: short\n",
+    },
+    Shown {
         octets: "090112000000039101000B010004910120000002E834",
         lines: "cp: data\ntransaction: 0 0\nrest: 1\nat 18: short\n",
+    },
+];
+
+/// CP-DATA with an RP message whose unit is none, and the answer.
+pub static FAULTS_OF_UNITS_IN_CP: [Shown; 14] = [
+    Shown {
+        octets: "090106030041010201",
+        lines: "cp: data\ntransaction: 0 0\nrp: ack to phone\nreference: 00\nrest: 1\nat 0: wrong type\n",
     },
     Shown {
         octets: "0901080000000391010000",
         lines: "cp: data\ntransaction: 0 0\nrp: data from phone\nreference: 00\naddress: +1000\nat 0: short\n",
     },
     Shown {
+        octets: "090109000000039101000100FF",
+        lines: "cp: data\ntransaction: 0 0\nrest: 1\nrp: data from phone\nreference: 00\naddress: +1000\nat 0: wrong type\n",
+    },
+    Shown {
         octets: "09010A000000039101000102FFFFFF",
         lines: "cp: data\ntransaction: 0 0\nrest: 2\nrp: data from phone\nreference: 00\naddress: +1000\nrest: 1\nat 0: wrong type\n",
+    },
+    Shown {
+        octets: "090109010003910100000101",
+        lines: "cp: data\ntransaction: 0 0\nrp: data to phone\nreference: 00\naddress: +1000\nat 0: wrong type\n",
+    },
+    Shown {
+        octets: "0901190100039101000010040491101000000010100000000002E800",
+        lines: "cp: data\ntransaction: 0 0\nrp: data to phone\nreference: 00\naddress: +1000\nrest: 1\nat 16: short\n",
     },
     Shown {
         octets: "0901180100039101000010040491101000000010100000000002E800",
         lines: "cp: data\ntransaction: 0 0\nrest: 1\nrp: data to phone\nreference: 00\naddress: +1000\nat 16: short\n",
     },
     Shown {
+        octets: "09010403004100",
+        lines: "cp: data\ntransaction: 0 0\nrp: ack to phone\nreference: 00\nat 0: short\n",
+    },
+    Shown {
         octets: "0901040200410041",
         lines: "cp: data\ntransaction: 0 0\nrest: 1\nrp: ack from phone\nreference: 00\nat 0: short\n",
     },
     Shown {
-        octets: "090106030041010201",
-        lines: "cp: data\ntransaction: 0 0\nrp: ack to phone\nreference: 00\nrest: 1\nat 0: wrong type\n",
+        octets: "890106030041020000",
+        lines: "cp: data\ntransaction: 1 0\nrp: ack to phone\nreference: 00\nat 0: wrong type\n",
+    },
+    Shown {
+        octets: "090106020041020080",
+        lines: "cp: data\ntransaction: 0 0\nrp: ack from phone\nreference: 00\nat 2: short\n",
     },
     Shown {
         octets: "89010805000115410201C5",
@@ -974,6 +1190,10 @@ pub static FAULTS_IN_CP: [Shown; 18] = [
     Shown {
         octets: "89010704000116410101",
         lines: "cp: data\ntransaction: 1 0\nrp: error from phone\nreference: 00\ncause: 22\nat 0: wrong type\n",
+    },
+    Shown {
+        octets: "09011100000003910100090100049101200000A1",
+        lines: "cp: data\ntransaction: 0 0\nrp: data from phone\nreference: 00\naddress: +1000\nat 8: data too long\n",
     },
 ];
 
@@ -1043,13 +1263,25 @@ pub static WHOLE_MESSAGES: [WholeMessage; 12] = [
     },
 ];
 
-/// RP and CP messages after the address of a service centre, the status and the answer.
-pub static AFTER_CENTRES: [AfterCentre; 15] = [
+/// RP messages after the address of a service centre, the status and the answer.
+pub static RP_AFTER_CENTRES: [AfterCentre; 13] = [
     AfterCentre {
         kind: "rp",
         octets: "00000000039101000B010004910120000002E834",
         status: 0,
         answer: "centre: none\nrp: data from phone\nreference: 00\naddress: +1000\ntype: submit\nreject: no\nreport: no\nreply: no\nreference: 00\nto: +1002\nnumber: 1 1\npid: 00\ndcs: 00\nvalidity: none\nlength: 2\ntext: hi\n",
+    },
+    AfterCentre {
+        kind: "rp",
+        octets: "07917283010010F50100039101000011040491101000000010100000000002E834",
+        status: 0,
+        answer: "centre: +27381000015\nrp: data to phone\nreference: 00\naddress: +1000\ntype: deliver\nmore: no\nloop: no\nreport: no\nreply: no\nfrom: +0101\nnumber: 1 1\npid: 00\ndcs: 00\nstamp: 2000-01-01 00:00:00 +00:00\nlength: 2\ntext: hi\n",
+    },
+    AfterCentre {
+        kind: "rp",
+        octets: "01910200",
+        status: 0,
+        answer: "centre: +\nrp: ack from phone\nreference: 00\nuser: none\n",
     },
     AfterCentre {
         kind: "rp",
@@ -1065,9 +1297,21 @@ pub static AFTER_CENTRES: [AfterCentre; 15] = [
     },
     AfterCentre {
         kind: "rp",
+        octets: "0005000115410A01C50000101000000000FF",
+        status: 0,
+        answer: "centre: none\nrp: error to phone\nreference: 00\ncause: 21\nrest: 1\ntype: submit-error\nheader: no\ncause: C5\nstamp: 2000-01-01 00:00:00 +00:00\n",
+    },
+    AfterCentre {
+        kind: "rp",
         octets: "00",
         status: 1,
         answer: "centre: none\nat 0: short\n",
+    },
+    AfterCentre {
+        kind: "rp",
+        octets: "0006",
+        status: 1,
+        answer: "centre: none\nat 0: unknown type\n",
     },
     AfterCentre {
         kind: "rp",
@@ -1089,9 +1333,25 @@ pub static AFTER_CENTRES: [AfterCentre; 15] = [
     },
     AfterCentre {
         kind: "rp",
+        octets: "0291",
+        status: 1,
+        answer: "at 2: short\n",
+    },
+    AfterCentre {
+        kind: "rp",
         octets: "02911F000000039101000B010004910120000002E834",
         status: 1,
         answer: "at 2: bad address\n",
+    },
+];
+
+/// CP messages after the address of a service centre, the status and the answer.
+pub static CP_AFTER_CENTRES: [AfterCentre; 17] = [
+    AfterCentre {
+        kind: "cp",
+        octets: "00090113000000039101000B010004910120000002E834",
+        status: 0,
+        answer: "centre: none\ncp: data\ntransaction: 0 0\nrp: data from phone\nreference: 00\naddress: +1000\ntype: submit\nreject: no\nreport: no\nreply: no\nreference: 00\nto: +1002\nnumber: 1 1\npid: 00\ndcs: 00\nvalidity: none\nlength: 2\ntext: hi\n",
     },
     AfterCentre {
         kind: "cp",
@@ -1101,15 +1361,57 @@ pub static AFTER_CENTRES: [AfterCentre; 15] = [
     },
     AfterCentre {
         kind: "cp",
+        octets: "008904",
+        status: 0,
+        answer: "centre: none\ncp: ack\ntransaction: 1 0\n",
+    },
+    AfterCentre {
+        kind: "cp",
         octets: "0191091011FF",
         status: 0,
         answer: "centre: +\ncp: error\ntransaction: 0 0\ncause: 17\nrest: 1\n",
     },
     AfterCentre {
         kind: "cp",
+        octets: "000901020200",
+        status: 0,
+        answer: "centre: none\ncp: data\ntransaction: 0 0\nrp: ack from phone\nreference: 00\nuser: none\n",
+    },
+    AfterCentre {
+        kind: "cp",
+        octets: "018189010D03004109010000101000000000",
+        status: 0,
+        answer: "centre: \ncp: data\ntransaction: 1 0\nrp: ack to phone\nreference: 00\ntype: submit-ack\nheader: no\nstamp: 2000-01-01 00:00:00 +00:00\n",
+    },
+    AfterCentre {
+        kind: "cp",
+        octets: "0009010904000116410300D300",
+        status: 0,
+        answer: "centre: none\ncp: data\ntransaction: 0 0\nrp: error from phone\nreference: 00\ncause: 22\ntype: deliver-error\nheader: no\ncause: D3\n",
+    },
+    AfterCentre {
+        kind: "cp",
+        octets: "0099011005000115410A01C50000101000000000",
+        status: 0,
+        answer: "centre: none\ncp: data\ntransaction: 1 1\nrp: error to phone\nreference: 00\ncause: 21\ntype: submit-error\nheader: no\ncause: C5\nstamp: 2000-01-01 00:00:00 +00:00\n",
+    },
+    AfterCentre {
+        kind: "cp",
+        octets: "00",
+        status: 1,
+        answer: "centre: none\nat 0: short\n",
+    },
+    AfterCentre {
+        kind: "cp",
         octets: "008A",
         status: 1,
         answer: "centre: none\nat 0: not sms\n",
+    },
+    AfterCentre {
+        kind: "cp",
+        octets: "0079",
+        status: 1,
+        answer: "centre: none\nat 0: bad transaction\n",
     },
     AfterCentre {
         kind: "cp",
@@ -1128,6 +1430,18 @@ pub static AFTER_CENTRES: [AfterCentre; 15] = [
         octets: "00090109010003910100000101",
         status: 1,
         answer: "centre: none\ncp: data\ntransaction: 0 0\nrp: data to phone\nreference: 00\naddress: +1000\nat 0: wrong type\n",
+    },
+    AfterCentre {
+        kind: "cp",
+        octets: "0B91F1F1F1F1F1",
+        status: 1,
+        answer: "at 2: bad address\n",
+    },
+    AfterCentre {
+        kind: "cp",
+        octets: "0C",
+        status: 1,
+        answer: "at 0: bad address\n",
     },
     AfterCentre {
         kind: "cp",

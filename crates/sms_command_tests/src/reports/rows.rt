@@ -193,9 +193,8 @@ pub static DELIVER_COMBINATIONS: [Report; 16] = [
     },
 ];
 
-/// SMS-SUBMIT-REPORT with bits that are ignored, headers, codings and octets after it, and the
-/// answer.
-pub static SUBMIT_REPORTS: [Report; 20] = [
+/// SMS-SUBMIT-REPORT under RP-ACK, and the answer.
+pub static SUBMIT_ACKS: [Report; 16] = [
     Report {
         kind: "submit-ack",
         octets: "01800099309251619580",
@@ -276,10 +275,44 @@ pub static SUBMIT_REPORTS: [Report; 20] = [
         octets: "01000010100000002B",
         answer: "type: submit-ack\nheader: no\nstamp: 2000-01-01 00:00:00 -08:00\n",
     },
+];
+
+/// SMS-SUBMIT-REPORT under RP-ERROR, and the answer.
+pub static SUBMIT_ERRORS: [Report; 16] = [
+    Report {
+        kind: "submit-error",
+        octets: "01D3800099309251619580",
+        answer: "type: submit-error\nheader: no\ncause: D3\nstamp: 2099-03-29 15:16:59 +02:00\n",
+    },
+    Report {
+        kind: "submit-error",
+        octets: "01D3800799309251619580",
+        answer: "type: submit-error\nheader: no\ncause: D3\nstamp: 2099-03-29 15:16:59 +02:00\n",
+    },
     Report {
         kind: "submit-error",
         octets: "01D3857F993092516195801102E834",
         answer: "type: submit-error\nheader: no\ncause: D3\nstamp: 2099-03-29 15:16:59 +02:00\npid: 11\nlength: 2\nuser: E834\n",
+    },
+    Report {
+        kind: "submit-error",
+        octets: "01D382FF009930925161958008",
+        answer: "type: submit-error\nheader: no\ncause: D3\nstamp: 2099-03-29 15:16:59 +02:00\ndcs: 08\n",
+    },
+    Report {
+        kind: "submit-error",
+        octets: "01D387FAFD789930925161958012F40141",
+        answer: "type: submit-error\nheader: no\ncause: D3\nstamp: 2099-03-29 15:16:59 +02:00\npid: 12\ndcs: F4\nlength: 1\nuser: 41\n",
+    },
+    Report {
+        kind: "submit-error",
+        octets: "01D3F87899309251619580",
+        answer: "type: submit-error\nheader: no\ncause: D3\nstamp: 2099-03-29 15:16:59 +02:00\n",
+    },
+    Report {
+        kind: "submit-error",
+        octets: "41D30099309251619580",
+        answer: "type: submit-error\nheader: yes\ncause: D3\nstamp: 2099-03-29 15:16:59 +02:00\n",
     },
     Report {
         kind: "submit-error",
@@ -293,18 +326,77 @@ pub static SUBMIT_REPORTS: [Report; 20] = [
     },
     Report {
         kind: "submit-error",
+        octets: "01D30099309251619580010203",
+        answer: "type: submit-error\nheader: no\ncause: D3\nstamp: 2099-03-29 15:16:59 +02:00\nrest: 3\n",
+    },
+    Report {
+        kind: "submit-error",
         octets: "01D3049930925161958000FF",
         answer: "type: submit-error\nheader: no\ncause: D3\nstamp: 2099-03-29 15:16:59 +02:00\nlength: 0\nuser: -\nrest: 1\n",
     },
+    Report {
+        kind: "submit-error",
+        octets: "01D3069930925161958008030436FF",
+        answer: "type: submit-error\nheader: no\ncause: D3\nstamp: 2099-03-29 15:16:59 +02:00\ndcs: 08\nlength: 3\nuser: 0436FF\n",
+    },
+    Report {
+        kind: "submit-error",
+        octets: "01D30699309251619580C808E170381C0E87C3",
+        answer: "type: submit-error\nheader: no\ncause: D3\nstamp: 2099-03-29 15:16:59 +02:00\ndcs: C8\nlength: 8\nuser: E170381C0E87C3\n",
+    },
+    Report {
+        kind: "submit-error",
+        octets: "01D306993092516195802002FFFE",
+        answer: "type: submit-error\nheader: no\ncause: D3\nstamp: 2099-03-29 15:16:59 +02:00\ndcs: 20\nlength: 2\nuser: FFFE\n",
+    },
+    Report {
+        kind: "submit-error",
+        octets: "01D30000000000000000",
+        answer: "type: submit-error\nheader: no\ncause: D3\nstamp: raw 00000000000000\n",
+    },
+    Report {
+        kind: "submit-error",
+        octets: "01D30000101000001000",
+        answer: "type: submit-error\nheader: no\ncause: D3\nstamp: 2000-01-01 00:00:01 +00:00\n",
+    },
 ];
 
-/// SMS-DELIVER-REPORT with bits that are ignored, headers, codings and octets after it, and the
-/// answer.
-pub static DELIVER_REPORTS: [Report; 18] = [
+/// SMS-DELIVER-REPORT under RP-ACK, and the answer.
+pub static DELIVER_ACKS: [Report; 14] = [
+    Report {
+        kind: "deliver-ack",
+        octets: "008000",
+        answer: "type: deliver-ack\nheader: no\n",
+    },
+    Report {
+        kind: "deliver-ack",
+        octets: "008007",
+        answer: "type: deliver-ack\nheader: no\n",
+    },
     Report {
         kind: "deliver-ack",
         octets: "00857F1102E834",
         answer: "type: deliver-ack\nheader: no\npid: 11\nlength: 2\nuser: E834\n",
+    },
+    Report {
+        kind: "deliver-ack",
+        octets: "0082FF0008",
+        answer: "type: deliver-ack\nheader: no\ndcs: 08\n",
+    },
+    Report {
+        kind: "deliver-ack",
+        octets: "0087FAFD7812F40141",
+        answer: "type: deliver-ack\nheader: no\npid: 12\ndcs: F4\nlength: 1\nuser: 41\n",
+    },
+    Report {
+        kind: "deliver-ack",
+        octets: "00F878",
+        answer: "type: deliver-ack\nheader: no\n",
+    },
+    Report {
+        kind: "deliver-ack",
+        octets: "4000",
+        answer: "type: deliver-ack\nheader: yes\n",
     },
     Report {
         kind: "deliver-ack",
@@ -318,9 +410,33 @@ pub static DELIVER_REPORTS: [Report; 18] = [
     },
     Report {
         kind: "deliver-ack",
+        octets: "0000010203",
+        answer: "type: deliver-ack\nheader: no\nrest: 3\n",
+    },
+    Report {
+        kind: "deliver-ack",
         octets: "000400FF",
         answer: "type: deliver-ack\nheader: no\nlength: 0\nuser: -\nrest: 1\n",
     },
+    Report {
+        kind: "deliver-ack",
+        octets: "000608030436FF",
+        answer: "type: deliver-ack\nheader: no\ndcs: 08\nlength: 3\nuser: 0436FF\n",
+    },
+    Report {
+        kind: "deliver-ack",
+        octets: "0006C808E170381C0E87C3",
+        answer: "type: deliver-ack\nheader: no\ndcs: C8\nlength: 8\nuser: E170381C0E87C3\n",
+    },
+    Report {
+        kind: "deliver-ack",
+        octets: "00062002FFFE",
+        answer: "type: deliver-ack\nheader: no\ndcs: 20\nlength: 2\nuser: FFFE\n",
+    },
+];
+
+/// SMS-DELIVER-REPORT under RP-ERROR, and the answer.
+pub static DELIVER_ERRORS: [Report; 14] = [
     Report {
         kind: "deliver-error",
         octets: "00D38000",
@@ -502,8 +618,8 @@ pub static CAUSES: [Report; 21] = [
     },
 ];
 
-/// Reports by the length of their data, from none to the greatest of each alphabet.
-pub static DATA_LENGTHS: [Data; 12] = [
+/// SMS-SUBMIT-REPORT under RP-ACK, by the length of its data and by its parts.
+pub static SUBMIT_ACK_LENGTHS: [Data; 16] = [
     Data {
         kind: "submit-ack",
         front: "010499309251619580",
@@ -514,9 +630,100 @@ pub static DATA_LENGTHS: [Data; 12] = [
     Data {
         kind: "submit-ack",
         front: "010499309251619580",
+        length: "01",
+        count: 1,
+        lines: "type: submit-ack\nheader: no\nstamp: 2099-03-29 15:16:59 +02:00\nlength: 1\n",
+    },
+    Data {
+        kind: "submit-ack",
+        front: "010499309251619580",
+        length: "B4",
+        count: 158,
+        lines: "type: submit-ack\nheader: no\nstamp: 2099-03-29 15:16:59 +02:00\nlength: 180\n",
+    },
+    Data {
+        kind: "submit-ack",
+        front: "010499309251619580",
         length: "B5",
         count: 159,
         lines: "type: submit-ack\nheader: no\nstamp: 2099-03-29 15:16:59 +02:00\nlength: 181\n",
+    },
+    Data {
+        kind: "submit-ack",
+        front: "01069930925161958000",
+        length: "00",
+        count: 0,
+        lines: "type: submit-ack\nheader: no\nstamp: 2099-03-29 15:16:59 +02:00\ndcs: 00\nlength: 0\n",
+    },
+    Data {
+        kind: "submit-ack",
+        front: "01069930925161958000",
+        length: "01",
+        count: 1,
+        lines: "type: submit-ack\nheader: no\nstamp: 2099-03-29 15:16:59 +02:00\ndcs: 00\nlength: 1\n",
+    },
+    Data {
+        kind: "submit-ack",
+        front: "01069930925161958000",
+        length: "B4",
+        count: 158,
+        lines: "type: submit-ack\nheader: no\nstamp: 2099-03-29 15:16:59 +02:00\ndcs: 00\nlength: 180\n",
+    },
+    Data {
+        kind: "submit-ack",
+        front: "01069930925161958000",
+        length: "B5",
+        count: 159,
+        lines: "type: submit-ack\nheader: no\nstamp: 2099-03-29 15:16:59 +02:00\ndcs: 00\nlength: 181\n",
+    },
+    Data {
+        kind: "submit-ack",
+        front: "01069930925161958004",
+        length: "00",
+        count: 0,
+        lines: "type: submit-ack\nheader: no\nstamp: 2099-03-29 15:16:59 +02:00\ndcs: 04\nlength: 0\n",
+    },
+    Data {
+        kind: "submit-ack",
+        front: "01069930925161958004",
+        length: "01",
+        count: 1,
+        lines: "type: submit-ack\nheader: no\nstamp: 2099-03-29 15:16:59 +02:00\ndcs: 04\nlength: 1\n",
+    },
+    Data {
+        kind: "submit-ack",
+        front: "01069930925161958004",
+        length: "9E",
+        count: 158,
+        lines: "type: submit-ack\nheader: no\nstamp: 2099-03-29 15:16:59 +02:00\ndcs: 04\nlength: 158\n",
+    },
+    Data {
+        kind: "submit-ack",
+        front: "01069930925161958004",
+        length: "9F",
+        count: 159,
+        lines: "type: submit-ack\nheader: no\nstamp: 2099-03-29 15:16:59 +02:00\ndcs: 04\nlength: 159\n",
+    },
+    Data {
+        kind: "submit-ack",
+        front: "0107993092516195800008",
+        length: "00",
+        count: 0,
+        lines: "type: submit-ack\nheader: no\nstamp: 2099-03-29 15:16:59 +02:00\npid: 00\ndcs: 08\nlength: 0\n",
+    },
+    Data {
+        kind: "submit-ack",
+        front: "0107993092516195800008",
+        length: "01",
+        count: 1,
+        lines: "type: submit-ack\nheader: no\nstamp: 2099-03-29 15:16:59 +02:00\npid: 00\ndcs: 08\nlength: 1\n",
+    },
+    Data {
+        kind: "submit-ack",
+        front: "0107993092516195800008",
+        length: "9E",
+        count: 158,
+        lines: "type: submit-ack\nheader: no\nstamp: 2099-03-29 15:16:59 +02:00\npid: 00\ndcs: 08\nlength: 158\n",
     },
     Data {
         kind: "submit-ack",
@@ -524,6 +731,17 @@ pub static DATA_LENGTHS: [Data; 12] = [
         length: "9F",
         count: 159,
         lines: "type: submit-ack\nheader: no\nstamp: 2099-03-29 15:16:59 +02:00\npid: 00\ndcs: 08\nlength: 159\n",
+    },
+];
+
+/// SMS-SUBMIT-REPORT under RP-ERROR, by the length of its data and by its parts.
+pub static SUBMIT_ERROR_LENGTHS: [Data; 16] = [
+    Data {
+        kind: "submit-error",
+        front: "01D30499309251619580",
+        length: "00",
+        count: 0,
+        lines: "type: submit-error\nheader: no\ncause: D3\nstamp: 2099-03-29 15:16:59 +02:00\nlength: 0\n",
     },
     Data {
         kind: "submit-error",
@@ -534,10 +752,66 @@ pub static DATA_LENGTHS: [Data; 12] = [
     },
     Data {
         kind: "submit-error",
+        front: "01D30499309251619580",
+        length: "B4",
+        count: 158,
+        lines: "type: submit-error\nheader: no\ncause: D3\nstamp: 2099-03-29 15:16:59 +02:00\nlength: 180\n",
+    },
+    Data {
+        kind: "submit-error",
+        front: "01D30499309251619580",
+        length: "B5",
+        count: 159,
+        lines: "type: submit-error\nheader: no\ncause: D3\nstamp: 2099-03-29 15:16:59 +02:00\nlength: 181\n",
+    },
+    Data {
+        kind: "submit-error",
+        front: "01D3069930925161958000",
+        length: "00",
+        count: 0,
+        lines: "type: submit-error\nheader: no\ncause: D3\nstamp: 2099-03-29 15:16:59 +02:00\ndcs: 00\nlength: 0\n",
+    },
+    Data {
+        kind: "submit-error",
+        front: "01D3069930925161958000",
+        length: "01",
+        count: 1,
+        lines: "type: submit-error\nheader: no\ncause: D3\nstamp: 2099-03-29 15:16:59 +02:00\ndcs: 00\nlength: 1\n",
+    },
+    Data {
+        kind: "submit-error",
         front: "01D3069930925161958000",
         length: "B4",
         count: 158,
         lines: "type: submit-error\nheader: no\ncause: D3\nstamp: 2099-03-29 15:16:59 +02:00\ndcs: 00\nlength: 180\n",
+    },
+    Data {
+        kind: "submit-error",
+        front: "01D3069930925161958000",
+        length: "B5",
+        count: 159,
+        lines: "type: submit-error\nheader: no\ncause: D3\nstamp: 2099-03-29 15:16:59 +02:00\ndcs: 00\nlength: 181\n",
+    },
+    Data {
+        kind: "submit-error",
+        front: "01D3069930925161958004",
+        length: "00",
+        count: 0,
+        lines: "type: submit-error\nheader: no\ncause: D3\nstamp: 2099-03-29 15:16:59 +02:00\ndcs: 04\nlength: 0\n",
+    },
+    Data {
+        kind: "submit-error",
+        front: "01D3069930925161958004",
+        length: "01",
+        count: 1,
+        lines: "type: submit-error\nheader: no\ncause: D3\nstamp: 2099-03-29 15:16:59 +02:00\ndcs: 04\nlength: 1\n",
+    },
+    Data {
+        kind: "submit-error",
+        front: "01D3069930925161958004",
+        length: "9E",
+        count: 158,
+        lines: "type: submit-error\nheader: no\ncause: D3\nstamp: 2099-03-29 15:16:59 +02:00\ndcs: 04\nlength: 158\n",
     },
     Data {
         kind: "submit-error",
@@ -547,11 +821,85 @@ pub static DATA_LENGTHS: [Data; 12] = [
         lines: "type: submit-error\nheader: no\ncause: D3\nstamp: 2099-03-29 15:16:59 +02:00\ndcs: 04\nlength: 159\n",
     },
     Data {
+        kind: "submit-error",
+        front: "01D307993092516195800008",
+        length: "00",
+        count: 0,
+        lines: "type: submit-error\nheader: no\ncause: D3\nstamp: 2099-03-29 15:16:59 +02:00\npid: 00\ndcs: 08\nlength: 0\n",
+    },
+    Data {
+        kind: "submit-error",
+        front: "01D307993092516195800008",
+        length: "01",
+        count: 1,
+        lines: "type: submit-error\nheader: no\ncause: D3\nstamp: 2099-03-29 15:16:59 +02:00\npid: 00\ndcs: 08\nlength: 1\n",
+    },
+    Data {
+        kind: "submit-error",
+        front: "01D307993092516195800008",
+        length: "9E",
+        count: 158,
+        lines: "type: submit-error\nheader: no\ncause: D3\nstamp: 2099-03-29 15:16:59 +02:00\npid: 00\ndcs: 08\nlength: 158\n",
+    },
+    Data {
+        kind: "submit-error",
+        front: "01D307993092516195800008",
+        length: "9F",
+        count: 159,
+        lines: "type: submit-error\nheader: no\ncause: D3\nstamp: 2099-03-29 15:16:59 +02:00\npid: 00\ndcs: 08\nlength: 159\n",
+    },
+];
+
+/// SMS-DELIVER-REPORT under RP-ACK, by the length of its data and by its parts.
+pub static DELIVER_ACK_LENGTHS: [Data; 16] = [
+    Data {
         kind: "deliver-ack",
         front: "0004",
         length: "00",
         count: 0,
         lines: "type: deliver-ack\nheader: no\nlength: 0\n",
+    },
+    Data {
+        kind: "deliver-ack",
+        front: "0004",
+        length: "01",
+        count: 1,
+        lines: "type: deliver-ack\nheader: no\nlength: 1\n",
+    },
+    Data {
+        kind: "deliver-ack",
+        front: "0004",
+        length: "B4",
+        count: 158,
+        lines: "type: deliver-ack\nheader: no\nlength: 180\n",
+    },
+    Data {
+        kind: "deliver-ack",
+        front: "0004",
+        length: "B5",
+        count: 159,
+        lines: "type: deliver-ack\nheader: no\nlength: 181\n",
+    },
+    Data {
+        kind: "deliver-ack",
+        front: "000600",
+        length: "00",
+        count: 0,
+        lines: "type: deliver-ack\nheader: no\ndcs: 00\nlength: 0\n",
+    },
+    Data {
+        kind: "deliver-ack",
+        front: "000600",
+        length: "01",
+        count: 1,
+        lines: "type: deliver-ack\nheader: no\ndcs: 00\nlength: 1\n",
+    },
+    Data {
+        kind: "deliver-ack",
+        front: "000600",
+        length: "B4",
+        count: 158,
+        lines: "type: deliver-ack\nheader: no\ndcs: 00\nlength: 180\n",
     },
     Data {
         kind: "deliver-ack",
@@ -562,10 +910,84 @@ pub static DATA_LENGTHS: [Data; 12] = [
     },
     Data {
         kind: "deliver-ack",
+        front: "000604",
+        length: "00",
+        count: 0,
+        lines: "type: deliver-ack\nheader: no\ndcs: 04\nlength: 0\n",
+    },
+    Data {
+        kind: "deliver-ack",
+        front: "000604",
+        length: "01",
+        count: 1,
+        lines: "type: deliver-ack\nheader: no\ndcs: 04\nlength: 1\n",
+    },
+    Data {
+        kind: "deliver-ack",
+        front: "000604",
+        length: "9E",
+        count: 158,
+        lines: "type: deliver-ack\nheader: no\ndcs: 04\nlength: 158\n",
+    },
+    Data {
+        kind: "deliver-ack",
+        front: "000604",
+        length: "9F",
+        count: 159,
+        lines: "type: deliver-ack\nheader: no\ndcs: 04\nlength: 159\n",
+    },
+    Data {
+        kind: "deliver-ack",
+        front: "00070008",
+        length: "00",
+        count: 0,
+        lines: "type: deliver-ack\nheader: no\npid: 00\ndcs: 08\nlength: 0\n",
+    },
+    Data {
+        kind: "deliver-ack",
+        front: "00070008",
+        length: "01",
+        count: 1,
+        lines: "type: deliver-ack\nheader: no\npid: 00\ndcs: 08\nlength: 1\n",
+    },
+    Data {
+        kind: "deliver-ack",
         front: "00070008",
         length: "9E",
         count: 158,
         lines: "type: deliver-ack\nheader: no\npid: 00\ndcs: 08\nlength: 158\n",
+    },
+    Data {
+        kind: "deliver-ack",
+        front: "00070008",
+        length: "9F",
+        count: 159,
+        lines: "type: deliver-ack\nheader: no\npid: 00\ndcs: 08\nlength: 159\n",
+    },
+];
+
+/// SMS-DELIVER-REPORT under RP-ERROR, by the length of its data and by its parts.
+pub static DELIVER_ERROR_LENGTHS: [Data; 16] = [
+    Data {
+        kind: "deliver-error",
+        front: "00D304",
+        length: "00",
+        count: 0,
+        lines: "type: deliver-error\nheader: no\ncause: D3\nlength: 0\n",
+    },
+    Data {
+        kind: "deliver-error",
+        front: "00D304",
+        length: "01",
+        count: 1,
+        lines: "type: deliver-error\nheader: no\ncause: D3\nlength: 1\n",
+    },
+    Data {
+        kind: "deliver-error",
+        front: "00D304",
+        length: "B4",
+        count: 158,
+        lines: "type: deliver-error\nheader: no\ncause: D3\nlength: 180\n",
     },
     Data {
         kind: "deliver-error",
@@ -576,10 +998,80 @@ pub static DATA_LENGTHS: [Data; 12] = [
     },
     Data {
         kind: "deliver-error",
+        front: "00D30600",
+        length: "00",
+        count: 0,
+        lines: "type: deliver-error\nheader: no\ncause: D3\ndcs: 00\nlength: 0\n",
+    },
+    Data {
+        kind: "deliver-error",
+        front: "00D30600",
+        length: "01",
+        count: 1,
+        lines: "type: deliver-error\nheader: no\ncause: D3\ndcs: 00\nlength: 1\n",
+    },
+    Data {
+        kind: "deliver-error",
+        front: "00D30600",
+        length: "B4",
+        count: 158,
+        lines: "type: deliver-error\nheader: no\ncause: D3\ndcs: 00\nlength: 180\n",
+    },
+    Data {
+        kind: "deliver-error",
+        front: "00D30600",
+        length: "B5",
+        count: 159,
+        lines: "type: deliver-error\nheader: no\ncause: D3\ndcs: 00\nlength: 181\n",
+    },
+    Data {
+        kind: "deliver-error",
+        front: "00D30604",
+        length: "00",
+        count: 0,
+        lines: "type: deliver-error\nheader: no\ncause: D3\ndcs: 04\nlength: 0\n",
+    },
+    Data {
+        kind: "deliver-error",
+        front: "00D30604",
+        length: "01",
+        count: 1,
+        lines: "type: deliver-error\nheader: no\ncause: D3\ndcs: 04\nlength: 1\n",
+    },
+    Data {
+        kind: "deliver-error",
         front: "00D30604",
         length: "9E",
         count: 158,
         lines: "type: deliver-error\nheader: no\ncause: D3\ndcs: 04\nlength: 158\n",
+    },
+    Data {
+        kind: "deliver-error",
+        front: "00D30604",
+        length: "9F",
+        count: 159,
+        lines: "type: deliver-error\nheader: no\ncause: D3\ndcs: 04\nlength: 159\n",
+    },
+    Data {
+        kind: "deliver-error",
+        front: "00D3070008",
+        length: "00",
+        count: 0,
+        lines: "type: deliver-error\nheader: no\ncause: D3\npid: 00\ndcs: 08\nlength: 0\n",
+    },
+    Data {
+        kind: "deliver-error",
+        front: "00D3070008",
+        length: "01",
+        count: 1,
+        lines: "type: deliver-error\nheader: no\ncause: D3\npid: 00\ndcs: 08\nlength: 1\n",
+    },
+    Data {
+        kind: "deliver-error",
+        front: "00D3070008",
+        length: "9E",
+        count: 158,
+        lines: "type: deliver-error\nheader: no\ncause: D3\npid: 00\ndcs: 08\nlength: 158\n",
     },
     Data {
         kind: "deliver-error",
@@ -778,13 +1270,32 @@ pub static NO_DELIVER_REPORTS: [Report; 18] = [
     },
 ];
 
-/// Reports whose TP-UDL is too great for its alphabet, with each choice of parts before it, and the
-/// answer.
-pub static TOO_LONG: [Report; 12] = [
+/// SMS-SUBMIT-REPORT under RP-ACK whose TP-UDL is too great for its alphabet, and the answer.
+pub static TOO_LONG_SUBMIT_ACKS: [Report; 15] = [
     Report {
         kind: "submit-ack",
         octets: "010499309251619580B6A5A5",
         answer: "at 9: data too long\n",
+    },
+    Report {
+        kind: "submit-ack",
+        octets: "010499309251619580FF",
+        answer: "at 9: data too long\n",
+    },
+    Report {
+        kind: "submit-ack",
+        octets: "010499309251619580FFA5A5",
+        answer: "at 9: data too long\n",
+    },
+    Report {
+        kind: "submit-ack",
+        octets: "01069930925161958000B6",
+        answer: "at 10: data too long\n",
+    },
+    Report {
+        kind: "submit-ack",
+        octets: "01069930925161958000B6A5A5",
+        answer: "at 10: data too long\n",
     },
     Report {
         kind: "submit-ack",
@@ -793,8 +1304,57 @@ pub static TOO_LONG: [Report; 12] = [
     },
     Report {
         kind: "submit-ack",
+        octets: "01069930925161958000FFA5A5",
+        answer: "at 10: data too long\n",
+    },
+    Report {
+        kind: "submit-ack",
+        octets: "01069930925161958004A0",
+        answer: "at 10: data too long\n",
+    },
+    Report {
+        kind: "submit-ack",
+        octets: "01069930925161958004A0A5A5",
+        answer: "at 10: data too long\n",
+    },
+    Report {
+        kind: "submit-ack",
+        octets: "01069930925161958004FF",
+        answer: "at 10: data too long\n",
+    },
+    Report {
+        kind: "submit-ack",
+        octets: "01069930925161958004FFA5A5",
+        answer: "at 10: data too long\n",
+    },
+    Report {
+        kind: "submit-ack",
         octets: "0107993092516195800008A0",
         answer: "at 11: data too long\n",
+    },
+    Report {
+        kind: "submit-ack",
+        octets: "0107993092516195800008A0A5A5",
+        answer: "at 11: data too long\n",
+    },
+    Report {
+        kind: "submit-ack",
+        octets: "0107993092516195800008FF",
+        answer: "at 11: data too long\n",
+    },
+    Report {
+        kind: "submit-ack",
+        octets: "0107993092516195800008FFA5A5",
+        answer: "at 11: data too long\n",
+    },
+];
+
+/// SMS-SUBMIT-REPORT under RP-ERROR whose TP-UDL is too great for its alphabet, and the answer.
+pub static TOO_LONG_SUBMIT_ERRORS: [Report; 15] = [
+    Report {
+        kind: "submit-error",
+        octets: "01D30499309251619580B6A5A5",
+        answer: "at 10: data too long\n",
     },
     Report {
         kind: "submit-error",
@@ -803,13 +1363,82 @@ pub static TOO_LONG: [Report; 12] = [
     },
     Report {
         kind: "submit-error",
+        octets: "01D30499309251619580FFA5A5",
+        answer: "at 10: data too long\n",
+    },
+    Report {
+        kind: "submit-error",
+        octets: "01D3069930925161958000B6",
+        answer: "at 11: data too long\n",
+    },
+    Report {
+        kind: "submit-error",
+        octets: "01D3069930925161958000B6A5A5",
+        answer: "at 11: data too long\n",
+    },
+    Report {
+        kind: "submit-error",
+        octets: "01D3069930925161958000FF",
+        answer: "at 11: data too long\n",
+    },
+    Report {
+        kind: "submit-error",
+        octets: "01D3069930925161958000FFA5A5",
+        answer: "at 11: data too long\n",
+    },
+    Report {
+        kind: "submit-error",
         octets: "01D3069930925161958004A0",
         answer: "at 11: data too long\n",
     },
     Report {
         kind: "submit-error",
+        octets: "01D3069930925161958004A0A5A5",
+        answer: "at 11: data too long\n",
+    },
+    Report {
+        kind: "submit-error",
+        octets: "01D3069930925161958004FF",
+        answer: "at 11: data too long\n",
+    },
+    Report {
+        kind: "submit-error",
+        octets: "01D3069930925161958004FFA5A5",
+        answer: "at 11: data too long\n",
+    },
+    Report {
+        kind: "submit-error",
+        octets: "01D307993092516195800008A0",
+        answer: "at 12: data too long\n",
+    },
+    Report {
+        kind: "submit-error",
+        octets: "01D307993092516195800008A0A5A5",
+        answer: "at 12: data too long\n",
+    },
+    Report {
+        kind: "submit-error",
+        octets: "01D307993092516195800008FF",
+        answer: "at 12: data too long\n",
+    },
+    Report {
+        kind: "submit-error",
         octets: "01D307993092516195800008FFA5A5",
         answer: "at 12: data too long\n",
+    },
+];
+
+/// SMS-DELIVER-REPORT under RP-ACK whose TP-UDL is too great for its alphabet, and the answer.
+pub static TOO_LONG_DELIVER_ACKS: [Report; 15] = [
+    Report {
+        kind: "deliver-ack",
+        octets: "0004B6A5A5",
+        answer: "at 2: data too long\n",
+    },
+    Report {
+        kind: "deliver-ack",
+        octets: "0004FF",
+        answer: "at 2: data too long\n",
     },
     Report {
         kind: "deliver-ack",
@@ -823,13 +1452,102 @@ pub static TOO_LONG: [Report; 12] = [
     },
     Report {
         kind: "deliver-ack",
+        octets: "000600B6A5A5",
+        answer: "at 3: data too long\n",
+    },
+    Report {
+        kind: "deliver-ack",
+        octets: "000600FF",
+        answer: "at 3: data too long\n",
+    },
+    Report {
+        kind: "deliver-ack",
+        octets: "000600FFA5A5",
+        answer: "at 3: data too long\n",
+    },
+    Report {
+        kind: "deliver-ack",
+        octets: "000604A0",
+        answer: "at 3: data too long\n",
+    },
+    Report {
+        kind: "deliver-ack",
+        octets: "000604A0A5A5",
+        answer: "at 3: data too long\n",
+    },
+    Report {
+        kind: "deliver-ack",
+        octets: "000604FF",
+        answer: "at 3: data too long\n",
+    },
+    Report {
+        kind: "deliver-ack",
+        octets: "000604FFA5A5",
+        answer: "at 3: data too long\n",
+    },
+    Report {
+        kind: "deliver-ack",
         octets: "00070008A0",
         answer: "at 4: data too long\n",
     },
     Report {
+        kind: "deliver-ack",
+        octets: "00070008A0A5A5",
+        answer: "at 4: data too long\n",
+    },
+    Report {
+        kind: "deliver-ack",
+        octets: "00070008FF",
+        answer: "at 4: data too long\n",
+    },
+    Report {
+        kind: "deliver-ack",
+        octets: "00070008FFA5A5",
+        answer: "at 4: data too long\n",
+    },
+];
+
+/// SMS-DELIVER-REPORT under RP-ERROR whose TP-UDL is too great for its alphabet, and the answer.
+pub static TOO_LONG_DELIVER_ERRORS: [Report; 15] = [
+    Report {
         kind: "deliver-error",
         octets: "00D304B6A5A5",
         answer: "at 3: data too long\n",
+    },
+    Report {
+        kind: "deliver-error",
+        octets: "00D304FF",
+        answer: "at 3: data too long\n",
+    },
+    Report {
+        kind: "deliver-error",
+        octets: "00D304FFA5A5",
+        answer: "at 3: data too long\n",
+    },
+    Report {
+        kind: "deliver-error",
+        octets: "00D30600B6",
+        answer: "at 4: data too long\n",
+    },
+    Report {
+        kind: "deliver-error",
+        octets: "00D30600B6A5A5",
+        answer: "at 4: data too long\n",
+    },
+    Report {
+        kind: "deliver-error",
+        octets: "00D30600FF",
+        answer: "at 4: data too long\n",
+    },
+    Report {
+        kind: "deliver-error",
+        octets: "00D30600FFA5A5",
+        answer: "at 4: data too long\n",
+    },
+    Report {
+        kind: "deliver-error",
+        octets: "00D30604A0",
+        answer: "at 4: data too long\n",
     },
     Report {
         kind: "deliver-error",
@@ -838,7 +1556,32 @@ pub static TOO_LONG: [Report; 12] = [
     },
     Report {
         kind: "deliver-error",
+        octets: "00D30604FF",
+        answer: "at 4: data too long\n",
+    },
+    Report {
+        kind: "deliver-error",
+        octets: "00D30604FFA5A5",
+        answer: "at 4: data too long\n",
+    },
+    Report {
+        kind: "deliver-error",
+        octets: "00D3070008A0",
+        answer: "at 5: data too long\n",
+    },
+    Report {
+        kind: "deliver-error",
+        octets: "00D3070008A0A5A5",
+        answer: "at 5: data too long\n",
+    },
+    Report {
+        kind: "deliver-error",
         octets: "00D3070008FF",
+        answer: "at 5: data too long\n",
+    },
+    Report {
+        kind: "deliver-error",
+        octets: "00D3070008FFA5A5",
         answer: "at 5: data too long\n",
     },
 ];
@@ -897,8 +1640,8 @@ pub static WHOLE_REPORTS: [WholeReport; 12] = [
     },
 ];
 
-/// Reports after the address of a service centre, the status and the answer.
-pub static AFTER_CENTRES: [AfterCentre; 13] = [
+/// SMS-SUBMIT-REPORT after the address of a service centre, the status and the answer.
+pub static SUBMIT_REPORTS_AFTER_CENTRES: [AfterCentre; 18] = [
     AfterCentre {
         kind: "submit-ack",
         octets: "000107993092516195807F040141",
@@ -955,15 +1698,115 @@ pub static AFTER_CENTRES: [AfterCentre; 13] = [
     },
     AfterCentre {
         kind: "submit-error",
+        octets: "0001D307993092516195807F040141",
+        status: 0,
+        answer: "centre: none\ntype: submit-error\nheader: no\ncause: D3\nstamp: 2099-03-29 15:16:59 +02:00\npid: 7F\ndcs: 04\nlength: 1\nuser: 41\n",
+    },
+    AfterCentre {
+        kind: "submit-error",
         octets: "07917283010010F501D307993092516195807F040141",
         status: 0,
         answer: "centre: +27381000015\ntype: submit-error\nheader: no\ncause: D3\nstamp: 2099-03-29 15:16:59 +02:00\npid: 7F\ndcs: 04\nlength: 1\nuser: 41\n",
+    },
+    AfterCentre {
+        kind: "submit-error",
+        octets: "019101D30099309251619580FF",
+        status: 0,
+        answer: "centre: +\ntype: submit-error\nheader: no\ncause: D3\nstamp: 2099-03-29 15:16:59 +02:00\nrest: 1\n",
+    },
+    AfterCentre {
+        kind: "submit-error",
+        octets: "00",
+        status: 1,
+        answer: "centre: none\nat 0: short\n",
+    },
+    AfterCentre {
+        kind: "submit-error",
+        octets: "0291F101",
+        status: 1,
+        answer: "centre: +1\nat 1: short\n",
+    },
+    AfterCentre {
+        kind: "submit-error",
+        octets: "0002",
+        status: 1,
+        answer: "centre: none\nat 0: wrong type\n",
+    },
+    AfterCentre {
+        kind: "submit-error",
+        octets: "0001D30499309251619580B6",
+        status: 1,
+        answer: "centre: none\nat 10: data too long\n",
+    },
+    AfterCentre {
+        kind: "submit-error",
+        octets: "0C01D307993092516195807F040141",
+        status: 1,
+        answer: "at 0: bad address\n",
+    },
+    AfterCentre {
+        kind: "submit-error",
+        octets: "0291",
+        status: 1,
+        answer: "at 2: short\n",
+    },
+];
+
+/// SMS-DELIVER-REPORT after the address of a service centre, the status and the answer.
+pub static DELIVER_REPORTS_AFTER_CENTRES: [AfterCentre; 18] = [
+    AfterCentre {
+        kind: "deliver-ack",
+        octets: "0000077F040141",
+        status: 0,
+        answer: "centre: none\ntype: deliver-ack\nheader: no\npid: 7F\ndcs: 04\nlength: 1\nuser: 41\n",
+    },
+    AfterCentre {
+        kind: "deliver-ack",
+        octets: "07917283010010F500077F040141",
+        status: 0,
+        answer: "centre: +27381000015\ntype: deliver-ack\nheader: no\npid: 7F\ndcs: 04\nlength: 1\nuser: 41\n",
     },
     AfterCentre {
         kind: "deliver-ack",
         octets: "01910000FF",
         status: 0,
         answer: "centre: +\ntype: deliver-ack\nheader: no\nrest: 1\n",
+    },
+    AfterCentre {
+        kind: "deliver-ack",
+        octets: "00",
+        status: 1,
+        answer: "centre: none\nat 0: short\n",
+    },
+    AfterCentre {
+        kind: "deliver-ack",
+        octets: "0291F100",
+        status: 1,
+        answer: "centre: +1\nat 1: short\n",
+    },
+    AfterCentre {
+        kind: "deliver-ack",
+        octets: "0002",
+        status: 1,
+        answer: "centre: none\nat 0: wrong type\n",
+    },
+    AfterCentre {
+        kind: "deliver-ack",
+        octets: "000004B6",
+        status: 1,
+        answer: "centre: none\nat 2: data too long\n",
+    },
+    AfterCentre {
+        kind: "deliver-ack",
+        octets: "0C00077F040141",
+        status: 1,
+        answer: "at 0: bad address\n",
+    },
+    AfterCentre {
+        kind: "deliver-ack",
+        octets: "0291",
+        status: 1,
+        answer: "at 2: short\n",
     },
     AfterCentre {
         kind: "deliver-error",
@@ -973,8 +1816,50 @@ pub static AFTER_CENTRES: [AfterCentre; 13] = [
     },
     AfterCentre {
         kind: "deliver-error",
+        octets: "07917283010010F500D3077F040141",
+        status: 0,
+        answer: "centre: +27381000015\ntype: deliver-error\nheader: no\ncause: D3\npid: 7F\ndcs: 04\nlength: 1\nuser: 41\n",
+    },
+    AfterCentre {
+        kind: "deliver-error",
+        octets: "019100D300FF",
+        status: 0,
+        answer: "centre: +\ntype: deliver-error\nheader: no\ncause: D3\nrest: 1\n",
+    },
+    AfterCentre {
+        kind: "deliver-error",
+        octets: "00",
+        status: 1,
+        answer: "centre: none\nat 0: short\n",
+    },
+    AfterCentre {
+        kind: "deliver-error",
+        octets: "0291F100",
+        status: 1,
+        answer: "centre: +1\nat 1: short\n",
+    },
+    AfterCentre {
+        kind: "deliver-error",
+        octets: "0002",
+        status: 1,
+        answer: "centre: none\nat 0: wrong type\n",
+    },
+    AfterCentre {
+        kind: "deliver-error",
         octets: "0000D304B6",
         status: 1,
         answer: "centre: none\nat 3: data too long\n",
+    },
+    AfterCentre {
+        kind: "deliver-error",
+        octets: "0C00D3077F040141",
+        status: 1,
+        answer: "at 0: bad address\n",
+    },
+    AfterCentre {
+        kind: "deliver-error",
+        octets: "0291",
+        status: 1,
+        answer: "at 2: short\n",
     },
 ];
