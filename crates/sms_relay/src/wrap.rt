@@ -3,7 +3,7 @@
 ghost use Rattle.std.specs.Prelude.{◌≡◌, ◌<◌, ℕ, List, length, Option, Some, Err, IfOk, option_copied};
 ghost use Rattle.std.specs.Option.{ForSome};
 ghost use Rattle.sms_relay.specs.RpUserData.{IsUserData};
-ghost use Rattle.sms_relay.specs.Carried.{acknowledgement, transfer, answer, CarriesRelay, Carries, SpellsOptional};
+ghost use Rattle.sms_relay.specs.Carried.{acknowledgement, transfer, answer, relay_of, CarriesRelay, Carries, SpellsOptional};
 ghost use Rattle.sms_relay.specs.declared.fault.WrapFault.TheVariants.{DataTooLong};
 
 use crate::cp::{CpBody, CpMessage};
@@ -33,10 +33,10 @@ fn wrap_message(
     alloc: Global,
     flag: bool,
     value: u8,
-    message: &RpMessage,
+    message: RpMessage,
 ) -> Result<Vec<u8>, AllocError>
     requires { value < 7 }
-    ensures { IfOk result (λ packet. CarriesRelay flag value (Some message.now) packet.items) }
+    ensures { IfOk result (λ packet. CarriesRelay flag value (Some message) packet.items) }
 {
     let octets = message.write(alloc)?;
     let packet = CpMessage {
@@ -45,6 +45,29 @@ fn wrap_message(
         body: CpBody::Transfer(Octets::new(octets)),
     };
     packet.write(alloc)
+}
+
+/// An RP-DATA with these octets, and with an address of its own.
+fn transfer_of(
+    alloc: Global,
+    side: Side,
+    reference: u8,
+    address: Option<&RpAddress>,
+    user: Octets,
+) -> Result<RpMessage, AllocError>
+    requires { IsUserData user }
+    ensures { IfOk result (λ message.
+        relay_of (transfer side reference (option_copied address.entry) user) ≡ Some message) }
+{
+    let address = match address {
+        Some(address) => Some(address.copy(alloc)?),
+        None => None,
+    };
+    Ok(RpMessage {
+        side,
+        reference,
+        body: RpBody::Transfer { address, user },
+    })
 }
 
 /// The octets of a CP-ACK.
@@ -88,16 +111,42 @@ pub fn wrap_transfer<U: Unit>(
         (octets : List ℕ) × U.spells unit.now octets × (233 < length octets) }
 {
     let user = octets_of_unit(alloc, unit)?;
-    let address = match address {
-        Some(address) => Some(address.copy(alloc)?),
-        None => None,
+    let message = transfer_of(alloc, side, reference, address, user)?;
+    Ok(wrap_message(alloc, flag, value, message)?)
+}
+
+/// The octets of a unit, if there is one and they are not too many for user data.
+fn octets_of_some<U: Unit>(alloc: Global, unit: Option<&U>) -> Result<Option<Octets>, WrapFault>
+    ensures spelled { IfOk result (λ octets.
+        SpellsOptional U.spells (option_copied unit.entry) octets × ForSome octets IsUserData) }
+    ensures too_long { result ≡ Err DataTooLong → (octets : List ℕ) ×
+        SpellsOptional U.spells (option_copied unit.entry) (Some octets) × (233 < length octets) }
+{
+    match unit {
+        Some(unit) => Ok(Some(octets_of_unit(alloc, unit)?)),
+        None => Ok(None),
+    }
+}
+
+/// The RP-ACK or RP-ERROR with these octets.
+fn answer_of(side: Side, reference: u8, cause: Option<u8>, user: Option<Octets>) -> RpMessage
+    requires cause { ForSome cause (λ c. c < 128) }
+    requires user { ForSome user IsUserData }
+    ensures { relay_of (answer side reference cause user) ≡ Some result }
+{
+    let body = match cause {
+        Some(cause) => RpBody::Fail {
+            cause,
+            diagnostic: None,
+            user,
+        },
+        None => RpBody::Ack { user },
     };
-    let message = RpMessage {
+    RpMessage {
         side,
         reference,
-        body: RpBody::Transfer { address, user },
-    };
-    Ok(wrap_message(alloc, flag, value, &message)?)
+        body,
+    }
 }
 
 /// The octets of a CP-DATA around the answer to a transfer, and a unit if it has one: an RP-ACK, or
@@ -125,22 +174,7 @@ pub fn wrap_answer<U: Unit>(
     ensures too_long { result ≡ Err DataTooLong → (octets : List ℕ) ×
         SpellsOptional U.spells (option_copied unit.entry) (Some octets) × (233 < length octets) }
 {
-    let user = match unit {
-        Some(unit) => Some(octets_of_unit(alloc, unit)?),
-        None => None,
-    };
-    let body = match cause {
-        Some(cause) => RpBody::Fail {
-            cause,
-            diagnostic: None,
-            user,
-        },
-        None => RpBody::Ack { user },
-    };
-    let message = RpMessage {
-        side,
-        reference,
-        body,
-    };
-    Ok(wrap_message(alloc, flag, value, &message)?)
+    let user = octets_of_some(alloc, unit)?;
+    let message = answer_of(side, reference, cause, user);
+    Ok(wrap_message(alloc, flag, value, message)?)
 }
