@@ -37,18 +37,37 @@ impl Model for Lines {
     ghost invariant = { λ l. l.phones.keys ≡ addresses l.lines.items };
 }
 
+/// A line with nothing for each of these addresses.
+fn new_lines(alloc: Global, addresses: &[Address]) -> Result<Vec<Line>, AllocError>
+    ensures { IfOk result (λ lines. lines.items ≡ map new_line addresses.now) }
+{
+    let mut lines = Vec::new(alloc);
+    for address in addresses {
+        lines.push(Line::new(alloc, address)?)?;
+    }
+    Ok(lines)
+}
+
+/// These addresses, which are different, in their order.
+fn set_of(alloc: Global, addresses: &[Address]) -> Result<IndexSet<Address>, AllocError>
+    requires { IsTrue (are_distinct addresses.now) }
+    ensures { IfOk result (λ set. set.keys ≡ addresses.now) }
+{
+    let mut set = IndexSet::new(alloc);
+    for address in addresses {
+        set.insert(address.copy(alloc)?)?;
+    }
+    Ok(set)
+}
+
 impl Lines {
     /// A line with nothing for each of these addresses, which are different.
     pub(crate) fn new(alloc: Global, addresses: &[Address]) -> Result<Lines, AllocError>
         requires { IsTrue (are_distinct addresses.now) }
         ensures { IfOk result (λ lines. lines ≡ map new_line addresses.now) }
     {
-        let mut lines = Vec::new(alloc);
-        let mut phones = IndexSet::new(alloc);
-        for address in addresses {
-            lines.push(Line::new(alloc, address)?)?;
-            phones.insert(address.copy(alloc)?)?;
-        }
+        let lines = new_lines(alloc, addresses)?;
+        let phones = set_of(alloc, addresses)?;
         Ok(Lines { lines, phones })
     }
 
