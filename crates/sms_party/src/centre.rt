@@ -140,7 +140,7 @@ impl Centre {
             Message::Tiny { .. } => Err(Dropped::Unmatched),
             Message::Data { flag, tag, relay } => {
                 if flag {
-                    self.take_answer(now, phone, tag, relay)
+                    self.take_answer(now, phone, tag, &relay)
                 } else {
                     self.take_request(now, phone, tag, relay)
                 }
@@ -191,18 +191,18 @@ impl Centre {
         now: u64,
         phone: usize,
         tag: Tag,
-        relay: Relay,
+        relay: &Relay,
     ) -> Result<Step, Dropped>
         requires phone { phone < length (phones_of self.old) }
         requires tag { tag.value < 7 }
         ensures steps { Steps now (λ limit phones c origin.
-            centre_answered c now phone tag relay)
+            centre_answered c now phone tag relay.now)
             self.old result self.new }
         ensures phones { phones_of self.new ≡ phones_of self.old }
     {
         match relay {
             Relay::Answer { side, cause, .. } => match side {
-                Side::FromPhone => self.holdings.hear(self.alloc, now, phone, tag, cause),
+                Side::FromPhone => self.holdings.hear(self.alloc, now, phone, tag, *cause),
                 Side::ToPhone => Err(Dropped::Unmatched),
             },
             Relay::Transfer { .. } => Err(Dropped::Unmatched),

@@ -27,9 +27,9 @@ pub returns-in-FromPhone-clause-phones : goal.returns-in-FromPhone-clause-phones
 returns-in-FromPhone-clause-phones c =
     heard_phones c.args.now c.args.tag c.in-Answer.cause c.args.phone c.self.inside.holdings.lines c.hear.new.self.lines c.hear.result c.hear.ensures.line ∙ ap phones_of c.self.view_is
 
-pub returns-in-Answer-clause-steps : goal.returns-in-Answer-clause-steps
+pub returns-in-ToPhone-clause-steps : goal.returns-in-ToPhone-clause-steps
 unfolding centre_answered
-returns-in-Answer-clause-steps c = λ limit phones s origin stands.
+returns-in-ToPhone-clause-steps c = λ limit phones s origin stands.
     subst (λ (r : Relay). CentreAnswers limit phones c.args.now s (centre_answered s c.args.now c.args.phone c.args.tag r) (Err Unmatched) c.args.self.now) (sym (c.in-Answer.is ∙ ap (λ (x : Side). Answer x c.in-Answer.cause c.in-Answer.report) c.in-ToPhone.is))
     (nothing_comes limit phones c.args.now c.args.self.now s stands)
 
@@ -45,8 +45,8 @@ returns-in-UnknownType-clause-steps c = λ limit phones s origin stands.
     subst (λ (r : Relay). CentreAnswers limit phones c.args.now s (centre_answered s c.args.now c.args.phone c.args.tag r) (Err Unmatched) c.args.self.now) (sym (c.in-UnknownType.is))
     (nothing_comes limit phones c.args.now c.args.self.now s stands)
 
-pub returns-clause-steps : goal.returns-clause-steps
+pub returns-in-Unreadable-clause-steps : goal.returns-in-Unreadable-clause-steps
 unfolding centre_answered
-returns-clause-steps c = λ limit phones s origin stands.
+returns-in-Unreadable-clause-steps c = λ limit phones s origin stands.
     subst (λ (r : Relay). CentreAnswers limit phones c.args.now s (centre_answered s c.args.now c.args.phone c.args.tag r) (Err Unmatched) c.args.self.now) (sym (c.in-Unreadable.is))
     (nothing_comes limit phones c.args.now c.args.self.now s stands)
