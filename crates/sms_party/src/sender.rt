@@ -311,7 +311,7 @@ impl Sender {
             Message::Tiny { .. } => Err(Dropped::Unmatched),
             Message::Data { flag, tag, relay } => {
                 if flag {
-                    self.take_answer(tag, relay)
+                    self.take_answer(tag, &relay)
                 } else {
                     Err(Dropped::Unmatched)
                 }
@@ -320,9 +320,9 @@ impl Sender {
     }
 
     /// Takes a message of a transaction that the phone has opened.
-    fn take_answer(&mut self, tag: Tag, relay: Relay) -> Result<Step, Dropped>
+    fn take_answer(&mut self, tag: Tag, relay: &Relay) -> Result<Step, Dropped>
         requires tag { tag.value < 7 }
-        ensures steps { Steps (λ x phone. sender_receives x phone tag relay)
+        ensures steps { Steps (λ x phone. sender_receives x phone tag relay.now)
             self.old result self.new }
         ensures refused { OnErr result (self.new ≡ self.old) }
     {
@@ -333,7 +333,7 @@ impl Sender {
                 report,
             } => match side {
                 Side::FromPhone => Err(Dropped::Unmatched),
-                Side::ToPhone => self.hear(tag, cause, &report),
+                Side::ToPhone => self.hear(tag, *cause, report),
             },
             Relay::Transfer { .. } => Err(Dropped::Unmatched),
             Relay::UnknownType => Err(Dropped::Unmatched),

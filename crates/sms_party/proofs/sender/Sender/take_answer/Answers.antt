@@ -15,9 +15,9 @@ returns-in-FromPhone-clause-steps c = λ phone x stands.
     subst (λ (r : Relay). Answered (SenderStands phone c.args.self.now) x (in_messages (sender_receives x phone c.args.tag r)) (Err Unmatched)) (sym (c.in-Answer.is ∙ ap (λ (s : Side). Answer s c.in-Answer.cause c.in-Answer.report) c.in-FromPhone.is))
     (nothing_comes phone x c.args.self.now stands)
 
-pub returns-in-Answer-clause-steps : goal.returns-in-Answer-clause-steps
+pub returns-in-ToPhone-clause-steps : goal.returns-in-ToPhone-clause-steps
 unfolding sender_receives
-returns-in-Answer-clause-steps c = λ phone x stands.
+returns-in-ToPhone-clause-steps c = λ phone x stands.
     subst (λ (r : Relay). Answered (SenderStands phone c.hear.new.self) x (in_messages (sender_receives x phone c.args.tag r)) c.hear.result) (sym (c.in-Answer.is ∙ ap (λ (s : Side). Answer s c.in-Answer.cause c.in-Answer.report) c.in-ToPhone.is))
     (carried_over phone x c.args.self.now c.hear.new.self _ _ c.hear.result stands (heard phone x c.args.self.now stands c.args.tag c.in-Answer.cause c.in-Answer.report) c.hear.ensures.did)
 
@@ -33,8 +33,8 @@ returns-in-UnknownType-clause-steps c = λ phone x stands.
     subst (λ (r : Relay). Answered (SenderStands phone c.args.self.now) x (in_messages (sender_receives x phone c.args.tag r)) (Err Unmatched)) (sym c.in-UnknownType.is)
     (nothing_comes phone x c.args.self.now stands)
 
-pub returns-clause-steps : goal.returns-clause-steps
+pub returns-in-Unreadable-clause-steps : goal.returns-in-Unreadable-clause-steps
 unfolding sender_receives
-returns-clause-steps c = λ phone x stands.
+returns-in-Unreadable-clause-steps c = λ phone x stands.
     subst (λ (r : Relay). Answered (SenderStands phone c.args.self.now) x (in_messages (sender_receives x phone c.args.tag r)) (Err Unmatched)) (sym c.in-Unreadable.is)
     (nothing_comes phone x c.args.self.now stands)
