@@ -16,7 +16,7 @@ ghost use Rattle.sms_party.specs.declared.outcome.Dropped.TheVariants.{Memory};
 
 use crate::centre::held::{Ending, HeldKey, HeldMessages};
 use crate::centre::waiting::{Push, WaitingMessage};
-use crate::message::packets::{acknowledgement, address_of_centre, wrapped};
+use crate::message::packets::{acknowledgement, address_of_centre, alone, wrapped};
 use crate::message::{Tag, rp_cause};
 use crate::outcome::{Dropped, Outcome, Step};
 use lru::LruCache;
@@ -202,7 +202,7 @@ impl Line {
             stamp,
             ends: first.ends,
         };
-        let packets = vec![in alloc; packet]?;
+        let packets = alone(alloc, packet)?;
         self.queue.promote(&stamp);
         self.latest = Some(latest);
         self.value = (self.value + 1) % 7;
@@ -232,7 +232,7 @@ impl Line {
         }
         let pushed = latest.stamp;
         let packet = acknowledgement(alloc, false, tag.value)?;
-        let packets = vec![in alloc; packet]?;
+        let packets = alone(alloc, packet)?;
         self.latest = None;
         if !stays(cause) {
             take_out(&mut self.queue, pushed);

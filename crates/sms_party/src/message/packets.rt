@@ -1,6 +1,6 @@
 //! Packets that every party puts out.
 
-ghost use Rattle.std.specs.Prelude.{◌≡◌, ◌≢◌, ◌<◌, ℕ, true, None, Some, Ok, Err, IfOk, IfErr, Option};
+ghost use Rattle.std.specs.Prelude.{◌≡◌, ◌≢◌, ◌<◌, ◌∷◌, [], ℕ, true, None, Some, Ok, Err, IfOk, IfErr, Option};
 ghost use Rattle.sms_relay.specs.declared.side.Side.{Side as Sides};
 ghost use Rattle.sms_relay.specs.declared.fault.WrapFault.TheVariants.{DataTooLong};
 ghost use Rattle.sms_party.specs.declared.message.Message.TheVariants.{Note, Data};
@@ -51,6 +51,13 @@ pub(crate) fn acknowledgement(alloc: Global, flag: bool, value: u8) -> Result<Ve
     ensures err { IfErr result (λ e. e ≡ Memory) }
 {
     Ok(wrap_acknowledgement(alloc, flag, value)?)
+}
+
+/// A packet alone.
+pub(crate) fn alone(alloc: Global, packet: Vec<u8>) -> Result<Vec<Vec<u8>>, AllocError>
+    ensures items { IfOk result (λ packets. packets.items ≡ packet ∷ []) }
+{
+    Ok(vec![in alloc; packet]?)
 }
 
 /// A CP-ACK, and the answer in this packet.
