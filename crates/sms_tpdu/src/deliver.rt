@@ -1,6 +1,9 @@
 //! SMS-DELIVER.
 
-ghost use Rattle.sms_tpdu.specs.Deliver.{deliver};
+ghost use Rattle.std.specs.Prelude.{◌≡◌, ◌∷◌, ◌++◌, OnOk};
+ghost use Rattle.sms_field.specs.Address.{address_octets};
+ghost use Rattle.sms_tpdu.specs.Deliver.{deliver, flags_in};
+ghost use Rattle.sms_tpdu.specs.Deliver.Flags.{deliver_octet};
 
 pub mod flags;
 pub mod view;
@@ -74,6 +77,33 @@ impl Model for Deliver {
 /// The most octets before the user data.
 const FRONT_MAX: usize = 22;
 
+impl Deliver {
+    /// The flags in the first octet.
+    fn flags(&self) -> DeliverFlags
+        ensures { result ≡ flags_in self.now }
+    {
+        DeliverFlags {
+            more: self.more,
+            looped: self.looped,
+            report: self.report,
+            header: self.user.header.is_some(),
+            reply: self.reply,
+        }
+    }
+
+    /// Adds the octets before the user data.
+    fn put_front(&self, out: &mut Vec<u8>) -> Result<(), AllocError>
+        ensures { OnOk result (out.new.items ≡ out.old.items ++
+            (deliver_octet (flags_in self.now) ∷ (address_octets self.now.origin ++
+            (self.now.pid ∷ self.now.dcs ∷ self.now.stamp)))) }
+    {
+        out.push(self.flags().to_octet())?;
+        self.origin.write_to(out)?;
+        out.extend_from_slice(&[self.pid, self.dcs])?;
+        out.extend_from_slice(&self.stamp.octets())
+    }
+}
+
 impl Unit for Deliver {
     ghost use Rattle.sms_tpdu.specs.Deliver.{deliver, SpellsDeliver};
     ghost use Rattle.sms_tpdu.specs.Deliver.Laws.{deliver_laws};
@@ -90,20 +120,9 @@ impl Unit for Deliver {
     }
 
     fn write(&self, alloc: Global) -> Result<Vec<u8>, AllocError> {
-        let flags = DeliverFlags {
-            more: self.more,
-            looped: self.looped,
-            report: self.report,
-            header: self.user.header.is_some(),
-            reply: self.reply,
-        };
         let room = room_for_user_data(&self.user).saturating_add(FRONT_MAX);
         let mut out = Vec::with_capacity(alloc, room)?;
-        out.push(flags.to_octet())?;
-        self.origin.write_to(&mut out)?;
-        out.push(self.pid)?;
-        out.push(self.dcs)?;
-        out.extend_from_slice(&self.stamp.octets())?;
+        self.put_front(&mut out)?;
         put_user_data(&mut out, &self.user)?;
         Ok(out)
     }

@@ -1,6 +1,6 @@
 //! What reports share: their data, and how the parts that are there are written.
 
-ghost use Rattle.std.specs.Prelude.{◌≡◌, ◌≤◌, ℕ, ◌++◌, length, Option, OnOk};
+ghost use Rattle.std.specs.Prelude.{◌≡◌, ◌≤◌, ℕ, ◌++◌, length, Option, IfOk, OnOk};
 ghost use Rattle.sms_tpdu.specs.Report as formats;
 ghost use Rattle.sms_tpdu.specs.Report.{octet_if_some, data_if_some, parts_octets};
 
@@ -14,7 +14,7 @@ pub mod submit_error;
 
 use crate::report::indicator::Indicator;
 use sms_field::Octets;
-use std::alloc::AllocError;
+use std::alloc::{AllocError, Global};
 
 /// The data of a report: their length as the data coding scheme counts it, and their octets.
 #[derive(Drop)]
@@ -37,7 +37,7 @@ pub fn indicator_of(pid: Option<u8>, dcs: Option<u8>, user: &Option<ReportData>)
 }
 
 /// Room for the parts of a report.
-pub fn room_for_parts(user: &Option<ReportData>) -> usize
+fn room_for_parts(user: &Option<ReportData>) -> usize
     ensures { (pid dcs : Option ℕ) →
         length (parts_octets (record { pid = pid; dcs = dcs; user = user.now })) ≤ result }
 {
@@ -69,7 +69,7 @@ fn put_data(out: &mut Vec<u8>, user: &Option<ReportData>) -> Result<(), AllocErr
 }
 
 /// Adds the parts of a report that are there.
-pub fn put_parts(
+fn put_parts(
     out: &mut Vec<u8>,
     pid: Option<u8>,
     dcs: Option<u8>,
@@ -81,4 +81,25 @@ pub fn put_parts(
     put_octet(out, pid)?;
     put_octet(out, dcs)?;
     put_data(out, user)
+}
+
+/// The octets of a report: the front, which ends with the indicator, the stamp, which may be empty,
+/// and the parts that are there.
+pub fn write_report(
+    alloc: Global,
+    front: &[u8],
+    stamp: &[u8],
+    pid: Option<u8>,
+    dcs: Option<u8>,
+    user: &Option<ReportData>,
+) -> Result<Vec<u8>, AllocError>
+    ensures { IfOk result (λ octets. octets.items ≡ front.now ++ (stamp.now ++
+        parts_octets (record { pid = pid; dcs = dcs; user = user.now }))) }
+{
+    let room = room_for_parts(user).saturating_add(front.len() + stamp.len());
+    let mut out = Vec::with_capacity(alloc, room)?;
+    out.extend_from_slice(front)?;
+    out.extend_from_slice(stamp)?;
+    put_parts(&mut out, pid, dcs, user)?;
+    Ok(out)
 }

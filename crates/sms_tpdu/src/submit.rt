@@ -1,6 +1,10 @@
 //! SMS-SUBMIT.
 
-ghost use Rattle.sms_tpdu.specs.Submit.{submit};
+ghost use Rattle.std.specs.Prelude.{◌≡◌, ◌∷◌, ◌++◌, OnOk};
+ghost use Rattle.sms_field.specs.Address.{address_octets};
+ghost use Rattle.sms_tpdu.specs.Submit.{submit, flags_in};
+ghost use Rattle.sms_tpdu.specs.Submit.Flags.{submit_octet};
+ghost use Rattle.sms_tpdu.specs.Submit.ValidityPeriod.{validity_octets};
 
 pub mod flags;
 pub mod validity;
@@ -75,6 +79,34 @@ impl Model for Submit {
 /// The most octets before the user data.
 const FRONT_MAX: usize = 23;
 
+impl Submit {
+    /// The flags in the first octet.
+    fn flags(&self) -> SubmitFlags
+        ensures { result ≡ flags_in self.now }
+    {
+        SubmitFlags {
+            reject: self.reject,
+            format: ValidityFormat::of(&self.validity),
+            report: self.report,
+            header: self.user.header.is_some(),
+            reply: self.reply,
+        }
+    }
+
+    /// Adds the octets before the user data.
+    fn put_front(&self, out: &mut Vec<u8>) -> Result<(), AllocError>
+        ensures { OnOk result (out.new.items ≡ out.old.items ++
+            (submit_octet (flags_in self.now) ∷ self.now.reference ∷
+            (address_octets self.now.target ++
+            (self.now.pid ∷ self.now.dcs ∷ validity_octets self.now.validity)))) }
+    {
+        out.extend_from_slice(&[self.flags().to_octet(), self.reference])?;
+        self.target.write_to(out)?;
+        out.extend_from_slice(&[self.pid, self.dcs])?;
+        put_validity(out, &self.validity)
+    }
+}
+
 impl Unit for Submit {
     ghost use Rattle.sms_tpdu.specs.Submit.{submit, SpellsSubmit};
     ghost use Rattle.sms_tpdu.specs.Submit.Laws.{submit_laws};
@@ -91,21 +123,9 @@ impl Unit for Submit {
     }
 
     fn write(&self, alloc: Global) -> Result<Vec<u8>, AllocError> {
-        let flags = SubmitFlags {
-            reject: self.reject,
-            format: ValidityFormat::of(&self.validity),
-            report: self.report,
-            header: self.user.header.is_some(),
-            reply: self.reply,
-        };
         let room = room_for_user_data(&self.user).saturating_add(FRONT_MAX);
         let mut out = Vec::with_capacity(alloc, room)?;
-        out.push(flags.to_octet())?;
-        out.push(self.reference)?;
-        self.target.write_to(&mut out)?;
-        out.push(self.pid)?;
-        out.push(self.dcs)?;
-        put_validity(&mut out, &self.validity)?;
+        self.put_front(&mut out)?;
         put_user_data(&mut out, &self.user)?;
         Ok(out)
     }

@@ -7,7 +7,7 @@ pub mod view;
 use crate::fault::UnitFault;
 use crate::report::deliver_error::view::DeliverErrorView;
 use crate::report::octet::deliver_report_octet;
-use crate::report::{ReportData, indicator_of, put_parts, room_for_parts};
+use crate::report::{ReportData, indicator_of, write_report};
 use crate::unit::Unit;
 use crate::view::View;
 use sms_field::{Cursor, Refusal};
@@ -51,9 +51,6 @@ impl Model for DeliverError {
     }) };
 }
 
-/// The octets before the parts that may be there.
-const FRONT: usize = 3;
-
 /// Another type is `UnitFault::WrongType`, and data above 159 octets are `UnitFault::DataTooLong`.
 impl Unit for DeliverError {
     ghost use Rattle.sms_tpdu.specs.Report.DeliverError.{deliver_error, SpellsDeliverError};
@@ -72,13 +69,12 @@ impl Unit for DeliverError {
 
     fn write(&self, alloc: Global) -> Result<Vec<u8>, AllocError> {
         let there = indicator_of(self.pid, self.dcs, &self.user);
-        let room = room_for_parts(&self.user).saturating_add(FRONT);
-        let mut out = Vec::with_capacity(alloc, room)?;
-        out.push(deliver_report_octet(self.has_header))?;
-        out.push(self.cause)?;
-        out.push(there.to_octet())?;
-        put_parts(&mut out, self.pid, self.dcs, &self.user)?;
-        Ok(out)
+        let front = [
+            deliver_report_octet(self.has_header),
+            self.cause,
+            there.to_octet(),
+        ];
+        write_report(alloc, &front, &[], self.pid, self.dcs, &self.user)
     }
 
     ghost laws = { deliver_error_laws };

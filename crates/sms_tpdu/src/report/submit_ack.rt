@@ -7,7 +7,7 @@ pub mod view;
 use crate::fault::UnitFault;
 use crate::report::octet::submit_report_octet;
 use crate::report::submit_ack::view::SubmitAckView;
-use crate::report::{ReportData, indicator_of, put_parts, room_for_parts};
+use crate::report::{ReportData, indicator_of, write_report};
 use crate::unit::Unit;
 use crate::view::View;
 use sms_field::{Cursor, Refusal, Stamp};
@@ -51,9 +51,6 @@ impl Model for SubmitAck {
     }) };
 }
 
-/// The octets before the parts that may be there.
-const FRONT: usize = 9;
-
 /// Another type is `UnitFault::WrongType`, and data above 159 octets are `UnitFault::DataTooLong`.
 impl Unit for SubmitAck {
     ghost use Rattle.sms_tpdu.specs.Report.SubmitAck.{submit_ack, SpellsSubmitAck};
@@ -72,13 +69,15 @@ impl Unit for SubmitAck {
 
     fn write(&self, alloc: Global) -> Result<Vec<u8>, AllocError> {
         let there = indicator_of(self.pid, self.dcs, &self.user);
-        let room = room_for_parts(&self.user).saturating_add(FRONT);
-        let mut out = Vec::with_capacity(alloc, room)?;
-        out.push(submit_report_octet(self.has_header))?;
-        out.push(there.to_octet())?;
-        out.extend_from_slice(&self.stamp.octets())?;
-        put_parts(&mut out, self.pid, self.dcs, &self.user)?;
-        Ok(out)
+        let front = [submit_report_octet(self.has_header), there.to_octet()];
+        write_report(
+            alloc,
+            &front,
+            &self.stamp.octets(),
+            self.pid,
+            self.dcs,
+            &self.user,
+        )
     }
 
     ghost laws = { submit_ack_laws };

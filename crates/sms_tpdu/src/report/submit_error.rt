@@ -7,7 +7,7 @@ pub mod view;
 use crate::fault::UnitFault;
 use crate::report::octet::submit_report_octet;
 use crate::report::submit_error::view::SubmitErrorView;
-use crate::report::{ReportData, indicator_of, put_parts, room_for_parts};
+use crate::report::{ReportData, indicator_of, write_report};
 use crate::unit::Unit;
 use crate::view::View;
 use sms_field::{Cursor, Refusal, Stamp};
@@ -56,9 +56,6 @@ impl Model for SubmitError {
     }) };
 }
 
-/// The octets before the parts that may be there.
-const FRONT: usize = 10;
-
 /// Another type is `UnitFault::WrongType`, and data above 159 octets are `UnitFault::DataTooLong`.
 impl Unit for SubmitError {
     ghost use Rattle.sms_tpdu.specs.Report.SubmitError.{submit_error, SpellsSubmitError};
@@ -77,14 +74,19 @@ impl Unit for SubmitError {
 
     fn write(&self, alloc: Global) -> Result<Vec<u8>, AllocError> {
         let there = indicator_of(self.pid, self.dcs, &self.user);
-        let room = room_for_parts(&self.user).saturating_add(FRONT);
-        let mut out = Vec::with_capacity(alloc, room)?;
-        out.push(submit_report_octet(self.has_header))?;
-        out.push(self.cause)?;
-        out.push(there.to_octet())?;
-        out.extend_from_slice(&self.stamp.octets())?;
-        put_parts(&mut out, self.pid, self.dcs, &self.user)?;
-        Ok(out)
+        let front = [
+            submit_report_octet(self.has_header),
+            self.cause,
+            there.to_octet(),
+        ];
+        write_report(
+            alloc,
+            &front,
+            &self.stamp.octets(),
+            self.pid,
+            self.dcs,
+            &self.user,
+        )
     }
 
     ghost laws = { submit_error_laws };
