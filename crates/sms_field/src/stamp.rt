@@ -1,6 +1,7 @@
 //! Time stamps of a service centre (3GPP TS 23.040, 9.2.3.11).
 
-ghost use Rattle.std.specs.Prelude.{◌≡◌, ◌↔◌, ◌<◌, ◌/◌, IsSome, IfSome, IfOk, IfErr};
+ghost use Rattle.std.specs.Prelude.{◌≡◌, ◌↔◌, ◌<◌, ◌/◌, ◌+◌, IsSome, IfSome, IfOk, IfErr};
+ghost use Rattle.sms_field.specs.Days.{IsDay};
 ghost use Rattle.sms_field.specs.Field.{IsLawful};
 ghost use Rattle.sms_field.specs.declared.fault.FieldFault.TheVariants.{Short};
 ghost use Rattle.sms_field.specs.Reading.{Reads};
@@ -67,6 +68,32 @@ fn two_digits(octet: u8) -> Option<u8>
     }
 }
 
+/// The year, month and day that three octets say; none where there is no such day.
+fn day_of(year: u8, month: u8, day: u8) -> Option<(u16, u8, u8)>
+    ensures found { IsSome result ↔ HasTwoDigits year × HasTwoDigits month × HasTwoDigits day
+        × IsDay (2000 + value_in year) (value_in month) (value_in day) }
+    ensures value { IfSome result (λ d. (d.0 ≡ 2000 + value_in year)
+        × (d.1 ≡ value_in month) × (d.2 ≡ value_in day)) }
+{
+    let year = 2000 + u16::from(two_digits(year)?);
+    let month = two_digits(month)?;
+    let day = two_digits(day)?;
+    is_day(year, month, day).then_some((year, month, day))
+}
+
+/// The hour, minute and second that three octets say; none where there is no such time of day.
+fn time_of(hour: u8, minute: u8, second: u8) -> Option<(u8, u8, u8)>
+    ensures found { IsSome result ↔ HasTwoDigits hour × HasTwoDigits minute × HasTwoDigits second
+        × (value_in hour < 24) × (value_in minute < 60) × (value_in second < 60) }
+    ensures value { IfSome result (λ t. (t.0 ≡ value_in hour)
+        × (t.1 ≡ value_in minute) × (t.2 ≡ value_in second)) }
+{
+    let hour = two_digits(hour)?;
+    let minute = two_digits(minute)?;
+    let second = two_digits(second)?;
+    (hour < 24 && minute < 60 && second < 60).then_some((hour, minute, second))
+}
+
 /// The zone, in quarters of an hour.
 fn quarters_of(zone: u8) -> Option<i8>
     ensures found { IsSome result ↔ (zone / 16 < 10) }
@@ -110,21 +137,18 @@ impl Stamp {
         ensures value { IfSome result (λ d. d ≡ date_in self.now) }
     {
         let [year, month, day, hour, minute, second, zone] = self.octets;
-        let date = StampDate {
-            year: 2000 + u16::from(two_digits(year)?),
-            month: two_digits(month)?,
-            day: two_digits(day)?,
-            hour: two_digits(hour)?,
-            minute: two_digits(minute)?,
-            second: two_digits(second)?,
-            quarters: quarters_of(zone)?,
-        };
-        let exists = is_day(date.year, date.month, date.day);
-        if exists && date.hour < 24 && date.minute < 60 && date.second < 60 {
-            Some(date)
-        } else {
-            None
-        }
+        let (year, month, day) = day_of(year, month, day)?;
+        let (hour, minute, second) = time_of(hour, minute, second)?;
+        let quarters = quarters_of(zone)?;
+        Some(StampDate {
+            year,
+            month,
+            day,
+            hour,
+            minute,
+            second,
+            quarters,
+        })
     }
 
     /// Reads a stamp at the front of the octets, and says how many it takes.
