@@ -129,7 +129,7 @@ impl Joiner {
             self.sets.put(index, sequence, units);
             return Ok(Offer::Kept);
         }
-        let text = self.sets.text_with(self.alloc, index, &units)?;
+        let text = self.sets.text_with(self.alloc, index, units)?;
         let key = self.sets.remove(index);
         self.finished.push(key);
         Ok(Offer::Finished(text))
@@ -183,8 +183,8 @@ impl Joiner {
         ensures refused { OnErr result (self.new ≡ self.old) }
     {
         if size_of(concat) == 1 {
-            let key = Key::of(self.alloc, origin, stamp, concat)?;
             let text = read_units(self.alloc, &[units])?;
+            let key = Key::of(self.alloc, origin, stamp, concat)?;
             self.finished.push(key);
             return Ok(Offer::Finished(text));
         }

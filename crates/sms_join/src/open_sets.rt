@@ -117,15 +117,15 @@ impl OpenSets {
         &self,
         alloc: Global,
         index: usize,
-        units: &Units,
+        units: Units,
     ) -> Result<String, AllocError>
         requires { index < length self.now }
         ensures { IfOk result (λ text. At self.now index (λ set.
             (n : ℕ) → 0 < n → n ≤ maximum_of set.key → lacks_only set n ≡ true
             → chars (string_bytes text)
-            ≡ text_of_segments (with_piece set n units.now).units)) }
+            ≡ text_of_segments (with_piece set n units).units)) }
     {
-        self.slots[index].text_with(alloc, units)
+        self.slots[index].text_with(alloc, &units)
     }
 
     /// Drops the set, and gives its key.

@@ -16,12 +16,12 @@ use Rattle.sms_join.proofs.joiner.Joiner.begin.Goals as goal
 
 pub returns-in_err-key-clause-says : goal.returns-in_err-key-clause-says
 returns-in_err-key-clause-says c =
-    let p = err_from_is_err_and c.from_residual.result c.from_residual.ensures.1 in
+    let p = err_from_is_err_and c.from_residual-in_err-key.result c.from_residual-in_err-key.ensures.1 in
     rw (p.1, p.2) (whole_memory c.args.self.now.open_max c.args.self.now.holds (piece_of c.args.now c.args.origin.now c.args.stamp c.args.concat c.args.units) (c.args.units ∷ []) (first_alone c.self.inside.open_max c.self.inside.finished c.self.inside.sets c.self.invariant (piece_of c.args.now c.args.origin.now c.args.stamp c.args.concat c.args.units) (in_place c.args.now c.args.origin.now c.args.stamp c.args.concat c.args.units c.requires.place) c.args.self.now c.self.view_is c.requires.fresh c.requires.closed (let e = size_is c.args.origin.now c.args.stamp c.args.concat in sym e ∙ (sym c.size_of.ensures ∙ c.if-size_of-eq1.true))).0)
 
 pub returns-in_err-text-clause-says : goal.returns-in_err-text-clause-says
 returns-in_err-text-clause-says c =
-    let p = err_from_is_err_and c.from_residual-in_err-text.result c.from_residual-in_err-text.ensures.1 in
+    let p = err_from_is_err_and c.from_residual.result c.from_residual.ensures.1 in
     rw (p.1, p.2) (whole_memory c.args.self.now.open_max c.args.self.now.holds (piece_of c.args.now c.args.origin.now c.args.stamp c.args.concat c.args.units) (c.args.units ∷ []) (first_alone c.self.inside.open_max c.self.inside.finished c.self.inside.sets c.self.invariant (piece_of c.args.now c.args.origin.now c.args.stamp c.args.concat c.args.units) (in_place c.args.now c.args.origin.now c.args.stamp c.args.concat c.args.units c.requires.place) c.args.self.now c.self.view_is c.requires.fresh c.requires.closed (let e = size_is c.args.origin.now c.args.stamp c.args.concat in sym e ∙ (sym c.size_of.ensures ∙ c.if-size_of-eq1.true))).0)
 
 pub returns-then-size_of-eq1-clause-says : goal.returns-then-size_of-eq1-clause-says

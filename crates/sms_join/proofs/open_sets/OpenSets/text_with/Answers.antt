@@ -17,12 +17,12 @@ index-requires c =
 pub returns : goal.returns
 returns c =
     IfOk-weaker c.text_with.result
-    (λ text. chars (string_bytes text) ≡ text_of_segments (filled_with c.args.units.now c.index.result.now.places))
+    (λ text. chars (string_bytes text) ≡ text_of_segments (filled_with c.args.units c.index.result.now.places))
     (λ text. At c.args.self.now c.args.index (λ s. (n : ℕ) → 0 < n → n ≤ maximum_of s.key → lacks_only s n ≡ true
-    → chars (string_bytes text) ≡ text_of_segments (with_piece s n c.args.units.now).units))
+    → chars (string_bytes text) ≡ text_of_segments (with_piece s n c.args.units).units))
     (λ text h. subst (λ (l : List SetValue). At l c.args.index (λ s. (n : ℕ) → 0 < n → n ≤ maximum_of s.key → lacks_only s n ≡ true
-    → chars (string_bytes text) ≡ text_of_segments (with_piece s n c.args.units.now).units)) c.self.view_is
+    → chars (string_bytes text) ≡ text_of_segments (with_piece s n c.args.units).units)) c.self.view_is
     (at_slot c.self.inside.slots.entries c.args.index c.index.result.now (λ s. (n : ℕ) → 0 < n → n ≤ maximum_of s.key → lacks_only s n ≡ true
-    → chars (string_bytes text) ≡ text_of_segments (with_piece s n c.args.units.now).units) c.self.invariant c.index.ensures
-    (λ k e n a b l. h ∙ ap text_of_segments (text_more k c.index.result.now n c.args.units.now e a b l))))
+    → chars (string_bytes text) ≡ text_of_segments (with_piece s n c.args.units).units) c.self.invariant c.index.ensures
+    (λ k e n a b l. h ∙ ap text_of_segments (text_more k c.index.result.now n c.args.units e a b l))))
     c.text_with.ensures
