@@ -67,16 +67,16 @@ fn new_address(alloc: Global, known: &Known, word: &str) -> Result<Address, Mean
 }
 
 /// What `held`, `open`, `remembered` and `store` say.
-fn limit_of(which: Limit, rest: Option<&str>) -> Result<Statement, ScriptFault>
-    ensures { Says (λ s. s) result (limit which (left rest.entry)) }
+fn limit_of(which: Limit, rest: Option<&str>) -> Result<Statement, MeaningFault>
+    ensures { Gives (λ s. s) result (limit which (left rest.entry)) }
 {
     let n = number_in(1, which.greatest(), one_word(rest)?)?;
     Ok(Statement::Limit(which, n))
 }
 
 /// What `clock` says.
-fn clock_of(rest: Option<&str>) -> Result<Statement, ScriptFault>
-    ensures { Says (λ s. s) result (clock (left rest.entry)) }
+fn clock_of(rest: Option<&str>) -> Result<Statement, MeaningFault>
+    ensures { Gives (λ s. s) result (clock (left rest.entry)) }
 {
     let n = number_in(0, LAST_SECOND, one_word(rest)?)?;
     Ok(Statement::Clock(n))
@@ -140,8 +140,8 @@ fn injection_of(
 }
 
 /// What a setting says that is there or not.
-fn switch_of(statement: Statement, rest: Option<&str>) -> Result<Statement, ScriptFault>
-    ensures { Says (λ s. s) result (switch statement (left rest.entry)) }
+fn switch_of(statement: Statement, rest: Option<&str>) -> Result<Statement, MeaningFault>
+    ensures { Gives (λ s. s) result (switch statement (left rest.entry)) }
 {
     no_word(rest)?;
     Ok(statement)
@@ -158,14 +158,14 @@ fn statement_of(
     ensures { Gives (λ s. s) result (said known.now command (left rest.entry)) }
 {
     match command {
-        Command::Held => Ok(limit_of(Limit::Held, rest)?),
-        Command::Open => Ok(limit_of(Limit::Open, rest)?),
-        Command::Remembered => Ok(limit_of(Limit::Remembered, rest)?),
-        Command::Store => Ok(limit_of(Limit::Store, rest)?),
-        Command::Clock => Ok(clock_of(rest)?),
-        Command::Brief => Ok(switch_of(Statement::Brief, rest)?),
-        Command::Wide => Ok(switch_of(Statement::Wide, rest)?),
-        Command::Reject => Ok(switch_of(Statement::Reject, rest)?),
+        Command::Held => limit_of(Limit::Held, rest),
+        Command::Open => limit_of(Limit::Open, rest),
+        Command::Remembered => limit_of(Limit::Remembered, rest),
+        Command::Store => limit_of(Limit::Store, rest),
+        Command::Clock => clock_of(rest),
+        Command::Brief => switch_of(Statement::Brief, rest),
+        Command::Wide => switch_of(Statement::Wide, rest),
+        Command::Reject => switch_of(Statement::Reject, rest),
         Command::Phone => phone_of(alloc, known, rest),
         Command::Compose => text_of(alloc, known, rest),
         Command::Carry => Ok(Statement::Event(Event::Carry(number_of(rest)?))),

@@ -114,7 +114,6 @@ impl Script {
         ensures kept { OnErr result (self.new ≡ self.old) }
         ensures event { IfOk result (λ e. e ≡ event_of statement) }
     {
-        let mut event = None;
         match statement {
             Statement::Nothing => {}
             Statement::Limit(which, n) => self.limits.set(which, n),
@@ -123,13 +122,14 @@ impl Script {
             Statement::Wide => self.limits.wide = true,
             Statement::Reject => self.limits.reject = true,
             Statement::Phone(phone) => self.known.add(phone)?,
-            Statement::Event(next) => {
+            Statement::Event(event) => {
                 self.known.start();
-                event = Some(next);
+                self.lines += 1;
+                return Ok(Some(event));
             }
         }
         self.lines += 1;
-        Ok(event)
+        Ok(None)
     }
 
     /// Takes the next line, without its line feed, and answers the event that it is. A line that is

@@ -1,18 +1,48 @@
 //! One line of a script played.
 
-ghost use Rattle.std.specs.Prelude.{◌≡◌, ◌≢◌, ◌+◌, ◌<◌, ◌≤◌, ◌^◌, Err, OnOk, true, false, length};
+ghost use Rattle.std.specs.Prelude.{◌≡◌, ◌≢◌, ◌+◌, ◌<◌, ◌≤◌, ◌^◌, ℕ, List, Some, Ok, Err, OnOk, true, false, length};
 ghost use Rattle.sms_script.specs.Lines.{line_limit};
-ghost use Rattle.sms_script.specs.Script.{lines_limit};
+ghost use Rattle.sms_script.specs.Script.{lines_limit, TakesLine};
+ghost use Rattle.sms_script.specs.Script.Settings.{SettingsValue};
 ghost use Rattle.sms_script.specs.Play.Standing.{at, Advances};
 ghost use Rattle.sms_script.specs.declared.fault.PlayFault.TheVariants.{Write};
 
 use crate::devices::Sink;
 use crate::fault::PlayFault;
+use crate::meaning::Event;
 use crate::playing::event::take_event;
 use crate::playing::network::Network;
 use crate::playing::start::started;
 use crate::script::Script;
 use std::alloc::Global;
+
+/// Plays the event that a line said, and puts what it tells into the sink.
+fn play_event<N: Network, K: Sink>(
+    alloc: Global,
+    script: &Script,
+    network: &mut Option<N>,
+    events: &mut u64,
+    event: &Event,
+    sink: &mut K,
+) -> Result<(), PlayFault>
+    requires works { K.has_failed sink.old ≡ false }
+    requires events { events.old < 2 ^ 60 }
+    ensures advances { (before : SettingsValue) (line : List ℕ)
+        → TakesLine before script.now line (Ok (Some event.now))
+        → before.lines < lines_limit → length line ≤ line_limit
+        → Advances N.conduct
+        (at before network.old events.old (K.contents sink.old)) line
+        (at script.now network.new events.new (K.contents sink.new)) result }
+    ensures events { OnOk result (events.new ≤ events.old + 1) }
+    ensures fails { result ≡ Err Write → K.has_failed sink.new ≡ true }
+    ensures works { result ≢ Err Write → K.has_failed sink.new ≡ false }
+{
+    let mut current = started(alloc, script, network.take())?;
+    *events += 1;
+    take_event(alloc, script, &mut current, *events, event, sink)?;
+    *network = Some(current);
+    Ok(())
+}
 
 /// Plays the next line of a script, and puts what it tells into the sink.
 pub fn play_line<N: Network, K: Sink>(
@@ -35,12 +65,8 @@ pub fn play_line<N: Network, K: Sink>(
     ensures fails { result ≡ Err Write → K.has_failed sink.new ≡ true }
     ensures works { result ≢ Err Write → K.has_failed sink.new ≡ false }
 {
-    let Some(event) = script.take(alloc, line)? else {
-        return Ok(());
-    };
-    let mut current = started(alloc, script, network.take())?;
-    *events += 1;
-    take_event(alloc, script, &mut current, *events, &event, sink)?;
-    *network = Some(current);
-    Ok(())
+    match script.take(alloc, line)? {
+        Some(event) => play_event(alloc, script, network, events, &event, sink),
+        None => Ok(()),
+    }
 }
