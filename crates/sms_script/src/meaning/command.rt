@@ -1,9 +1,11 @@
 //! The first words of lines.
 
-ghost use Rattle.std.specs.Prelude.{◌≡◌};
+ghost use Rattle.std.specs.Prelude.{◌≡◌, ◌∷◌, ℕ, List, Ok, Err, MatchOption, codes, if◌then◌else◌};
+ghost use Rattle.std.specs.Str.{bytes_eq};
 ghost use Rattle.sms_script.specs.Reasons.{Says};
 ghost use Rattle.sms_script.specs.Words.{left};
 ghost use Rattle.sms_script.specs.Meaning.Commands.{command, direction, is_setting};
+ghost use Rattle.sms_script.specs.declared.fault.ScriptFault.TheVariants.{UnknownCommand};
 
 use crate::fault::ScriptFault;
 use crate::words::next_word;
@@ -43,6 +45,32 @@ fn direction_of<'a>(line: Option<&'a str>) -> Result<(Command, Option<&'a str>),
     }
 }
 
+/// The command that a word is by itself.
+fn command_named(word: &str) -> Option<Command>
+    ensures { (more : List (List ℕ)) → MatchOption result
+        (command (word.now ∷ more)
+        ≡ (if bytes_eq word.now (codes "inject") then direction more else Err UnknownCommand))
+        (λ c. command (word.now ∷ more) ≡ Ok (c, more)) }
+{
+    match word {
+        "held" => Some(Command::Held),
+        "open" => Some(Command::Open),
+        "remembered" => Some(Command::Remembered),
+        "store" => Some(Command::Store),
+        "clock" => Some(Command::Clock),
+        "brief" => Some(Command::Brief),
+        "wide" => Some(Command::Wide),
+        "reject" => Some(Command::Reject),
+        "phone" => Some(Command::Phone),
+        "type" => Some(Command::Compose),
+        "carry" => Some(Command::Carry),
+        "timeout" => Some(Command::Timeout),
+        "push" => Some(Command::Push),
+        "tick" => Some(Command::Tick),
+        _ => None,
+    }
+}
+
 /// The command of a line, and what is left after it.
 pub fn command_of<'a>(line: Option<&'a str>) -> Result<(Command, Option<&'a str>), ScriptFault>
     ensures { Says (λ x. (x.0, left x.1)) result (command (left line.entry)) }
@@ -50,23 +78,10 @@ pub fn command_of<'a>(line: Option<&'a str>) -> Result<(Command, Option<&'a str>
     let Some((word, rest)) = next_word(line) else {
         return Err(ScriptFault::UnknownCommand);
     };
-    match word {
-        "held" => Ok((Command::Held, rest)),
-        "open" => Ok((Command::Open, rest)),
-        "remembered" => Ok((Command::Remembered, rest)),
-        "store" => Ok((Command::Store, rest)),
-        "clock" => Ok((Command::Clock, rest)),
-        "brief" => Ok((Command::Brief, rest)),
-        "wide" => Ok((Command::Wide, rest)),
-        "reject" => Ok((Command::Reject, rest)),
-        "phone" => Ok((Command::Phone, rest)),
-        "type" => Ok((Command::Compose, rest)),
-        "carry" => Ok((Command::Carry, rest)),
-        "timeout" => Ok((Command::Timeout, rest)),
-        "push" => Ok((Command::Push, rest)),
-        "tick" => Ok((Command::Tick, rest)),
-        "inject" => direction_of(rest),
-        _ => Err(ScriptFault::UnknownCommand),
+    match command_named(word) {
+        Some(command) => Ok((command, rest)),
+        None if word == "inject" => direction_of(rest),
+        None => Err(ScriptFault::UnknownCommand),
     }
 }
 

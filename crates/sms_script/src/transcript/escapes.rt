@@ -42,9 +42,9 @@ fn push_octet(out: &mut Vec<u8>, octet: u8) -> Result<(), AllocError>
         Escape::Letter(letter) => out.extend_from_slice(&[b'\\', letter])?,
         Escape::Digits => {
             let digits = b"0123456789abcdef";
-            out.extend_from_slice(b"\\x")?;
-            out.push(digits[octet as usize / 16])?;
-            out.push(digits[octet as usize % 16])?;
+            let high = digits[octet as usize / 16];
+            let low = digits[octet as usize % 16];
+            out.extend_from_slice(&[b'\\', b'x', high, low])?;
         }
     }
     Ok(())

@@ -3,7 +3,7 @@ use Rattle.std.proofs.lemmas.Result.{err_from_is_err_and}
 use Rattle.sms_script.proofs.EndTurns.{end_unmade, end_turn}
 use Rattle.sms_script.specs.Play.{Plays}
 use Rattle.sms_script.specs.declared.fault.PlayFault.{PlayFault}
-use Rattle.sms_script.proofs.playing.play.Goals as goal
+use Rattle.sms_script.proofs.playing.play_script.Goals as goal
 
 pub returns-in_err-network-clause-plays : goal.returns-in_err-network-clause-plays
 returns-in_err-network-clause-plays g c =

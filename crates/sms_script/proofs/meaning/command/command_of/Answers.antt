@@ -1,5 +1,0 @@
-use Rattle.std.proofs.Common.{rules}
-use Rattle.sms_script.proofs.meaning.command.command_of.Goals as goal
-
-pub returns-in-push : goal.returns-in-push
-returns-in-push c = search rules
