@@ -5,9 +5,7 @@ mod sent;
 use crate::found::is;
 use crate::written::is_written;
 use sent::{ANSWERS, DELIVERIES, SUBMISSIONS, Sent, UNITS};
-use sms_field::{
-    Address, AddressView, Fault, FieldFault, Reason, Refusal, RpAddress, RpAddressView,
-};
+use sms_field::{Address, AddressView, Fault, Reason, Refusal, RpAddress, RpAddressView};
 use sms_relay::{
     CpBodyView, CpMessage, CpView, Inner, InnerView, RelayFault, RpView, unwrap, unwrap_view,
 };
@@ -15,7 +13,7 @@ use sms_tpdu::{
     DeliverAckView, DeliverErrorView, DeliverView, HeaderView, SubmitAckView, SubmitErrorView,
     SubmitView, Unit, View, see,
 };
-use std::alloc::Global;
+use std::alloc::{AllocError, Global};
 use std::process::Abort;
 use std::test::Fail;
 
@@ -29,25 +27,30 @@ fn is_one<W: Reason + PartialEq>(octets: &[u8], refusal: Refusal<W>, fault: Faul
 }
 
 /// Whether two units are written alike.
-fn are_alike<U: Unit>(alloc: Global, one: &U, other: &U) -> Result<bool, Fail> {
+fn are_alike<U: Unit>(alloc: Global, one: &U, other: &U) -> Result<bool, AllocError> {
     let one = one.write(alloc)?;
     is_written(alloc, other, &one)
 }
 
 /// Whether octets are refused as their view is.
-fn is_refused<W: Reason + PartialEq, U: Unit<Why = W>>(
-    alloc: Global,
+fn is_refused<T: Drop, S: Drop, W: Reason + PartialEq>(
     octets: &[u8],
+    read: Result<(T, S), Refusal<W>>,
     fault: Fault<W>,
 ) -> bool {
-    match U::read(alloc, octets).err() {
+    match read.err() {
         Some(refusal) => is_one(octets, refusal, fault),
         None => false,
     }
 }
 
 /// Whether as many octets are read as a unit that is written as this one.
-fn is_read<U: Unit>(alloc: Global, octets: &[u8], value: &U, seen: usize) -> Result<bool, Fail> {
+fn is_read<U: Unit>(
+    alloc: Global,
+    octets: &[u8],
+    value: &U,
+    seen: usize,
+) -> Result<bool, AllocError> {
     match U::read(alloc, octets) {
         Ok((unit, used)) => Ok(are_alike(alloc, &unit, value)? && used == seen),
         Err(_) => Ok(false),
@@ -58,10 +61,10 @@ fn is_read<U: Unit>(alloc: Global, octets: &[u8], value: &U, seen: usize) -> Res
 fn agree<'a, W: Reason + PartialEq, U: Unit<Why = W>, V: View<'a, Owned = U>>(
     alloc: Global,
     octets: &'a [u8],
-) -> Result<bool, Fail> {
+) -> Result<bool, AllocError> {
     match see::<V>(octets) {
         Ok((view, seen)) => is_read(alloc, octets, &view.to_value(alloc)?, seen),
-        Err(fault) => Ok(is_refused::<W, U>(alloc, octets, fault)),
+        Err(fault) => Ok(is_refused(octets, U::read(alloc, octets), fault)),
     }
 }
 
@@ -73,19 +76,11 @@ fn is_address(alloc: Global, octets: &[u8], value: &Address, seen: usize) -> boo
     }
 }
 
-/// Whether octets are refused as an address as their view is.
-fn is_no_address(alloc: Global, octets: &[u8], fault: Fault<FieldFault>) -> bool {
-    match Address::read(alloc, octets) {
-        Ok(_) => false,
-        Err(refusal) => is_one(octets, refusal, fault),
-    }
-}
-
 /// Whether an address and its view are read alike.
-fn addresses_agree(alloc: Global, octets: &[u8]) -> Result<bool, Fail> {
+fn addresses_agree(alloc: Global, octets: &[u8]) -> Result<bool, AllocError> {
     match AddressView::read(octets) {
         Ok((view, seen)) => Ok(is_address(alloc, octets, &view.to_value(alloc)?, seen)),
-        Err(fault) => Ok(is_no_address(alloc, octets, fault)),
+        Err(fault) => Ok(is_refused(octets, Address::read(alloc, octets), fault)),
     }
 }
 
@@ -106,30 +101,22 @@ fn is_relay_address(alloc: Global, octets: &[u8], value: Option<&RpAddress>, see
     }
 }
 
-/// Whether octets are refused as an address of the relay layer as their view is.
-fn is_no_relay_address(alloc: Global, octets: &[u8], fault: Fault<FieldFault>) -> bool {
-    match RpAddress::read(alloc, octets) {
-        Ok(_) => false,
-        Err(refusal) => is_one(octets, refusal, fault),
-    }
-}
-
 /// Whether as many octets are read as what this view lends.
 fn is_lent(
     alloc: Global,
     octets: &[u8],
     view: Option<RpAddressView>,
     seen: usize,
-) -> Result<bool, Fail> {
+) -> Result<bool, AllocError> {
     let lent = RpAddressView::some_to_value(alloc, &view)?;
     Ok(is_relay_address(alloc, octets, lent.as_ref(), seen))
 }
 
 /// Whether an address of the relay layer and its view are read alike.
-fn relay_addresses_agree(alloc: Global, octets: &[u8]) -> Result<bool, Fail> {
+fn relay_addresses_agree(alloc: Global, octets: &[u8]) -> Result<bool, AllocError> {
     match RpAddressView::read(octets) {
         Ok((view, seen)) => is_lent(alloc, octets, view, seen),
-        Err(fault) => Ok(is_no_relay_address(alloc, octets, fault)),
+        Err(fault) => Ok(is_refused(octets, RpAddress::read(alloc, octets), fault)),
     }
 }
 
@@ -147,7 +134,7 @@ fn is_fault(octets: &[u8], one: (usize, RelayFault), other: (usize, RelayFault))
 }
 
 /// Whether what is found in a packet is the same, and octets that are short are so at their end.
-fn is_found(alloc: Global, octets: &[u8], inner: &Inner, seen: &Inner) -> Result<bool, Fail> {
+fn is_found(alloc: Global, octets: &[u8], inner: &Inner, seen: &Inner) -> Result<bool, AllocError> {
     match (inner, seen) {
         (Inner::Empty, Inner::Empty) => Ok(true),
         (Inner::Relay(one), Inner::Relay(other)) => are_alike(alloc, one, other),
@@ -171,15 +158,22 @@ fn carried<'a>(message: &CpView<'a>) -> &'a [u8] {
 }
 
 /// Whether a CP message is written as its view.
-fn is_message(alloc: Global, message: &CpMessage, view: &CpView) -> Result<bool, Fail> {
+fn is_message(alloc: Global, message: &CpMessage, view: &CpView) -> Result<bool, AllocError> {
     let lent = view.to_value(alloc)?;
     are_alike(alloc, message, &lent)
 }
 
 /// Whether what is found in a packet is what is seen in it.
-fn is_seen(alloc: Global, octets: &[u8], inner: &Inner, seen: &InnerView) -> Result<bool, Fail> {
+fn is_seen(
+    alloc: Global,
+    octets: &[u8],
+    inner: &Inner,
+    seen: &InnerView,
+) -> Result<bool, AllocError> {
     let seen = seen.to_value(alloc)?;
-    is_found(alloc, octets, inner, &seen)
+    let same = is_found(alloc, octets, inner, &seen);
+    drop(seen);
+    same
 }
 
 /// Whether a CP message and what is found in it are as they are seen.
@@ -187,36 +181,38 @@ fn are_seen(
     alloc: Global,
     found: (&CpMessage, &Inner),
     seen: (&CpView, &InnerView),
-) -> Result<bool, Fail> {
+) -> Result<bool, AllocError> {
     Ok(is_message(alloc, found.0, seen.0)? && is_seen(alloc, carried(seen.0), found.1, seen.1)?)
 }
 
 /// Whether a packet is unwrapped as it is seen.
-fn is_packet(alloc: Global, octets: &[u8], view: &CpView, seen: &InnerView) -> Result<bool, Fail> {
+fn is_packet(
+    alloc: Global,
+    octets: &[u8],
+    view: &CpView,
+    seen: &InnerView,
+) -> Result<bool, AllocError> {
     match unwrap(alloc, octets) {
-        Ok((message, inner)) => are_seen(alloc, (&message, &inner), (view, seen)),
+        Ok((message, inner)) => {
+            let same = are_seen(alloc, (&message, &inner), (view, seen));
+            drop(message);
+            drop(inner);
+            same
+        }
         Err(_) => Ok(false),
     }
 }
 
-/// Whether octets are refused as a packet as their view is.
-fn is_no_packet(alloc: Global, octets: &[u8], fault: Fault<RelayFault>) -> bool {
-    match unwrap(alloc, octets) {
-        Ok(_) => false,
-        Err(refusal) => is_one(octets, refusal, fault),
-    }
-}
-
 /// Whether a packet and its view are unwrapped alike.
-fn packets_agree(alloc: Global, octets: &[u8]) -> Result<bool, Fail> {
+fn packets_agree(alloc: Global, octets: &[u8]) -> Result<bool, AllocError> {
     match unwrap_view(octets) {
         Ok((view, seen)) => is_packet(alloc, octets, &view, &seen),
-        Err(fault) => Ok(is_no_packet(alloc, octets, fault)),
+        Err(fault) => Ok(is_refused(octets, unwrap(alloc, octets), fault)),
     }
 }
 
 /// Whether each reader of a transfer unit agrees with its view.
-fn units_agree(alloc: Global, octets: &[u8]) -> Result<bool, Fail> {
+fn units_agree(alloc: Global, octets: &[u8]) -> Result<bool, AllocError> {
     Ok(
         agree::<_, _, DeliverView>(alloc, octets)?
             && agree::<_, _, SubmitView>(alloc, octets)?
@@ -229,7 +225,7 @@ fn units_agree(alloc: Global, octets: &[u8]) -> Result<bool, Fail> {
 }
 
 /// Whether each reader agrees with its view.
-fn all_agree(alloc: Global, octets: &[u8]) -> Result<bool, Fail> {
+fn all_agree(alloc: Global, octets: &[u8]) -> Result<bool, AllocError> {
     Ok(
         units_agree(alloc, octets)?
             && agree::<_, _, RpView>(alloc, octets)?
@@ -241,7 +237,7 @@ fn all_agree(alloc: Global, octets: &[u8]) -> Result<bool, Fail> {
 }
 
 /// Octets of which one is another.
-fn changed(alloc: Global, octets: &[u8], place: usize, octet: u8) -> Result<Vec<u8>, Fail> {
+fn changed(alloc: Global, octets: &[u8], place: usize, octet: u8) -> Result<Vec<u8>, AllocError> {
     let mut changed = Vec::from_slice(alloc, octets)?;
     if let Some(old) = changed.get_mut(place) {
         *old = octet;
@@ -250,7 +246,7 @@ fn changed(alloc: Global, octets: &[u8], place: usize, octet: u8) -> Result<Vec<
 }
 
 /// Whether all agree where another octet stands at a place.
-fn agree_with(alloc: Global, octets: &[u8], place: usize, octet: u8) -> Result<bool, Fail> {
+fn agree_with(alloc: Global, octets: &[u8], place: usize, octet: u8) -> Result<bool, AllocError> {
     let changed = changed(alloc, octets, place, octet)?;
     all_agree(alloc, &changed)
 }
@@ -262,7 +258,7 @@ fn agree_at(
     octets: &[u8],
     says: &str,
     place: usize,
-) -> Result<(), Fail> {
+) -> Result<(), AllocError> {
     for octet in 0..=255u8 {
         let told = agree_with(alloc, octets, place, octet)?;
         is(rt, (says, place, octet), told, true);
@@ -271,7 +267,12 @@ fn agree_at(
 }
 
 /// Tries each length, and each octet at each place.
-fn try_each_place(rt: &impl Abort, alloc: Global, octets: &[u8], says: &str) -> Result<(), Fail> {
+fn try_each_place(
+    rt: &impl Abort,
+    alloc: Global,
+    octets: &[u8],
+    says: &str,
+) -> Result<(), AllocError> {
     for place in 0..octets.len() {
         is(
             rt,

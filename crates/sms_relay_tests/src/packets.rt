@@ -195,34 +195,20 @@ fn writes_acknowledgements(rt: HostRuntime) -> Result<(), Fail> {
     acknowledges(&rt, rt.alloc(), true, 6, &[0xE9, 0x04])
 }
 
-/// The place and the reason of a refusal.
-fn fault_of(refusal: Refusal<RelayFault>) -> Option<(usize, RelayFault)> {
-    match refusal {
-        Refusal::At { place, why } => Some((place, why)),
-        Refusal::Memory => None,
-    }
-}
-
-/// Where and why octets are refused as a packet.
-fn fault_of_packet(alloc: Global, octets: &[u8]) -> Option<(usize, RelayFault)> {
-    match unwrap(alloc, octets) {
-        Ok(_) => None,
-        Err(refusal) => fault_of(refusal),
-    }
-}
-
-/// Where and why octets are refused as an RP message.
-fn fault_of_relay(alloc: Global, octets: &[u8]) -> Option<(usize, RelayFault)> {
-    match RpMessage::read(alloc, octets) {
-        Ok(_) => None,
-        Err(refusal) => fault_of(refusal),
+/// Where and why octets are refused.
+fn fault_of<T: Drop, S: Drop>(
+    read: Result<(T, S), Refusal<RelayFault>>,
+) -> Option<(usize, RelayFault)> {
+    match read {
+        Err(Refusal::At { place, why }) => Some((place, why)),
+        _ => None,
     }
 }
 
 #[test]
 fn refuses_what_is_no_packet(rt: HostRuntime) {
     for row in NO_PACKETS.as_slice() {
-        let fault = fault_of_packet(rt.alloc(), row.octets);
+        let fault = fault_of(unwrap(rt.alloc(), row.octets));
         is(&rt, row.octets, fault, Some((row.place, row.why)));
     }
 }
@@ -230,21 +216,26 @@ fn refuses_what_is_no_packet(rt: HostRuntime) {
 #[test]
 fn refuses_what_is_no_relay(rt: HostRuntime) {
     for row in NO_RELAYS.as_slice() {
-        let fault = fault_of_relay(rt.alloc(), row.octets);
+        let fault = fault_of(RpMessage::read(rt.alloc(), row.octets));
         is(&rt, row.octets, fault, Some((row.place, row.why)));
     }
 }
 
-/// How many octets of a row are used, and whether its message is written as it tells.
-fn used_and_written(alloc: Global, row: &Again) -> Result<(usize, bool), Fail> {
-    let (message, used) = RpMessage::read(alloc, row.octets)?;
-    let written = is_written(alloc, &message, row.written)?;
-    Ok((used, written))
+/// How many octets are read as a unit, and whether it is written in others.
+fn used_and_written<U: Unit>(
+    alloc: Global,
+    octets: &[u8],
+    written: &[u8],
+) -> Result<(usize, bool), Fail> {
+    match U::read(alloc, octets) {
+        Ok((unit, used)) => Ok((used, is_written(alloc, &unit, written)?)),
+        Err(_) => Err("a unit".into()),
+    }
 }
 
 /// The message of a row is written as it tells.
 fn is_again(rt: &impl Abort, alloc: Global, row: &Again) -> Result<(), Fail> {
-    let found = used_and_written(alloc, row)?;
+    let found = used_and_written::<RpMessage>(alloc, row.octets, row.written)?;
     is(rt, row.octets, found, (row.written.len(), true));
     Ok(())
 }
@@ -265,10 +256,18 @@ fn has_user(inner: &Inner, user: &[u8]) -> bool {
     }
 }
 
+/// Whether this is said of what is found in a CP message, which has these user data.
+fn is_held(alloc: Global, inner: &Inner, said: &str, user: &[u8]) -> Result<bool, Fail> {
+    Ok(is_said(alloc, inner, said)? && has_user(inner, user))
+}
+
 /// Whether a packet says this, and holds these user data.
 fn holds(alloc: Global, packet: &[u8], said: &str, user: &[u8]) -> Result<bool, Fail> {
-    let (_, inner) = unwrap(alloc, packet)?;
-    Ok(is_said(alloc, &inner, said)? && has_user(&inner, user))
+    let (message, inner) = unwrap(alloc, packet)?;
+    let held = is_held(alloc, &inner, said, user);
+    drop(message);
+    drop(inner);
+    held
 }
 
 /// A transfer that a unit is put into, and what is said of it.
