@@ -219,25 +219,28 @@ fn are_255(rt: &impl Abort, segments: &Segments) {
     holds(rt, &"no other", segments.get(255).is_none());
 }
 
+/// The segments of 39,015 letters and another text.
+fn segments_of(alloc: Global, more: &str) -> Result<Segments, SplitFault> {
+    let text = repeated(alloc, "a", 39_015, more)?;
+    cut_text(alloc, &text, Width::Eight)
+}
+
 #[test]
 fn cuts_the_longest_text(rt: HostRuntime) -> Result<(), Fail> {
-    let longest = repeated(rt.alloc(), "a", 39_015, "")?;
-    let segments = cut_text(rt.alloc(), &longest, Width::Eight)?;
+    let segments = segments_of(rt.alloc(), "")?;
     are_255(&rt, &segments);
     Ok(())
 }
 
 #[test]
-fn refuses_a_longer_text(rt: HostRuntime) -> Result<(), Fail> {
-    let longer = repeated(rt.alloc(), "a", 39_015, "a")?;
-    let fault = cut_text(rt.alloc(), &longer, Width::Eight).err();
+fn refuses_a_longer_text(rt: HostRuntime) {
+    let fault = segments_of(rt.alloc(), "a").err();
     same(
         &rt,
         &"a letter more",
         &fault,
         &Some(SplitFault::TooManySegments),
     );
-    Ok(())
 }
 
 /// Whether such a text has segments of these numbers of units, and they are read as the text.

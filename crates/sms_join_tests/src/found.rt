@@ -8,16 +8,6 @@ pub fn same<T: PartialEq + Debug>(rt: &impl Abort, row: &impl Debug, found: &T, 
     assert_eq!(rt; found, wanted, "{row:?}");
 }
 
-/// The octets found are those wanted.
-pub fn are(rt: &impl Abort, row: &impl Debug, found: &[u8], wanted: &[u8]) {
-    assert_eq!(rt; found, wanted, "{row:?}");
-}
-
-/// The text found is the one wanted.
-pub fn is_text(rt: &impl Abort, found: &str, wanted: &str) {
-    assert_eq!(rt; found, wanted);
-}
-
 /// What is said of the row is so.
 pub fn holds(rt: &impl Abort, row: &impl Debug, so: bool) {
     assert!(rt; so, "{row:?}");

@@ -217,6 +217,22 @@ fn answers(
     holds(rt, &(row.shows, row.place), is_wanted(&answer, row.want));
 }
 
+/// The joiner answers as wanted to a piece from this address, and says before whether it would
+/// finish its set.
+fn offers_from(
+    rt: &impl Abort,
+    alloc: Global,
+    joiner: &mut Joiner,
+    now: u64,
+    origin: &Address,
+    row: &Row,
+) -> Result<(), Fail> {
+    says(rt, joiner, origin, row);
+    let units = units_of(alloc, row.piece)?;
+    answers(rt, joiner, now, origin, row, units);
+    Ok(())
+}
+
 /// The joiner answers as wanted, and says before whether the piece would finish its set.
 fn offers(
     rt: &impl Abort,
@@ -226,10 +242,7 @@ fn offers(
     row: &Row,
 ) -> Result<(), Fail> {
     let origin = Address::from_text(alloc, row.from)?;
-    says(rt, joiner, &origin, row);
-    let units = units_of(alloc, row.piece)?;
-    answers(rt, joiner, now, &origin, row, units);
-    Ok(())
+    offers_from(rt, alloc, joiner, now, &origin, row)
 }
 
 /// Offers all rows at a time.
@@ -269,18 +282,28 @@ fn origin_of(alloc: Global, row: &Row) -> Result<Address, AllocError> {
     }
 }
 
-/// Whether an offer is answered as wanted, and where it wants memory, one more. The joiner says of
-/// the piece before and between what it said.
-fn is_answered(alloc: Global, joiner: &mut Joiner, row: &Row) -> Result<bool, AllocError> {
-    let origin = origin_of(alloc, row)?;
+/// Whether an offer from this address is answered as wanted, and where it wants memory, one more.
+/// The joiner says of the piece before and between what it said.
+fn is_answered_from(
+    alloc: Global,
+    joiner: &mut Joiner,
+    origin: &Address,
+    row: &Row,
+) -> Result<bool, AllocError> {
     let (stamp, place) = (Stamp::new([0; 7]), checked(row.place));
-    let finishes = joiner.would_finish(&origin, stamp, place);
-    if let Some(wanted) = answered(alloc, joiner, &origin, row)? {
+    let finishes = joiner.would_finish(origin, stamp, place);
+    if let Some(wanted) = answered(alloc, joiner, origin, row)? {
         return Ok(wanted);
     }
-    let same = joiner.would_finish(&origin, stamp, place) == finishes;
-    let again = answered(alloc, joiner, &origin, row)?;
+    let same = joiner.would_finish(origin, stamp, place) == finishes;
+    let again = answered(alloc, joiner, origin, row)?;
     Ok(same && again == Some(true))
+}
+
+/// Whether an offer is answered as wanted, and where it wants memory, one more.
+fn is_answered(alloc: Global, joiner: &mut Joiner, row: &Row) -> Result<bool, AllocError> {
+    let origin = origin_of(alloc, row)?;
+    is_answered_from(alloc, joiner, &origin, row)
 }
 
 /// Offers the rows, and says which one is answered otherwise than wanted, if any is.
@@ -547,6 +570,18 @@ fn times_finished(
     Ok((times, right))
 }
 
+/// How often the set finishes, and how often as the text, where a new joiner is offered the
+/// segments in this order.
+fn times_joined(
+    alloc: Global,
+    segments: &Segments,
+    text: &str,
+    order: &[usize],
+) -> Result<(usize, usize), Fail> {
+    let mut joiner = Joiner::new(alloc, 1, 1)?;
+    times_finished(alloc, &mut joiner, segments, text, order)
+}
+
 /// The text finishes just once, where its segments are offered in this order.
 fn finishes_once(
     rt: &impl Abort,
@@ -556,9 +591,21 @@ fn finishes_once(
     text: &str,
     order: &[usize],
 ) -> Result<(), Fail> {
-    let mut joiner = Joiner::new(alloc, 1, 1)?;
-    let times = times_finished(alloc, &mut joiner, segments, text, order)?;
+    let times = times_joined(alloc, segments, text, order)?;
     same(rt, row, &times, &(1, 1));
+    Ok(())
+}
+
+/// The text finishes just once in each order.
+fn finishes_in_orders(
+    rt: &impl Abort,
+    alloc: Global,
+    segments: &Segments,
+    text: &str,
+) -> Result<(), Fail> {
+    for order in ORDERS.as_slice() {
+        finishes_once(rt, alloc, order, segments, text, order.as_slice())?;
+    }
     Ok(())
 }
 
@@ -567,10 +614,7 @@ fn finishes_once(
 fn joins_in_any_order(rt: HostRuntime) -> Result<(), Fail> {
     let text = letters(rt.alloc(), 307)?;
     let segments = cut_text(rt.alloc(), &text, Width::Eight)?;
-    for order in ORDERS.as_slice() {
-        finishes_once(&rt, rt.alloc(), order, &segments, &text, order.as_slice())?;
-    }
-    Ok(())
+    finishes_in_orders(&rt, rt.alloc(), &segments, &text)
 }
 
 /// The places of 255 segments, the last first.
@@ -632,14 +676,19 @@ static AFTER_THOSE: [Row; 3] = [
     },
 ];
 
-/// Which of these rows a new joiner answers otherwise than wanted, if any.
-fn differs(alloc: Global) -> Result<Option<&'static str>, AllocError> {
-    let mut joiner = Joiner::new(alloc, 1, 1)?;
-    let other = differs_from(alloc, &mut joiner, IN_TURN.as_slice())?;
+/// Which of these rows the joiner answers otherwise than wanted, if any.
+fn differs_in_turn(alloc: Global, joiner: &mut Joiner) -> Result<Option<&'static str>, AllocError> {
+    let other = differs_from(alloc, joiner, IN_TURN.as_slice())?;
     if other.is_some() {
         return Ok(other);
     }
-    differs_from(alloc, &mut joiner, AFTER_THOSE.as_slice())
+    differs_from(alloc, joiner, AFTER_THOSE.as_slice())
+}
+
+/// Which of these rows a new joiner answers otherwise than wanted, if any.
+fn differs(alloc: Global) -> Result<Option<&'static str>, AllocError> {
+    let mut joiner = Joiner::new(alloc, 1, 1)?;
+    differs_in_turn(alloc, &mut joiner)
 }
 
 /// One growth is refused, whichever it is (docs/CONTRIBUTING.md says how): an offer that wants

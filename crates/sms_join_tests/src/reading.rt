@@ -2,7 +2,7 @@
 
 ghost use Rattle.std.specs.Prelude.{◌<◌};
 
-use crate::found::is_text;
+use crate::found::same;
 use sms_join::{Ucs2Units, Units, read_units};
 use sms_tpdu::Septets;
 use std::alloc::{AllocError, Global};
@@ -28,7 +28,7 @@ fn put_unit(alloc: Global, segments: &mut Vec<Units>, unit: u16) -> Result<(), A
 /// The segments are read as the text.
 fn reads(rt: &impl Abort, alloc: Global, segments: &[Units], text: &str) -> Result<(), Fail> {
     let read = read_units(alloc, segments)?;
-    is_text(rt, &read, text);
+    same(rt, &text, &read.as_str(), &text);
     Ok(())
 }
 

@@ -5,7 +5,7 @@ ghost use Rattle.sms_tpdu.specs.declared.user_data.concat.Width.TheVariants.{Eig
 ghost use Rattle.sms_join.specs.SegmentUser.{IsSendable};
 
 use crate::cut::{CUTS, repeated};
-use crate::found::{are, holds};
+use crate::found::{holds, same};
 use sms_join::{SegmentView, cut_text, segment_user, split};
 use sms_tpdu::{Body, UserData, Width};
 use std::alloc::{AllocError, Global};
@@ -103,7 +103,7 @@ fn last_octets(alloc: Global, text: &str, width: Width) -> Result<Vec<u8>, Fail>
 /// The last segment of a text is that of a row.
 fn gives(rt: &impl Abort, alloc: Global, text: &str, row: &LastSegment) -> Result<(), Fail> {
     let found = last_octets(alloc, text, row.width)?;
-    are(rt, &text, &found, row.octets);
+    same(rt, &text, &found.as_slice(), &row.octets);
     Ok(())
 }
 
