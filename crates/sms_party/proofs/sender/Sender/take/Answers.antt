@@ -34,8 +34,8 @@ returns-then-flag-clause-steps c = λ phone x stands.
     subst (λ (m : Message). Answered (SenderStands phone c.take_answer.new.self) x (in_messages (sender_takes x phone m)) c.take_answer.result) (sym (c.in-Data.is ∙ ap (λ b. Data b c.in-Data.tag c.in-Data.relay) c.if-flag.true))
     (c.take_answer.ensures.steps phone x stands)
 
-pub returns-else-flag-clause-steps : goal.returns-else-flag-clause-steps
+pub returns-clause-steps : goal.returns-clause-steps
 unfolding sender_takes
-returns-else-flag-clause-steps c = λ phone x stands.
+returns-clause-steps c = λ phone x stands.
     subst (λ (m : Message). Answered (SenderStands phone c.args.self.now) x (in_messages (sender_takes x phone m)) (Err Unmatched)) (sym (c.in-Data.is ∙ ap (λ b. Data b c.in-Data.tag c.in-Data.relay) c.if-flag.false))
     (nothing_comes phone x c.args.self.now stands)

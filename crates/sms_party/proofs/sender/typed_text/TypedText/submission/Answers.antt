@@ -1,6 +1,5 @@
-use Rattle.std.proofs.Common.{◌≡◌, ◌<◌, refl, sym, ap, ◌∙◌, subst, arith, rules}
+use Rattle.std.proofs.Common.{◌<◌, sym, subst, arith, rules}
 use Rattle.sms_field.specs.AddressValue.{HasSpelling}
-use Rattle.sms_field.specs.Coding.{alphabet_at}
 use Rattle.sms_field.specs.declared.coding.Alphabet.{Alphabet}
 use Rattle.sms_tpdu.specs.UserData.{FitsAlphabet}
 use Rattle.sms_join.specs.declared.units.Units.{Units}
