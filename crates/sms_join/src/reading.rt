@@ -80,11 +80,7 @@ fn joined_texts(alloc: Global, segments: &[&Units]) -> Result<String, AllocError
 fn lend(alloc: Global, segments: &[Units]) -> Result<Vec<&Units>, AllocError>
     ensures { IfOk result (λ pieces. lent pieces.items ≡ segments.now) }
 {
-    let mut pieces = Vec::with_capacity(alloc, segments.len())?;
-    for units in segments {
-        pieces.push(units)?;
-    }
-    Ok(pieces)
+    segments.iter().collect(alloc)
 }
 
 /// The units at each place, lent, and these at a place that is empty.
