@@ -10,7 +10,7 @@ pub fn same<T: PartialEq + Debug>(rt: &impl Abort, row: &impl Debug, found: &T, 
 
 /// The octets found are those wanted.
 pub fn are(rt: &impl Abort, row: &impl Debug, found: &[u8], wanted: &[u8]) {
-    assert_eq!(rt; found, wanted, "{row:?}");
+    same(rt, row, &found, &wanted);
 }
 
 /// What is said of the row is so.
