@@ -1,6 +1,6 @@
 -- What a sender puts out, in packets.
 use Rattle.std.proofs.lemmas.Bool.Decides.{nat_tests}
-use Rattle.std.proofs.Common.{◌≡◌, ◌≢◌, ◌==◌, arith, ℕ, Bool, true, false, List, [], ◌∷◌, ◌++◌, map, drop, Option, Some, None, refl, sym, ap, ◌∙◌, subst}
+use Rattle.std.proofs.Common.{◌≡◌, ◌≢◌, ◌==◌, arith, ℕ, suc, Bool, true, false, List, [], ◌∷◌, ◌++◌, map, drop, length, not, Option, Some, None, refl, sym, ap, ◌∙◌, subst}
 use Rattle.std.specs.Option.{option_to_list, is_some}
 use Rattle.std.specs.List.{slice_get}
 use Rattle.sms_party.specs.declared.message.Message.{Message}
@@ -31,6 +31,16 @@ is_out f None [] h = refl
 is_out f None (m ∷ ms) h = absurd h
 is_out f (Some p) [] h = absurd h
 is_out f (Some p) (m ∷ ms) h = refl
+
+is_positive : (n : ℕ) → (suc n == 0) ≡ false
+is_positive n = grind (arith, nat_tests)
+
+-- whether there are any
+pub are_out : {X : Type 0} (f : X → List ℕ) (packets : List X) (ms : List Message) (none : Bool) → none ≡ (length packets == 0) → CarriesEach (map f packets) ms → not none ≡ is_more ms
+are_out f [] [] none e h = ap not e
+are_out f [] (m ∷ ms) none e h = absurd h
+are_out f (p ∷ ps) [] none e h = absurd h
+are_out f (p ∷ ps) (m ∷ ms) none e h = ap not (e ∙ is_positive (length ps))
 
 pub second_first : {X : Type 0} (xs : List X) → slice_get xs 1 ≡ slice_get (drop 1 xs) 0
 second_first [] = refl

@@ -7,7 +7,7 @@ ghost use Rattle.sms_party.specs.Message.Reading.{HasTag};
 ghost use Rattle.sms_party.specs.Centre.Pushes.{is_more};
 ghost use Rattle.sms_party.specs.Sender.Calls.{times_out};
 ghost use Rattle.sms_party.specs.Sender.Answers.{failure_of, accepts, sender_receives, sender_takes};
-ghost use Rattle.sms_party.specs.Sender.Value.{text_in, enters, first_put, hears_at, text_put, following, next_set, counted, puts_again, puts_next, ends_first, CarriesOptional, Did, status_among, statuses_in};
+ghost use Rattle.sms_party.specs.Sender.Value.{text_in, enters, first_put, hears_at, text_put, following, next_set, counted, puts_again, puts_next, ends_first, CarriesOptional, CarriesAll, Did, status_among, statuses_in};
 ghost use Rattle.sms_party.specs.Sender.Stands.{Steps, Receives, Types, TellsStatus, IsNewSender};
 ghost use Rattle.sms_party.specs.declared.outcome.Dropped.TheVariants.{Memory};
 ghost use Rattle.sms_party.specs.declared.message.Message.{Message as MessageValue};
@@ -237,9 +237,8 @@ impl Sender {
     {
         let number = self.ended.len() + self.pending.len() + 1;
         let size = text.segments.len();
-        let submission = self.first_submission(&text)?;
-        let is_out = submission.is_some();
-        let packets = packets_of(self.alloc, None, submission)?;
+        let packets = self.first_packets(&text)?;
+        let is_out = !packets.is_empty();
         self.pending.reserve(1)?;
         self.message_reference = self.message_reference.wrapping_add(size as u8);
         self.set_reference = next_set(self.width, size, self.set_reference);
@@ -247,6 +246,16 @@ impl Sender {
         self.count(is_out);
         let outcome = Outcome::Typed { text: number };
         Ok(Step { outcome, packets })
+    }
+
+    /// The packets of a text's first segment, where no other text waits.
+    fn first_packets(&self, text: &TypedText) -> Result<Vec<Vec<u8>>, Dropped>
+        ensures carries { IfOk result (λ packets.
+            CarriesAll packets (first_put self.now text.now)) }
+        ensures err { IfErr result (λ e. e ≡ Memory) }
+    {
+        let submission = self.first_submission(text)?;
+        Ok(packets_of(self.alloc, None, submission)?)
     }
 
     /// The packet of a text's first segment, where no other text waits.
@@ -302,6 +311,15 @@ impl Sender {
         ensures steps { Steps (λ x phone. sender_takes x phone message) self.old result self.new }
         ensures refused { OnErr result (self.new ≡ self.old) }
     {
+        self.take_lent(&message)
+    }
+
+    /// Takes a message that is lent.
+    fn take_lent(&mut self, message: &Message) -> Result<Step, Dropped>
+        requires tag { HasTag message.now }
+        ensures steps { Steps (λ x phone. sender_takes x phone message.now) self.old result self.new }
+        ensures refused { OnErr result (self.new ≡ self.old) }
+    {
         match message {
             Message::NotCp => Err(Dropped::NotCp),
             Message::Note { .. } => Ok(Step {
@@ -310,8 +328,8 @@ impl Sender {
             }),
             Message::Tiny { .. } => Err(Dropped::Unmatched),
             Message::Data { flag, tag, relay } => {
-                if flag {
-                    self.take_answer(tag, &relay)
+                if *flag {
+                    self.take_answer(*tag, relay)
                 } else {
                     Err(Dropped::Unmatched)
                 }

@@ -119,6 +119,10 @@ puts_out v reject word first =
 abbrev pub CarriesOptional : Option (Vec ℕ Global) → List Message → Type 0
 CarriesOptional packet messages = CarriesEach (map (λ p. p.items) (option_to_list packet)) messages
 
+-- what a list of packets carries
+abbrev pub CarriesAll : Vec (Vec ℕ Global) Global → List Message → Type 0
+CarriesAll packets messages = CarriesEach (map (λ p. p.items) packets.items) messages
+
 -- ---- calls
 
 -- the call of a value did this
