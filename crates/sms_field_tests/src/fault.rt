@@ -1,14 +1,10 @@
 //! The words of reasons.
 
+use crate::found::is;
 use sms_field::{AddressFault, FieldFault, Refusal, TextFault};
 use std::alloc::Global;
 use std::process::Abort;
 use std::test::Fail;
-
-/// The words are those that are wanted.
-fn is(rt: &impl Abort, found: &str, wanted: &str) {
-    assert_eq!(rt; found, wanted);
-}
 
 /// A refusal has these words.
 fn refused(
@@ -18,21 +14,21 @@ fn refused(
     words: &str,
 ) -> Result<(), Fail> {
     let found = refusal.to_string(alloc)?;
-    is(rt, &found, words);
+    is(rt, words, found.as_str(), words);
     Ok(())
 }
 
 /// The reason of a field has these words.
 fn of_field(rt: &impl Abort, alloc: Global, why: FieldFault, words: &str) -> Result<(), Fail> {
     let found = why.to_string(alloc)?;
-    is(rt, &found, words);
+    is(rt, words, found.as_str(), words);
     Ok(())
 }
 
 /// The reason of a text has these words.
 fn of_text(rt: &impl Abort, alloc: Global, why: TextFault, words: &str) -> Result<(), Fail> {
     let found = why.to_string(alloc)?;
-    is(rt, &found, words);
+    is(rt, words, found.as_str(), words);
     Ok(())
 }
 

@@ -52,16 +52,16 @@ fn is_month(rt: &impl Abort, year: u8, row: Month, first: u64) -> u64 {
 }
 
 /// The months of a year are what they must be.
-fn is_year(rt: &impl Abort, row: Year) {
+fn is_year(rt: &impl Abort, row: &Year) {
     let mut next = row.before.wrapping_mul(86_400);
-    for month in MONTHS {
-        next = is_month(rt, row.year, month_in(row.leap, month), next);
+    for month in MONTHS.as_slice() {
+        next = is_month(rt, row.year, month_in(row.leap, *month), next);
     }
 }
 
 #[test]
 fn months(rt: HostRuntime) {
-    for row in YEARS {
+    for row in YEARS.as_slice() {
         is_year(&rt, row);
     }
 }
@@ -88,7 +88,7 @@ fn leap_days(rt: HostRuntime) {
 }
 
 /// A moment in a zone has the stamp of its row, which has the moment.
-fn is_end(rt: &impl Abort, row: End) {
+fn is_end(rt: &impl Abort, row: &End) {
     match row.octets {
         Some(octets) => belong_in(rt, octets, row.moment, row.quarters),
         None => is_at(rt, row.moment, row.quarters, None),
@@ -97,14 +97,14 @@ fn is_end(rt: &impl Abort, row: End) {
 
 #[test]
 fn moments_and_stamps(rt: HostRuntime) {
-    for row in ENDS {
+    for row in ENDS.as_slice() {
         is_end(&rt, row);
     }
 }
 
 #[test]
 fn stamps_without_moments(rt: HostRuntime) {
-    for octets in WITHOUT {
-        is_of(&rt, octets, None);
+    for octets in WITHOUT.as_slice() {
+        is_of(&rt, *octets, None);
     }
 }

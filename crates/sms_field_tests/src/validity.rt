@@ -13,7 +13,7 @@ fn ends(rt: &impl Abort, octet: u8, end: u64) {
 }
 
 /// The periods of a range end where they must.
-fn all_end(rt: &impl Abort, row: Steps) {
+fn all_end(rt: &impl Abort, row: &Steps) {
     let mut end = row.seconds;
     for octet in row.first..=row.last {
         ends(rt, octet, end);
@@ -23,7 +23,7 @@ fn all_end(rt: &impl Abort, row: Steps) {
 
 #[test]
 fn ranges(rt: HostRuntime) {
-    for row in RANGES {
+    for row in RANGES.as_slice() {
         all_end(&rt, row);
     }
 }
@@ -36,7 +36,7 @@ fn ends_after(rt: &impl Abort, octet: u8, seconds: u64) {
 
 #[test]
 fn ends_of_ranges(rt: HostRuntime) {
-    for row in RANGES {
+    for row in RANGES.as_slice() {
         ends_after(&rt, row.first, row.seconds);
         ends_after(&rt, row.last, row.last_seconds);
     }

@@ -24,7 +24,7 @@ pub struct Refused {
     pub why: FieldFault,
 }
 
-pub const FOUND: [Found; 10] = [
+pub static FOUND: [Found; 10] = [
     Found {
         octets: b"\x00\x81",
         type_of_number: 0,
@@ -97,7 +97,7 @@ pub const FOUND: [Found; 10] = [
     },
 ];
 
-pub const REFUSED: [Refused; 16] = [
+pub static REFUSED: [Refused; 16] = [
     Refused {
         octets: b"",
         place: 0,
@@ -187,7 +187,7 @@ pub struct Written {
     pub want: &'static [u8],
 }
 
-pub const WRITTEN: [Written; 4] = [
+pub static WRITTEN: [Written; 4] = [
     Written {
         octets: b"\x00\x01",
         want: b"\x00\x81",
@@ -220,7 +220,7 @@ pub struct Bad {
     pub fault: AddressFault,
 }
 
-pub const SPELLED: [Spelled; 12] = [
+pub static SPELLED: [Spelled; 12] = [
     Spelled {
         text: "",
         octets: b"\x00\x81",
@@ -271,7 +271,7 @@ pub const SPELLED: [Spelled; 12] = [
     },
 ];
 
-pub const BAD: [Bad; 11] = [
+pub static BAD: [Bad; 11] = [
     Bad {
         text: "+12x",
         fault: AddressFault::BadDigit,
@@ -325,7 +325,7 @@ pub struct Named {
     pub text: &'static str,
 }
 
-pub const NAMED: [Named; 4] = [
+pub static NAMED: [Named; 4] = [
     Named {
         octets: b"\x0D\xD0\xE8\x32\x9B\xFD\x46\x97\x01",
         text: "hellohe",

@@ -11,7 +11,7 @@ pub struct Schemes {
 }
 
 /// All coding schemes.
-pub const ROWS: [Schemes; 22] = [
+pub static ROWS: [Schemes; 22] = [
     Schemes {
         first: 0x00,
         last: 0x03,

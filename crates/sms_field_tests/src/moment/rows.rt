@@ -9,7 +9,7 @@ pub struct Year {
 }
 
 /// The first years, one in the middle, and the last one.
-pub const YEARS: [Year; 5] = [
+pub static YEARS: [Year; 5] = [
     Year {
         year: 0x00,
         before: 0,
@@ -46,7 +46,7 @@ pub struct Month {
 }
 
 /// The months of a year of 365 days.
-pub const MONTHS: [Month; 12] = [
+pub static MONTHS: [Month; 12] = [
     Month {
         month: 0x10,
         last: 0x13,
@@ -118,7 +118,7 @@ pub struct End {
 }
 
 /// The first and the last moments in several zones.
-pub const ENDS: [End; 14] = [
+pub static ENDS: [End; 14] = [
     End {
         moment: 0,
         quarters: 0,
@@ -192,7 +192,7 @@ pub const ENDS: [End; 14] = [
 ];
 
 /// Octets that have no moment: a time before 2000, one in the east, and month nought.
-pub const WITHOUT: [[u8; 7]; 3] = [
+pub static WITHOUT: [[u8; 7]; 3] = [
     [0x00, 0x10, 0x10, 0x00, 0x00, 0x00, 0x10],
     [0x00, 0x10, 0x10, 0x91, 0x44, 0x95, 0x97],
     [0x00, 0x00, 0x00, 0x00, 0x00, 0x00, 0x00],

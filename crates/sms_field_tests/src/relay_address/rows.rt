@@ -24,7 +24,7 @@ pub struct Refused {
     pub why: FieldFault,
 }
 
-pub const SPELLED: [Spelled; 6] = [
+pub static SPELLED: [Spelled; 6] = [
     Spelled {
         text: "",
         octets: b"\x01\x81",
@@ -51,7 +51,7 @@ pub const SPELLED: [Spelled; 6] = [
     },
 ];
 
-pub const BAD: [Bad; 4] = [
+pub static BAD: [Bad; 4] = [
     Bad {
         text: "abcd",
         fault: AddressFault::BadDigit,
@@ -70,7 +70,7 @@ pub const BAD: [Bad; 4] = [
     },
 ];
 
-pub const REFUSED: [Refused; 9] = [
+pub static REFUSED: [Refused; 9] = [
     Refused {
         octets: b"",
         place: 0,

@@ -12,7 +12,7 @@ pub struct Placed {
 }
 
 /// Octets at the ends of what each place may hold.
-pub const PLACES: [Placed; 16] = [
+pub static PLACES: [Placed; 16] = [
     // Months 0, 1, 12 and 13.
     Placed {
         place: 1,
@@ -108,7 +108,7 @@ pub struct LastDay {
 }
 
 /// Leap years and others.
-pub const FEBRUARY: [LastDay; 8] = [
+pub static FEBRUARY: [LastDay; 8] = [
     LastDay {
         year: 0x00,
         day: 0x92,
@@ -158,7 +158,7 @@ pub struct Zone {
     pub quarters: i8,
 }
 
-pub const ZONES: [Zone; 6] = [
+pub static ZONES: [Zone; 6] = [
     Zone {
         octet: 0x00,
         quarters: 0,

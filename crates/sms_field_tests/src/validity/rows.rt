@@ -12,7 +12,7 @@ pub struct Steps {
 }
 
 /// The ranges of the standard's table.
-pub const RANGES: [Steps; 4] = [
+pub static RANGES: [Steps; 4] = [
     Steps {
         first: 0,
         last: 143,
