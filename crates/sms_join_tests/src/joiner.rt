@@ -44,6 +44,14 @@ static ORDERS: [[usize; 6]; 12] = [
     [2, 1, 0, 2, 1, 0],
 ];
 
+/// The first segment of two, under the reference 6.
+const FIRST_OF_6: Option<Concat> = Some(Concat {
+    width: Width::Eight,
+    reference: 6,
+    maximum: 2,
+    sequence: 1,
+});
+
 /// The first segment of two, under the reference 7.
 const FIRST: Option<Concat> = Some(Concat {
     width: Width::Eight,
@@ -169,24 +177,6 @@ struct Row {
     want: Want,
 }
 
-impl Row {
-    /// Letters from +1001.
-    fn letters(
-        shows: &'static str,
-        place: Option<Concat>,
-        letters: &'static str,
-        want: Want,
-    ) -> Row {
-        Row {
-            shows,
-            from: "+1001",
-            place,
-            piece: PieceUnits::Gsm(letters),
-            want,
-        }
-    }
-}
-
 /// Whether the answer is what is wanted.
 fn is_wanted(answer: &Result<Offer, OfferFault>, want: Want) -> bool {
     match (answer, want) {
@@ -245,16 +235,15 @@ fn offers(
     offers_from(rt, alloc, joiner, now, &origin, row)
 }
 
-/// Offers all rows at a time.
+/// Offers all rows.
 fn offers_all(
     rt: &impl Abort,
     alloc: Global,
     joiner: &mut Joiner,
-    now: u64,
     rows: &[Row],
 ) -> Result<(), Fail> {
     for row in rows {
-        offers(rt, alloc, joiner, now, row)?;
+        offers(rt, alloc, joiner, 0, row)?;
     }
     Ok(())
 }
@@ -376,7 +365,7 @@ static IN_TURN: [Row; 7] = [
 #[test]
 fn answers_in_turn(rt: HostRuntime) -> Result<(), Fail> {
     let mut joiner = Joiner::new(rt.alloc(), 1, 1)?;
-    offers_all(&rt, rt.alloc(), &mut joiner, 0, IN_TURN.as_slice())
+    offers_all(&rt, rt.alloc(), &mut joiner, IN_TURN.as_slice())
 }
 
 /// Sets of two origins under one reference, and of both widths under one number.
@@ -449,8 +438,35 @@ static APART: [Row; 9] = [
 #[test]
 fn keeps_sets_apart(rt: HostRuntime) -> Result<(), Fail> {
     let mut joiner = Joiner::new(rt.alloc(), 4, 2)?;
-    offers_all(&rt, rt.alloc(), &mut joiner, 0, APART.as_slice())
+    offers_all(&rt, rt.alloc(), &mut joiner, APART.as_slice())
 }
+
+/// The first letter in a set of two, which opens it.
+static OPENS: Row = Row {
+    shows: "opens",
+    from: "+1001",
+    place: None,
+    piece: PieceUnits::Gsm("a"),
+    want: Want::Kept,
+};
+
+/// The first letter in a set beside six that are open.
+static SEVENTH: Row = Row {
+    shows: "a seventh",
+    from: "+1001",
+    place: FIRST_OF_6,
+    piece: PieceUnits::Gsm("a"),
+    want: Want::TooManyOpen,
+};
+
+/// The last letter in a set of two.
+static LAST: Row = Row {
+    shows: "the last",
+    from: "+1001",
+    place: None,
+    piece: PieceUnits::Gsm("b"),
+    want: Want::Finished("ab"),
+};
 
 /// Offers a letter with this sequence in each of six sets.
 fn offers_six(
@@ -458,24 +474,20 @@ fn offers_six(
     alloc: Global,
     joiner: &mut Joiner,
     sequence: u8,
-    row: Row,
+    row: &Row,
 ) -> Result<(), Fail> {
     for reference in 0..6 {
         let place = of_two(Width::Eight, reference, sequence);
-        offers(rt, alloc, joiner, 0, &Row { place, ..row })?;
+        offers(rt, alloc, joiner, 0, &Row { place, ..*row })?;
     }
     Ok(())
 }
 
 /// Opens six sets, offers a seventh, and offers the last of each of the six.
 fn holds_six(rt: &impl Abort, alloc: Global, joiner: &mut Joiner) -> Result<(), Fail> {
-    let opens = Row::letters("opens", None, "a", Want::Kept);
-    offers_six(rt, alloc, joiner, 1, opens)?;
-    let seventh = of_two(Width::Eight, 6, 1);
-    let seventh = Row::letters("a seventh", seventh, "a", Want::TooManyOpen);
-    offers(rt, alloc, joiner, 0, &seventh)?;
-    let last = Row::letters("the last", None, "b", Want::Finished("ab"));
-    offers_six(rt, alloc, joiner, 2, last)
+    offers_six(rt, alloc, joiner, 1, &OPENS)?;
+    offers(rt, alloc, joiner, 0, &SEVENTH)?;
+    offers_six(rt, alloc, joiner, 2, &LAST)
 }
 
 /// Six sets are open at a time, and a seventh is one too many.
@@ -485,19 +497,63 @@ fn holds_six_open_sets(rt: HostRuntime) -> Result<(), Fail> {
     holds_six(&rt, rt.alloc(), &mut joiner)
 }
 
+/// What is offered at a moment.
+struct At {
+    now: u64,
+    row: Row,
+}
+
 /// A set is opened, is there a second before its time, and then makes room.
+static AGES: [At; 4] = [
+    At {
+        now: 5,
+        row: Row {
+            shows: "opens",
+            from: "+1001",
+            place: FIRST,
+            piece: PieceUnits::Gsm("a"),
+            want: Want::Kept,
+        },
+    },
+    At {
+        now: 604_804,
+        row: Row {
+            shows: "is there yet",
+            from: "+1001",
+            place: FIRST,
+            piece: PieceUnits::Gsm("a"),
+            want: Want::Repeat,
+        },
+    },
+    At {
+        now: 604_805,
+        row: Row {
+            shows: "has room",
+            from: "+1001",
+            place: FIRST_OF_8,
+            piece: PieceUnits::Gsm("c"),
+            want: Want::Kept,
+        },
+    },
+    At {
+        now: 604_805,
+        row: Row {
+            shows: "was dropped",
+            from: "+1001",
+            place: SECOND,
+            piece: PieceUnits::Gsm("b"),
+            want: Want::TooManyOpen,
+        },
+    },
+];
+
+/// Offers the rows of a table, and lets the joiner age to the moment of each.
 fn ages(rt: &impl Abort, alloc: Global, joiner: &mut Joiner) -> Result<(), Fail> {
-    let opens = [Row::letters("opens", FIRST, "a", Want::Kept)];
-    let again = [Row::letters("is there yet", FIRST, "a", Want::Repeat)];
-    let room = [
-        Row::letters("has room", FIRST_OF_8, "c", Want::Kept),
-        Row::letters("was dropped", SECOND, "b", Want::TooManyOpen),
-    ];
-    offers_all(rt, alloc, joiner, 5, opens.as_slice())?;
-    joiner.age(604_804);
-    offers_all(rt, alloc, joiner, 604_804, again.as_slice())?;
-    joiner.age(604_805);
-    offers_all(rt, alloc, joiner, 604_805, room.as_slice())
+    for at in AGES.as_slice() {
+        joiner.age(at.now);
+        offers(rt, alloc, joiner, at.now, &at.row)?;
+    }
+    Ok(())
 }
 
 /// A set is dropped seven days after its first piece, whenever others came, and makes room.
@@ -699,6 +755,6 @@ fn answers_after_a_refused_growth(rt: HostRuntime) -> Result<(), Fail> {
         Ok(other) => other,
         Err(_) => differs(rt.alloc())?,
     };
-    assert_eq!(rt; other, None);
+    same(&rt, &"answered otherwise", &other, &None);
     Ok(())
 }

@@ -1,12 +1,12 @@
 //! The user data of segments.
 
-ghost use Rattle.std.specs.Prelude.{◌≡◌, ◌<◌};
+ghost use Rattle.std.specs.Prelude.{◌≡◌, ◌<◌, All};
 ghost use Rattle.sms_tpdu.specs.declared.user_data.concat.Width.TheVariants.{Eight};
 ghost use Rattle.sms_join.specs.SegmentUser.{IsSendable};
 
 use crate::cut::{CUTS, repeated};
 use crate::found::{holds, same};
-use sms_join::{SegmentView, cut_text, segment_user, split};
+use sms_join::{SegmentView, Segments, cut_text, segment_user, split};
 use sms_tpdu::{Body, UserData, Width};
 use std::alloc::{AllocError, Global};
 use std::process::Abort;
@@ -160,9 +160,10 @@ fn is_written(
     Ok(octets == user && octets == again)
 }
 
-/// Whether all segments of a text are written as their user data are.
-fn are_written(alloc: Global, text: &str, width: Width) -> Result<bool, Fail> {
-    let segments = cut_text(alloc, text, width)?;
+/// Whether all segments are written as their user data are.
+fn all_are_written(alloc: Global, segments: &Segments, width: Width) -> Result<bool, Fail>
+    requires sendable { All (IsSendable width) segments.now }
+{
     for place in 0..segments.len() {
         let segment = segments.get(place).ok_or("no segment")?;
         if !is_written(alloc, &segment, width, 200)? {
@@ -170,6 +171,12 @@ fn are_written(alloc: Global, text: &str, width: Width) -> Result<bool, Fail> {
         }
     }
     Ok(true)
+}
+
+/// Whether all segments of a text are written as their user data are.
+fn are_written(alloc: Global, text: &str, width: Width) -> Result<bool, Fail> {
+    let segments = cut_text(alloc, text, width)?;
+    all_are_written(alloc, &segments, width)
 }
 
 /// The segments of a text are written as their user data are.
