@@ -1,6 +1,6 @@
 //! The receiving phone.
 
-ghost use Rattle.std.specs.Prelude.{◌≡◌, ◌<◌, ◌≤◌, nat_le, length, ◌&&◌, ℕ, IfOk, OnErr};
+ghost use Rattle.std.specs.Prelude.{◌≡◌, ◌<◌, ◌≤◌, nat_le, length, ◌&&◌, ℕ, false, IfOk, OnErr};
 ghost use Rattle.sms_field.specs.Coding.{alphabet_at};
 ghost use Rattle.sms_join.specs.declared.units.Units.{Units as TheUnits};
 ghost use Rattle.sms_join.specs.Piece.{piece_of};
@@ -264,7 +264,7 @@ impl Receiver {
         self.store.len() >= self.limit && self.joiner.would_finish(origin, stamp, concat)
     }
 
-    /// Takes a message or a segment. Nothing grows after the joiner has taken the piece.
+    /// Takes a message or a segment.
     fn take_piece(
         &mut self,
         now: u64,
@@ -281,12 +281,39 @@ impl Receiver {
             self.old result self.new }
         ensures refused { OnErr result (self.new ≡ self.old) }
     {
+        if self.is_full_for(&origin, stamp, concat) {
+            answers_alike();
+            answer_finishes();
+            same_is_equivalence();
+            return no_room(self.alloc, tag);
+        }
+        self.offer(now, tag, origin, stamp, concat, units)
+    }
+
+    /// Offers the joiner a message or a segment that the store has room for. Nothing grows after
+    /// the joiner has taken it.
+    fn offer(
+        &mut self,
+        now: u64,
+        tag: Tag,
+        origin: Address,
+        stamp: Stamp,
+        concat: Option<Concat>,
+        units: Units,
+    ) -> Result<Step, Dropped>
+        requires tag { tag.value < 7 }
+        requires place { IsPlace concat }
+        requires room { (nat_le self.old.limit (length self.old.store)
+            && would_finish self.old.joiner.holds (piece_of now origin stamp concat units))
+            ≡ false }
+        ensures steps { Steps (λ limits s from. receiver_offers limits s tag origin
+            (piece_of now origin stamp concat units) from)
+            self.old result self.new }
+        ensures refused { OnErr result (self.new ≡ self.old) }
+    {
         answers_alike();
         answer_finishes();
         same_is_equivalence();
-        if self.is_full_for(&origin, stamp, concat) {
-            return no_room(self.alloc, tag);
-        }
         self.store.reserve(1)?;
         let packets = approval(self.alloc, tag)?;
         match self.joiner.offer(now, &origin, stamp, concat, units) {
