@@ -211,23 +211,30 @@ fn packets_agree(alloc: Global, octets: &[u8]) -> Result<bool, AllocError> {
     }
 }
 
-/// Whether each reader of a transfer unit agrees with its view.
-fn units_agree(alloc: Global, octets: &[u8]) -> Result<bool, AllocError> {
+/// Whether each reader of a text on its way, and of a header, agrees with its view.
+fn texts_agree(alloc: Global, octets: &[u8]) -> Result<bool, AllocError> {
     Ok(
         agree::<_, _, DeliverView>(alloc, octets)?
             && agree::<_, _, SubmitView>(alloc, octets)?
-            && agree::<_, _, SubmitAckView>(alloc, octets)?
+            && agree::<_, _, HeaderView>(alloc, octets)?,
+    )
+}
+
+/// Whether each reader of a report agrees with its view.
+fn reports_agree(alloc: Global, octets: &[u8]) -> Result<bool, AllocError> {
+    Ok(
+        agree::<_, _, SubmitAckView>(alloc, octets)?
             && agree::<_, _, SubmitErrorView>(alloc, octets)?
             && agree::<_, _, DeliverAckView>(alloc, octets)?
-            && agree::<_, _, DeliverErrorView>(alloc, octets)?
-            && agree::<_, _, HeaderView>(alloc, octets)?,
+            && agree::<_, _, DeliverErrorView>(alloc, octets)?,
     )
 }
 
 /// Whether each reader agrees with its view.
 fn all_agree(alloc: Global, octets: &[u8]) -> Result<bool, AllocError> {
     Ok(
-        units_agree(alloc, octets)?
+        texts_agree(alloc, octets)?
+            && reports_agree(alloc, octets)?
             && agree::<_, _, RpView>(alloc, octets)?
             && agree::<_, _, CpView>(alloc, octets)?
             && packets_agree(alloc, octets)?

@@ -17,25 +17,15 @@ use sms_relay::{
     wrap_acknowledgement, wrap_answer, wrap_transfer,
 };
 use sms_tpdu::{Deliver, DeliverAck, DeliverError, Header, Submit, SubmitAck, SubmitError, Unit};
-use std::alloc::Global;
+use std::alloc::{AllocError, Global};
 use std::process::Abort;
 use std::test::Fail;
 
-/// A text that says this.
-fn said(alloc: Global, text: &str) -> Result<String, Fail> {
-    Ok(String::from_str(alloc, text)?)
-}
-
-/// What is said of an address.
-fn said_of_address(alloc: Global, address: &RpAddress) -> Result<String, Fail> {
-    Ok(address.to_text(alloc)?)
-}
-
 /// What is said of the address of a transfer, or of there being none.
-fn said_of_centre(alloc: Global, address: Option<&RpAddress>) -> Result<String, Fail> {
+fn said_of_centre(alloc: Global, address: Option<&RpAddress>) -> Result<String, AllocError> {
     match address {
-        Some(address) => said_of_address(alloc, address),
-        None => said(alloc, "none"),
+        Some(address) => address.to_text(alloc),
+        None => String::from_str(alloc, "none"),
     }
 }
 
@@ -44,16 +34,16 @@ fn said_of_transfer(
     alloc: Global,
     message: &RpMessage,
     address: Option<&RpAddress>,
-) -> Result<String, Fail> {
+) -> Result<String, AllocError> {
     let (side, reference) = (message.side, message.reference);
     let address = said_of_centre(alloc, address)?;
-    Ok(format!(in alloc; "data {side:?} {reference} {address}")?)
+    format!(in alloc; "data {side:?} {reference} {address}")
 }
 
 /// What is said of an acknowledgement.
-fn said_of_ack(alloc: Global, message: &RpMessage) -> Result<String, Fail> {
+fn said_of_ack(alloc: Global, message: &RpMessage) -> Result<String, AllocError> {
     let (side, reference) = (message.side, message.reference);
-    Ok(format!(in alloc; "ack {side:?} {reference}")?)
+    format!(in alloc; "ack {side:?} {reference}")
 }
 
 /// What is said of an error.
@@ -62,13 +52,13 @@ fn said_of_fail(
     message: &RpMessage,
     cause: u8,
     diagnostic: Option<u8>,
-) -> Result<String, Fail> {
+) -> Result<String, AllocError> {
     let (side, reference) = (message.side, message.reference);
-    Ok(format!(in alloc; "error {side:?} {reference} {cause} {diagnostic:?}")?)
+    format!(in alloc; "error {side:?} {reference} {cause} {diagnostic:?}")
 }
 
 /// What an RP message says beside its user data.
-fn said_of_relay(alloc: Global, message: &RpMessage) -> Result<String, Fail> {
+fn said_of_relay(alloc: Global, message: &RpMessage) -> Result<String, AllocError> {
     match &message.body {
         RpBody::Transfer { address, .. } => said_of_transfer(alloc, message, address.as_ref()),
         RpBody::Ack { .. } => said_of_ack(alloc, message),
@@ -81,21 +71,21 @@ fn said_of_relay(alloc: Global, message: &RpMessage) -> Result<String, Fail> {
 }
 
 /// What is said of octets that are no RP message.
-fn said_of_bad(alloc: Global, place: usize, why: RelayFault) -> Result<String, Fail> {
-    Ok(format!(in alloc; "{why:?} at {place}")?)
+fn said_of_bad(alloc: Global, place: usize, why: RelayFault) -> Result<String, AllocError> {
+    format!(in alloc; "{why:?} at {place}")
 }
 
 /// What is found in a CP message, beside user data.
-fn said_inside(alloc: Global, inner: &Inner) -> Result<String, Fail> {
+fn said_inside(alloc: Global, inner: &Inner) -> Result<String, AllocError> {
     match inner {
-        Inner::Empty => said(alloc, "empty"),
+        Inner::Empty => String::from_str(alloc, "empty"),
         Inner::Relay(message) => said_of_relay(alloc, message),
         Inner::Bad { place, why } => said_of_bad(alloc, *place, *why),
     }
 }
 
 /// Whether this is said of what is found in a CP message.
-fn is_said(alloc: Global, inner: &Inner, says: &str) -> Result<bool, Fail> {
+fn is_said(alloc: Global, inner: &Inner, says: &str) -> Result<bool, AllocError> {
     let said = said_inside(alloc, inner)?;
     Ok(said.as_str() == says)
 }
@@ -128,7 +118,7 @@ fn is_kept(
     row: &Packet,
     message: &CpMessage,
     relay: &RpMessage,
-) -> Result<bool, Fail> {
+) -> Result<bool, AllocError> {
     match &message.body {
         CpBody::Transfer(octets) => Ok(
             is_written(alloc, relay, octets.as_slice())? && user_data(relay) == user_of(row),
@@ -143,7 +133,7 @@ fn is_kept_inside(
     row: &Packet,
     message: &CpMessage,
     inner: &Inner,
-) -> Result<bool, Fail> {
+) -> Result<bool, AllocError> {
     match inner {
         Inner::Relay(relay) => is_kept(alloc, row, message, relay),
         _ => Ok(true),
@@ -151,7 +141,12 @@ fn is_kept_inside(
 }
 
 /// Whether a message is what its row tells, and is written as it was read.
-fn is_told(alloc: Global, row: &Packet, message: &CpMessage, inner: &Inner) -> Result<bool, Fail> {
+fn is_told(
+    alloc: Global,
+    row: &Packet,
+    message: &CpMessage,
+    inner: &Inner,
+) -> Result<bool, AllocError> {
     Ok(
         is_kept_inside(alloc, row, message, inner)?
             && is_said(alloc, inner, row.says)?
@@ -163,7 +158,10 @@ fn is_told(alloc: Global, row: &Packet, message: &CpMessage, inner: &Inner) -> R
 /// Whether a packet says what its row tells, and is written as it was read.
 fn is_read(alloc: Global, row: &Packet) -> Result<bool, Fail> {
     let (message, inner) = unwrap(alloc, row.octets)?;
-    is_told(alloc, row, &message, &inner)
+    let told = is_told(alloc, row, &message, &inner);
+    drop(message);
+    drop(inner);
+    Ok(told?)
 }
 
 #[test]
@@ -257,7 +255,7 @@ fn has_user(inner: &Inner, user: &[u8]) -> bool {
 }
 
 /// Whether this is said of what is found in a CP message, which has these user data.
-fn is_held(alloc: Global, inner: &Inner, said: &str, user: &[u8]) -> Result<bool, Fail> {
+fn is_held(alloc: Global, inner: &Inner, said: &str, user: &[u8]) -> Result<bool, AllocError> {
     Ok(is_said(alloc, inner, said)? && has_user(inner, user))
 }
 
@@ -267,7 +265,7 @@ fn holds(alloc: Global, packet: &[u8], said: &str, user: &[u8]) -> Result<bool, 
     let held = is_held(alloc, &inner, said, user);
     drop(message);
     drop(inner);
-    held
+    Ok(held?)
 }
 
 /// A transfer that a unit is put into, and what is said of it.
@@ -485,7 +483,7 @@ fn wraps_an_acknowledgement_without_a_unit(rt: HostRuntime) -> Result<(), Fail> 
 }
 
 /// A CP message with as many octets of user data as asked for, and three octets before them.
-fn long(alloc: Global, count: u8) -> Result<Vec<u8>, Fail> {
+fn long(alloc: Global, count: u8) -> Result<Vec<u8>, AllocError> {
     let mut octets = Vec::from_slice(alloc, &[0x09, 0x01, count])?;
     octets.extend_from_slice(&[7; 255][..usize::from(count)])?;
     Ok(octets)
