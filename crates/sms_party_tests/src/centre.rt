@@ -84,30 +84,38 @@ fn called(alloc: Global, fixture: &mut Fixture, row: &Row) -> Result<Step, Dropp
     }
 }
 
-/// Plays the rows on a new centre, and says which one is answered otherwise, if any is.
-fn differs(alloc: Global, held: usize, rows: &[Row]) -> Result<Option<&'static str>, Fail>
-    requires some { 0 < held }
-    requires most { held ≤ 1000 }
-{
-    let mut fixture = new_fixture(alloc, held)?;
-    for row in rows {
-        let mut told = called(alloc, &mut fixture, row);
-        if let Err(Dropped::Memory) = told {
-            told = called(alloc, &mut fixture, row);
-        }
-        if !is_answer(&told, row.answer, row.packets) {
-            return Ok(Some(row.name));
-        }
+/// A call of a row, made again where memory runs out.
+fn called_at_last(alloc: Global, fixture: &mut Fixture, row: &Row) -> Result<Step, Dropped> {
+    match called(alloc, fixture, row) {
+        Err(Dropped::Memory) => called(alloc, fixture, row),
+        told => told,
     }
-    Ok(None)
 }
 
-/// The rows are answered as they say.
+/// Whether a row is answered as it says.
+fn is_answered(alloc: Global, fixture: &mut Fixture, row: &Row) -> bool {
+    let told = called_at_last(alloc, fixture, row);
+    is_answer(&told, row.answer, row.packets)
+}
+
+/// Plays the rows, and says which one is answered otherwise, if any is.
+fn differs(alloc: Global, fixture: &mut Fixture, rows: &[Row]) -> Option<&'static str> {
+    for row in rows {
+        if !is_answered(alloc, fixture, row) {
+            return Some(row.name);
+        }
+    }
+    None
+}
+
+/// The rows are answered as they say, on a new centre.
 fn plays(rt: &impl Abort, alloc: Global, held: usize, rows: &[Row]) -> Result<(), Fail>
     requires some { 0 < held }
     requires most { held ≤ 1000 }
 {
-    let other = differs(alloc, held, rows)?;
+    let mut fixture = new_fixture(alloc, held)?;
+    let other = differs(alloc, &mut fixture, rows);
+    drop(fixture);
     none_differs(rt, other);
     Ok(())
 }

@@ -6,7 +6,7 @@ mod rows;
 
 use crate::answer::{is_answer, none_differs};
 use crate::receiver::rows::{AGES, FULL, FULL_STORE, REFUSALS, Row, TEXTS, WIDTHS};
-use sms_party::{Dropped, Entry, Receiver};
+use sms_party::{Dropped, Entry, Receiver, Step};
 use std::alloc::Global;
 use std::process::Abort;
 use std::test::Fail;
@@ -22,35 +22,42 @@ struct Limits {
 
 /// Whether a store has these texts.
 fn has_texts(store: &[Entry], texts: &[&str]) -> bool {
-    for (entry, text) in store.iter().zip(texts) {
-        if entry.text.as_str() != *text {
-            return false;
-        }
-    }
     store.len() == texts.len()
+        && store
+            .iter()
+            .zip(texts.iter())
+            .all(|(entry, text)| entry.text.as_str() == *text)
 }
 
-/// Plays the rows on a new phone, which ages before each of them, and says which one is answered
-/// otherwise, if any is.
-fn differs(alloc: Global, limits: &Limits, rows: &[Row]) -> Result<Option<&'static str>, Fail> {
-    let mut phone = Receiver::new(alloc, limits.open_max, limits.remembered, limits.store)?;
+/// The packet of a row comes, and comes again where memory runs out.
+fn received(phone: &mut Receiver, row: &Row) -> Result<Step, Dropped> {
+    match phone.receive(row.now, row.octets) {
+        Err(Dropped::Memory) => phone.receive(row.now, row.octets),
+        told => told,
+    }
+}
+
+/// Whether a row is answered as it says, by a phone that ages before it.
+fn is_answered(phone: &mut Receiver, row: &Row) -> bool {
+    phone.age(row.now);
+    let told = received(phone, row);
+    is_answer(&told, row.answer, row.packets) && has_texts(phone.store(), row.store)
+}
+
+/// Plays the rows, and says which one is answered otherwise, if any is.
+fn differs(phone: &mut Receiver, rows: &[Row]) -> Option<&'static str> {
     for row in rows {
-        phone.age(row.now);
-        let mut told = phone.receive(row.now, row.octets);
-        if let Err(Dropped::Memory) = told {
-            told = phone.receive(row.now, row.octets);
-        }
-        if !is_answer(&told, row.answer, row.packets) || !has_texts(phone.store(), row.store) {
-            return Ok(Some(row.name));
+        if !is_answered(phone, row) {
+            return Some(row.name);
         }
     }
-    Ok(None)
+    None
 }
 
-/// The rows are answered as they say.
+/// The rows are answered as they say, by a new phone.
 fn plays(rt: &impl Abort, alloc: Global, limits: &Limits, rows: &[Row]) -> Result<(), Fail> {
-    let other = differs(alloc, limits, rows)?;
-    none_differs(rt, other);
+    let mut phone = Receiver::new(alloc, limits.open_max, limits.remembered, limits.store)?;
+    none_differs(rt, differs(&mut phone, rows));
     Ok(())
 }
 

@@ -21,14 +21,24 @@ fn called(sender: &mut Sender, target: &Address, row: &Row) -> Result<Step, Drop
     }
 }
 
+/// The call of a row, made again where memory runs out.
+fn called_at_last(sender: &mut Sender, target: &Address, row: &Row) -> Result<Step, Dropped> {
+    match called(sender, target, row) {
+        Err(Dropped::Memory) => called(sender, target, row),
+        told => told,
+    }
+}
+
+/// Whether a row is answered as it says.
+fn is_right(sender: &mut Sender, target: &Address, row: &Row) -> bool {
+    let told = called_at_last(sender, target, row);
+    is_answer(&told, row.answer, row.packets)
+}
+
 /// Makes the calls of the rows, and says which one is answered otherwise, if any is.
 fn differs(sender: &mut Sender, target: &Address, rows: &[Row]) -> Option<&'static str> {
     for row in rows {
-        let mut told = called(sender, target, row);
-        if let Err(Dropped::Memory) = told {
-            told = called(sender, target, row);
-        }
-        if !is_answer(&told, row.answer, row.packets) {
+        if !is_right(sender, target, row) {
             return Some(row.name);
         }
     }
@@ -91,6 +101,17 @@ fn hears_refusals_of_a_sender_that_rejects_early(rt: HostRuntime) -> Result<(), 
     Ok(())
 }
 
+/// What is answered where as many letters `a` are typed to an address.
+fn typed_to(
+    alloc: Global,
+    sender: &mut Sender,
+    target: &Address,
+    letters: usize,
+) -> Result<Result<Step, Dropped>, AllocError> {
+    let text = "a".repeat(alloc, letters)?;
+    Ok(sender.type_text(target, text.as_str()))
+}
+
 /// What is answered where as many letters `a` are typed to +1002.
 fn typed(
     alloc: Global,
@@ -98,8 +119,7 @@ fn typed(
     letters: usize,
 ) -> Result<Result<Step, Dropped>, Fail> {
     let target = Address::from_text(alloc, "+1002")?;
-    let text = "a".repeat(alloc, letters)?;
-    Ok(sender.type_text(&target, text.as_str()))
+    Ok(typed_to(alloc, sender, &target, letters)?)
 }
 
 /// The packet with the first of two segments: eight letters `a` are packed into seven octets.
@@ -111,13 +131,18 @@ fn first_segment(alloc: Global) -> Result<Vec<u8>, AllocError> {
     Ok(packet)
 }
 
+/// A text of two segments is typed, and this packet is put out.
+fn puts_out(rt: &impl Abort, alloc: Global, sender: &mut Sender, first: &[u8]) -> Result<(), Fail> {
+    let told = typed(alloc, sender, 161)?;
+    let wanted = Ok(Outcome::Typed { text: 1 });
+    is_so(rt, "two segments", &told, wanted, &[first]);
+    Ok(())
+}
+
 /// A text of two segments is typed, and the first is put out.
 fn types_two_segments(rt: &impl Abort, alloc: Global, sender: &mut Sender) -> Result<(), Fail> {
-    let told = typed(alloc, sender, 161)?;
     let first = first_segment(alloc)?;
-    let wanted = Ok(Outcome::Typed { text: 1 });
-    is_so(rt, "two segments", &told, wanted, &[first.as_slice()]);
-    Ok(())
+    puts_out(rt, alloc, sender, &first)
 }
 
 #[test]
@@ -151,14 +176,18 @@ fn refuses_too_many_segments(rt: HostRuntime) -> Result<(), Fail> {
     Ok(())
 }
 
-/// A sender at which a thousand empty texts to +1002 wait.
-fn full_sender(alloc: Global) -> Result<Sender, Fail> {
-    let target = Address::from_text(alloc, "+1002")?;
-    let mut sender = Sender::new(alloc, Width::Eight, false);
+/// A thousand empty texts to an address are typed.
+fn types_a_thousand(sender: &mut Sender, target: &Address) -> Result<(), Dropped> {
     for _ in 0..1000 {
-        let _step = sender.type_text(&target, "")?;
+        let _step = sender.type_text(target, "")?;
     }
-    Ok(sender)
+    Ok(())
+}
+
+/// A thousand empty texts to +1002 wait.
+fn fills(alloc: Global, sender: &mut Sender) -> Result<(), Fail> {
+    let target = Address::from_text(alloc, "+1002")?;
+    Ok(types_a_thousand(sender, &target)?)
 }
 
 /// The first text is accepted.
@@ -169,7 +198,8 @@ fn accepts_the_first(sender: &mut Sender) -> Result<(), Dropped> {
 
 #[test]
 fn refuses_too_many_texts(rt: HostRuntime) -> Result<(), Fail> {
-    let mut sender = full_sender(rt.alloc())?;
+    let mut sender = Sender::new(rt.alloc(), Width::Eight, false);
+    fills(rt.alloc(), &mut sender)?;
     is_answered(&rt, rt.alloc(), &mut sender, 0, Err(Dropped::Busy))?;
     stands(&rt, &sender, 1000, Some(Status::Waiting));
     stands(&rt, &sender, 1001, None);
