@@ -1,5 +1,6 @@
 //! Lines of the greatest length, and how they end.
 
+use crate::found::same;
 use sms_script::{LineEnd, LineFault, Watched, read_line};
 use std::alloc::{AllocError, Global};
 use std::process::Abort;
@@ -84,7 +85,7 @@ static READINGS: [Reading; 11] = [
 ];
 
 /// The letters of a row, and what follows them.
-fn octets_of(alloc: Global, row: Reading) -> Result<Vec<u8>, AllocError> {
+fn octets_of(alloc: Global, row: &Reading) -> Result<Vec<u8>, AllocError> {
     let mut octets = vec![in alloc; b'a'; row.letters]?;
     octets.extend_from_slice(row.ending)?;
     Ok(octets)
@@ -99,19 +100,14 @@ fn read(alloc: Global, octets: &[u8]) -> (Result<LineEnd, LineFault>, usize) {
 }
 
 /// What was read is what the row wants.
-fn is(rt: &impl Abort, row: Reading, found: (Result<LineEnd, LineFault>, usize)) {
-    assert_eq!(rt;
-        found,
-        (row.end, row.length),
-        "{} {:?}",
-        row.letters,
-        row.ending
-    );
+fn is(rt: &impl Abort, row: &Reading, found: (Result<LineEnd, LineFault>, usize)) {
+    let wanted = (row.end, row.length);
+    same(rt, &(row.letters, row.ending), &found, &wanted);
 }
 
 #[test]
 fn lines_as_long_as_may_be(rt: HostRuntime) -> Result<(), Fail> {
-    for row in READINGS {
+    for row in READINGS.as_slice() {
         let octets = octets_of(rt.alloc(), row)?;
         is(&rt, row, read(rt.alloc(), &octets));
     }

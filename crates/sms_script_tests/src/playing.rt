@@ -3,6 +3,7 @@
 ghost use Rattle.std.specs.Prelude.{◌≡◌, codes, length, replicate, []};
 ghost use Rattle.sms_script.specs.Play.Runs.{nothing_ended};
 
+use crate::found::{holds, same};
 use sms_field::Address;
 use sms_script::{
     Entry, Event, Limits, Network, Packet, PlayFault, ScriptFault, Sink, Source, Watched, play,
@@ -217,15 +218,13 @@ fn is_played(rt: &impl Abort, row: &Playing, found: &Outcome) {
         written: row.written.as_bytes(),
         failed: false,
     };
-    assert!(rt; is_as_wanted(found, wanted), "{}", text_of(row.script));
+    holds(rt, &text_of(row.script), is_as_wanted(found, wanted));
 }
 
 /// What came out is what is wanted where a device works so far.
 fn is(rt: &impl Abort, works: usize, found: &Outcome, wanted: Wanted<'_>) {
-    assert!(rt;
-        is_as_wanted(found, wanted),
-        "a device that works up to {works}"
-    );
+    let row = ("a device that works up to", works);
+    holds(rt, &row, is_as_wanted(found, wanted));
 }
 
 /// Plays what a reader gives, and tells whether the reader failed.
@@ -254,7 +253,7 @@ fn result_of<R: Read + Drop>(alloc: Global, reader: R) -> Result<(), PlayFault> 
 
 /// Playing has ended at this line for this reason.
 fn ends_at(rt: &impl Abort, found: Result<(), PlayFault>, line: u64, why: ScriptFault) {
-    assert_eq!(rt; found, Err(PlayFault::Script { line, why }), "{why}");
+    same(rt, &why, &found, &Err(PlayFault::Script { line, why }));
 }
 
 /// As many empty lines, and what follows them.
@@ -267,7 +266,8 @@ fn empty_lines(alloc: Global, count: usize, ending: &[u8]) -> Result<Vec<u8>, Al
 #[test]
 fn as_many_lines_as_may_be(rt: HostRuntime) -> Result<(), Fail> {
     let lines = empty_lines(rt.alloc(), 100_000, b"")?;
-    assert_eq!(rt; result_of(rt.alloc(), lines.as_slice()), Ok(()));
+    let found = result_of(rt.alloc(), lines.as_slice());
+    same(&rt, &"100000 lines", &found, &Ok(()));
     Ok(())
 }
 
@@ -388,16 +388,11 @@ static FAULTS: [Worded; 4] = [
     },
 ];
 
-/// A text is what is wanted.
-fn is_text(rt: &impl Abort, found: &str, wanted: &str) {
-    assert_eq!(rt; found, wanted);
-}
-
 #[test]
 fn faults_in_words(rt: HostRuntime) -> Result<(), Fail> {
-    for row in FAULTS {
+    for row in FAULTS.as_slice() {
         let words = row.fault.to_string(rt.alloc())?;
-        is_text(&rt, &words, row.words);
+        same(&rt, &row.fault, &words.as_str(), &row.words);
     }
     Ok(())
 }

@@ -1,5 +1,6 @@
 //! What lines say after others, and the first reason for which they say nothing.
 
+use crate::found::{holds, same};
 use sms_field::Address;
 use sms_script::{Event, Limits, PlayFault, Script, ScriptFault};
 use std::alloc::{AllocError, Global};
@@ -226,7 +227,7 @@ fn text_of(line: &[u8]) -> &str {
 fn is_at_fault(rt: &impl Abort, row: &Faulty, found: Option<PlayFault>, line: u64) {
     let why = row.why;
     let good = found == Some(PlayFault::Script { line, why });
-    assert!(rt; good, "{}", text_of(row.line));
+    holds(rt, &text_of(row.line), good);
 }
 
 #[test]
@@ -410,7 +411,7 @@ fn answer_to(alloc: Global, line: &[u8]) -> Result<Option<Event>, PlayFault> {
 
 /// An event in words is what a row wants.
 fn is_event(rt: &impl Abort, row: &Written, found: &str) {
-    assert_eq!(rt; found, row.event, "{}", row.line);
+    same(rt, &row.line, &found, &row.event);
 }
 
 #[test]
@@ -459,6 +460,6 @@ fn is_set(script: &Script) -> bool {
 #[test]
 fn settings_as_written(rt: HostRuntime) -> Result<(), Fail> {
     let script = script_of(rt.alloc(), &SETTINGS)?;
-    assert!(rt; is_set(&script));
+    holds(&rt, &"settings", is_set(&script));
     Ok(())
 }

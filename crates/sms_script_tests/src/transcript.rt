@@ -2,6 +2,7 @@
 
 ghost use Rattle.std.specs.Prelude.{◌≡◌, ◌∷◌, [], codes, length, replicate};
 
+use crate::found::holds;
 use sms_field::Address;
 use sms_script::{Entry, Event, Limits, Network, Packet, PlayFault, Watched, play};
 use std::alloc::{AllocError, Global};
@@ -182,14 +183,14 @@ fn has_line(lines: &str, wanted: &str) -> bool {
 }
 
 /// A transcript has the line of a row.
-fn is_printed(rt: &impl Abort, transcript: &[u8], row: Printed) {
+fn is_printed(rt: &impl Abort, transcript: &[u8], row: &Printed) {
     let lines = str::from_utf8(transcript).unwrap_or("");
-    assert!(rt; has_line(lines, row.line), "{}: {lines}", row.line);
+    holds(rt, &(row.line, lines), has_line(lines, row.line));
 }
 
 #[test]
 fn lines_printed(rt: HostRuntime) -> Result<(), Fail> {
-    for row in PRINTED {
+    for row in PRINTED.as_slice() {
         let transcript = transcript_of(rt.alloc(), row.settings)?;
         is_printed(&rt, &transcript, row);
     }
