@@ -82,12 +82,11 @@ fn put_body(out: &mut Vec<u8>, body: &CpBody) -> Result<(), AllocError>
         CpBody::Transfer(octets) => {
             let octets = octets.as_slice();
             out.push(octets.len() as u8)?;
-            out.extend_from_slice(octets)?;
+            out.extend_from_slice(octets)
         }
-        CpBody::Ack => {}
-        CpBody::Fail(cause) => out.push(*cause)?,
+        CpBody::Ack => Ok(()),
+        CpBody::Fail(cause) => out.extend_from_slice(&[*cause]),
     }
-    Ok(())
 }
 
 impl Unit for CpMessage {
@@ -112,8 +111,7 @@ impl Unit for CpMessage {
         };
         let room = room_for_body(&self.body).saturating_add(2);
         let mut out = Vec::with_capacity(alloc, room)?;
-        out.push(transaction.to_octet())?;
-        out.push(kind_of_body(&self.body).to_octet())?;
+        out.extend_from_slice(&[transaction.to_octet(), kind_of_body(&self.body).to_octet()])?;
         put_body(&mut out, &self.body)?;
         Ok(out)
     }

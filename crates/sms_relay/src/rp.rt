@@ -149,8 +149,7 @@ impl Unit for RpMessage {
         };
         let room = room_for_body(&self.body).saturating_add(2);
         let mut out = Vec::with_capacity(alloc, room)?;
-        out.push(named.to_octet())?;
-        out.push(self.reference)?;
+        out.extend_from_slice(&[named.to_octet(), self.reference])?;
         put_body(&mut out, self.side, &self.body)?;
         Ok(out)
     }

@@ -74,8 +74,7 @@ pub fn put_user_data(out: &mut Vec<u8>, user: &Octets) -> Result<(), AllocError>
 {
     let octets = user.as_slice();
     out.push(octets.len() as u8)?;
-    out.extend_from_slice(octets)?;
-    Ok(())
+    out.extend_from_slice(octets)
 }
 
 /// Adds user data after their tag, where there are any.
@@ -83,9 +82,11 @@ pub fn put_optional_user_data(out: &mut Vec<u8>, user: &Option<Octets>) -> Resul
     requires { IsOptionalUserData user.now }
     ensures { OnOk result (out.new.items ≡ out.old.items ++ optional_user_octets user.now) }
 {
-    if let Some(user) = user {
-        out.push(USER_DATA_TAG)?;
-        put_user_data(out, user)?;
+    match user {
+        Some(user) => {
+            out.push(USER_DATA_TAG)?;
+            put_user_data(out, user)
+        }
+        None => Ok(()),
     }
-    Ok(())
 }
