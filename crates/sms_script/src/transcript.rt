@@ -2,11 +2,13 @@
 
 mod escapes;
 
-ghost use Rattle.std.specs.Prelude.{◌≡◌, IfOk};
+ghost use Rattle.std.specs.Prelude.{◌≡◌, ◌++◌, IfOk, OnOk, codes};
 ghost use Rattle.std.specs.String.{string_bytes};
 ghost use Rattle.std.specs.Str.{encode_utf8_all};
 ghost use Rattle.sms_field.specs.AddressText.{address_text};
-ghost use Rattle.sms_script.specs.Transcript.Lines.{event_line, packet_line, sent_line, store_line, entry_line, octets_text};
+ghost use Rattle.sms_script.specs.Transcript.Appended.{◌⊕◌};
+ghost use Rattle.sms_script.specs.Transcript.Escapes.{escaped};
+ghost use Rattle.sms_script.specs.Transcript.Lines.{event_line, packet_line, sent_line, store_line, entry_line, octets_text, line_end};
 ghost use Rattle.sms_script.specs.Transcript.Shown.{shown, stored};
 
 use crate::transcript::escapes::push_escaped;
@@ -64,11 +66,12 @@ pub fn packet_line(
         IfOk result (λ s. string_bytes s ≡ text) }
 {
     let octets = octets_text(alloc, brief, packet.octets)?;
-    if packet.up {
-        format!(in alloc; "#{number} {name}>centre {octets}\n")
+    let (from, to) = if packet.up {
+        (name, "centre")
     } else {
-        format!(in alloc; "#{number} centre>{name} {octets}\n")
-    }
+        ("centre", name)
+    };
+    format!(in alloc; "#{number} {from}>{to} {octets}\n")
 }
 
 /// The line of a text that was typed, from what became of it in a word.
@@ -93,15 +96,23 @@ fn origin_text(alloc: Global, origin: &Address) -> Result<String, AllocError>
     Ok(text)
 }
 
+/// Adds the line of a text in a store, from the text of its origin.
+fn push_entry(line: &mut Vec<u8>, origin: &[u8], text: &[u8]) -> Result<(), AllocError>
+    ensures { let all = escaped origin.now ⊕ codes " " ⊕ escaped text.now ⊕ line_end in
+        OnOk result (line.new.items ≡ line.old.items ++ all) }
+{
+    push_escaped(line, origin)?;
+    line.push(b' ')?;
+    push_escaped(line, text)?;
+    line.extend_from_slice(b"\n")
+}
+
 /// The line of a text in a store.
 pub fn entry_line(alloc: Global, entry: Entry<'_>) -> Result<Vec<u8>, AllocError>
     ensures { IfOk result (λ line. line.items ≡ entry_line (stored entry.entry)) }
 {
     let origin = origin_text(alloc, entry.origin)?;
     let mut line = Vec::new(alloc);
-    push_escaped(&mut line, origin.as_bytes())?;
-    line.push(b' ')?;
-    push_escaped(&mut line, entry.text.as_bytes())?;
-    line.push(b'\n')?;
+    push_entry(&mut line, origin.as_bytes(), entry.text.as_bytes())?;
     Ok(line)
 }

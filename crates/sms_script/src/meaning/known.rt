@@ -114,7 +114,7 @@ impl Known {
     {
         self.addresses.reserve(1)?;
         self.names.insert(phone.name.into_string())?;
-        self.addresses.push(phone.address)?;
+        self.addresses.push_reserved(phone.address);
         Ok(())
     }
 }

@@ -3,7 +3,7 @@ use Rattle.std.proofs.lemmas.Result.{err_from_is_err_and}
 use Rattle.sms_script.specs.Lines.{lines}
 use Rattle.sms_script.specs.Lines.Reading.{ReadsLine}
 use Rattle.sms_script.specs.declared.lines.LineEnd.TheVariants as line_ends
-use Rattle.sms_script.proofs.LoopTurns.{loop_starts, loop_turn, loop_fails, loop_lasts, loop_unread, not_read}
+use Rattle.sms_script.proofs.LoopTurns.{loop_starts, loop_turn, loop_fails, loop_lasts, loop_ends, loop_unread, not_read}
 use Rattle.sms_script.specs.Play.NextLine.{TakesNext}
 use Rattle.sms_script.specs.Script.Settings.{SettingsValue}
 use Rattle.sms_script.specs.Play.Standing.{PlaysLines}
@@ -82,3 +82,8 @@ returns-in-Last-clause-read_fails g c e =
     let at = c.loop-line.invariant.stands in
     absurd (not_read g.N.Network.conduct (lines at.0 ++ c.deref-in-Last.result.now ∷ []) c.play_line-in-Last.new.script c.play_line-in-Last.new.network c.play_line-in-Last.new.events (g.K.Sink.contents c.args.sink.now) (g.K.Sink.contents c.play_line-in-Last.new.sink) c.play_line-in-Last.result
     (c.play_line-in-Last.ensures.advances (lines at.0) (g.K.Sink.contents c.args.sink.now) at.3) e)
+
+pub returns-in-End-clause-plays : goal.returns-in-End-clause-plays
+returns-in-End-clause-plays g c =
+    let takes = rw c.in-End.is at c.in_ok-next_line.ensures.takes in
+    loop_ends g.N.Network.conduct c.loop-line.script c.loop-line.network c.loop-line.events (g.S.Source.remaining c.args.source.now) (g.S.Source.remaining c.loop-line.source) (g.S.Source.remaining c.next_line.new.source) (g.K.Sink.contents c.args.sink.now) (g.K.Sink.contents c.loop-line.sink) c.loop-line.invariant.stands takes.0 takes.1
