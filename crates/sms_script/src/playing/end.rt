@@ -5,15 +5,33 @@ ghost use Rattle.sms_script.specs.Play.{told_in_the_end};
 ghost use Rattle.sms_script.specs.Play.Puts.{Puts, HasFailed};
 ghost use Rattle.sms_script.specs.Play.Runs.{statuses_at, store_at, ended_at};
 ghost use Rattle.sms_script.specs.Transcript.{sent_lines, phone_lines};
-ghost use Rattle.sms_script.specs.Transcript.Lines.{entry_line};
+ghost use Rattle.sms_script.specs.Transcript.Lines.{entry_line, sent_line, store_line};
+ghost use Rattle.sms_script.specs.Transcript.Shown.{stored};
 
 use crate::devices::Sink;
 use crate::fault::PlayFault;
 use crate::playing::network::Network;
 use crate::playing::put::put;
 use crate::script::Script;
-use crate::transcript::{entry_line, sent_line, store_line};
+use crate::transcript::{Entry, entry_line, sent_line, store_line};
 use std::alloc::Global;
+
+/// Puts the line of a text that was typed, from what became of it in a word.
+fn put_status<K: Sink>(
+    alloc: Global,
+    name: &str,
+    number: usize,
+    word: &str,
+    sink: &mut K,
+) -> Result<(), PlayFault>
+    requires { K.has_failed sink.old ≡ false }
+    ensures puts { let text = sent_line name.now number word.now in
+        Puts (K.contents sink.old) (K.contents sink.new) text result }
+    ensures failed { HasFailed result (K.has_failed sink.new) }
+{
+    let line = sent_line(alloc, name, number, word)?;
+    put(sink, line.as_bytes())
+}
 
 /// Puts the lines of the texts that were typed at a phone.
 fn put_statuses<N: Network, K: Sink>(
@@ -33,10 +51,36 @@ fn put_statuses<N: Network, K: Sink>(
         let Some(word) = network.status(phone, place + 1) else {
             return Ok(());
         };
-        let line = sent_line(alloc, name, place + 1, word)?;
-        put(sink, line.as_bytes())?;
+        put_status(alloc, name, place + 1, word, sink)?;
     }
     Ok(())
+}
+
+/// Puts the line that begins a store.
+fn put_store<K: Sink>(
+    alloc: Global,
+    name: &str,
+    count: usize,
+    sink: &mut K,
+) -> Result<(), PlayFault>
+    requires { K.has_failed sink.old ≡ false }
+    ensures puts { let text = store_line name.now count in
+        Puts (K.contents sink.old) (K.contents sink.new) text result }
+    ensures failed { HasFailed result (K.has_failed sink.new) }
+{
+    let line = store_line(alloc, name, count)?;
+    put(sink, line.as_bytes())
+}
+
+/// Puts the line of a text in a store.
+fn put_entry<K: Sink>(alloc: Global, entry: Entry<'_>, sink: &mut K) -> Result<(), PlayFault>
+    requires { K.has_failed sink.old ≡ false }
+    ensures puts { let text = entry_line (stored entry.entry) in
+        Puts (K.contents sink.old) (K.contents sink.new) text result }
+    ensures failed { HasFailed result (K.has_failed sink.new) }
+{
+    let line = entry_line(alloc, entry)?;
+    put(sink, &line)
 }
 
 /// Puts the lines of the texts in the store of a phone.
@@ -56,8 +100,7 @@ fn put_entries<N: Network, K: Sink>(
         let Some(entry) = network.entry(phone, place) else {
             return Ok(());
         };
-        let line = entry_line(alloc, entry)?;
-        put(sink, &line)?;
+        put_entry(alloc, entry, sink)?;
     }
     Ok(())
 }
@@ -77,8 +120,7 @@ fn put_phone<N: Network, K: Sink>(
     ensures failed { HasFailed result (K.has_failed sink.new) }
 {
     put_statuses(alloc, name, network, phone, sink)?;
-    let line = store_line(alloc, name, network.stored(phone))?;
-    put(sink, line.as_bytes())?;
+    put_store(alloc, name, network.stored(phone), sink)?;
     put_entries(alloc, network, phone, sink)
 }
 

@@ -1,4 +1,4 @@
-use Rattle.std.proofs.Common.{◌≡◌, ◌++◌, ◌+◌, ◌<◌, ◌≤◌, ◌∙◌, ap, sym, drop, flat_map, arith, List, ℕ, length, subst}
+use Rattle.std.proofs.Common.{◌+◌, ◌<◌, ◌≤◌, sym, drop, flat_map, arith, List, ℕ, length, subst}
 use Rattle.std.proofs.lemmas.Result.{err_from_is_err_and}
 use Rattle.sms_script.proofs.PacketLemmas.{not_none}
 use Rattle.sms_script.proofs.PutLemmas.{Left, left_more, left_fault, left_end, entries_left, no_entries_left}
@@ -11,10 +11,9 @@ pub loop-place-preserved : goal.loop-place-preserved
 loop-place-preserved g c =
     let all : List EntryValue = store_at (g.N.Network.conduct.ends c.args.network.now) c.args.phone in
     let rest : List ℕ = flat_map entry_line (drop (c.loop-place.place + 1) all) in
-    let line : entry_line (stored c.in-Some.entry) ≡ c.deref.result.now = sym (c.deref.ensures.value ∙ c.in_ok-line.ensures) in
     record {
-      works = c.in_ok-put.ensures.failed;
-      left = left_more _ _ _ _ _ c.deref.result.now rest (entries_left all c.loop-place.place (stored c.in-Some.entry) (sym c.in-Some.ensures) ∙ ap (λ (l : List ℕ). l ++ rest) line) c.loop-place.invariant.left c.in_ok-put.ensures.puts;
+      works = c.in_ok-put_entry.ensures.failed;
+      left = left_more _ _ _ _ _ (entry_line (stored c.in-Some.entry)) rest (entries_left all c.loop-place.place (stored c.in-Some.entry) (sym c.in-Some.ensures)) c.loop-place.invariant.left c.in_ok-put_entry.ensures.puts;
     }
 
 pub returns-in_default-clause-puts : goal.returns-in_default-clause-puts
@@ -24,13 +23,12 @@ returns-in_default-clause-puts g c =
     let below : c.loop-place.place < length all = omega (arith, count) in
     absurd (not_none all c.loop-place.place below (sym c.in_default.ensures))
 
-pub returns-in_err-put-clause-puts : goal.returns-in_err-put-clause-puts
-returns-in_err-put-clause-puts g c =
-    let p = err_from_is_err_and c.from_residual-in_err-put.result c.from_residual-in_err-put.ensures.1 in
+pub returns-in_err-put_entry-clause-puts : goal.returns-in_err-put_entry-clause-puts
+returns-in_err-put_entry-clause-puts g c =
+    let p = err_from_is_err_and c.from_residual.result c.from_residual.ensures.1 in
     let all : List EntryValue = store_at (g.N.Network.conduct.ends c.args.network.now) c.args.phone in
     let rest : List ℕ = flat_map entry_line (drop (c.loop-place.place + 1) all) in
-    let line : entry_line (stored c.in-Some.entry) ≡ c.deref.result.now = sym (c.deref.ensures.value ∙ c.in_ok-line.ensures) in
-    rw p.1 (left_fault _ _ _ _ _ c.deref.result.now rest c.in_err-put.field-0.0 (entries_left all c.loop-place.place (stored c.in-Some.entry) (sym c.in-Some.ensures) ∙ ap (λ (l : List ℕ). l ++ rest) line) c.loop-place.invariant.left c.in_err-put.ensures.puts)
+    rw p.1 (left_fault _ _ _ _ _ (entry_line (stored c.in-Some.entry)) rest c.in_err-put_entry.field-0.0 (entries_left all c.loop-place.place (stored c.in-Some.entry) (sym c.in-Some.ensures)) c.loop-place.invariant.left c.in_err-put_entry.ensures.puts)
 
 pub returns-clause-puts : goal.returns-clause-puts
 returns-clause-puts g c =

@@ -1,4 +1,4 @@
-use Rattle.std.proofs.Common.{◌≡◌, ◌++◌, ◌+◌, ◌-◌, ◌<◌, ◌≤◌, ◌∙◌, ap, sym, drop, arith, List, ℕ, length, subst}
+use Rattle.std.proofs.Common.{◌≡◌, ◌+◌, ◌-◌, ◌<◌, ◌≤◌, sym, drop, arith, List, ℕ, length, subst}
 use Rattle.std.proofs.lemmas.Result.{err_from_is_err_and}
 use Rattle.sms_script.proofs.PacketLemmas.{not_none}
 use Rattle.sms_script.proofs.PutLemmas.{Left, left_start, left_more, left_fault, left_end, statuses_left, no_statuses_left}
@@ -16,10 +16,9 @@ loop-place-preserved g c =
     let is : c.loop-place.place + 1 - 1 ≡ c.loop-place.place = omega arith in
     let there = sym (rw is at c.in-Some.ensures) in
     let rest : List ℕ = sent_lines c.args.name.now (c.loop-place.place + 1 + 1) (drop (c.loop-place.place + 1) all) in
-    let line : sent_line c.args.name.now (c.loop-place.place + 1) c.in-Some.word.now ≡ c.as_bytes.result.now = sym (c.as_bytes.ensures.value ∙ c.in_ok-line.ensures) in
     record {
-      works = c.in_ok-put.ensures.failed;
-      left = left_more _ _ _ _ _ c.as_bytes.result.now rest (statuses_left c.args.name.now all c.loop-place.place c.in-Some.word.now there ∙ ap (λ (l : List ℕ). l ++ rest) line) c.loop-place.invariant.left c.in_ok-put.ensures.puts;
+      works = c.in_ok-put_status.ensures.failed;
+      left = left_more _ _ _ _ _ (sent_line c.args.name.now (c.loop-place.place + 1) c.in-Some.word.now) rest (statuses_left c.args.name.now all c.loop-place.place c.in-Some.word.now there) c.loop-place.invariant.left c.in_ok-put_status.ensures.puts;
     }
 
 pub returns-in_default-clause-puts : goal.returns-in_default-clause-puts
@@ -30,15 +29,14 @@ returns-in_default-clause-puts g c =
     let below : c.loop-place.place < length all = omega (arith, count) in
     absurd (not_none all c.loop-place.place below (sym (rw is at c.in_default.ensures)))
 
-pub returns-in_err-put-clause-puts : goal.returns-in_err-put-clause-puts
-returns-in_err-put-clause-puts g c =
-    let p = err_from_is_err_and c.from_residual-in_err-put.result c.from_residual-in_err-put.ensures.1 in
+pub returns-in_err-put_status-clause-puts : goal.returns-in_err-put_status-clause-puts
+returns-in_err-put_status-clause-puts g c =
+    let p = err_from_is_err_and c.from_residual.result c.from_residual.ensures.1 in
     let all : List (List ℕ) = statuses_at (g.N.Network.conduct.ends c.args.network.now) c.args.phone in
     let is : c.loop-place.place + 1 - 1 ≡ c.loop-place.place = omega arith in
     let there = sym (rw is at c.in-Some.ensures) in
     let rest : List ℕ = sent_lines c.args.name.now (c.loop-place.place + 1 + 1) (drop (c.loop-place.place + 1) all) in
-    let line : sent_line c.args.name.now (c.loop-place.place + 1) c.in-Some.word.now ≡ c.as_bytes.result.now = sym (c.as_bytes.ensures.value ∙ c.in_ok-line.ensures) in
-    rw p.1 (left_fault _ _ _ _ _ c.as_bytes.result.now rest c.in_err-put.field-0.0 (statuses_left c.args.name.now all c.loop-place.place c.in-Some.word.now there ∙ ap (λ (l : List ℕ). l ++ rest) line) c.loop-place.invariant.left c.in_err-put.ensures.puts)
+    rw p.1 (left_fault _ _ _ _ _ (sent_line c.args.name.now (c.loop-place.place + 1) c.in-Some.word.now) rest c.in_err-put_status.field-0.0 (statuses_left c.args.name.now all c.loop-place.place c.in-Some.word.now there) c.loop-place.invariant.left c.in_err-put_status.ensures.puts)
 
 pub returns-clause-puts : goal.returns-clause-puts
 returns-clause-puts g c =

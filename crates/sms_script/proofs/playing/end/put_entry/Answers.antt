@@ -1,0 +1,16 @@
+use Rattle.std.proofs.Common.{◌∙◌, [], refl, subst, List, ℕ}
+use Rattle.std.proofs.lemmas.Result.{err_from_is_err_and}
+use Rattle.sms_script.proofs.PutLemmas.{Appends-none}
+use Rattle.sms_script.specs.Play.Puts.{Puts}
+use Rattle.sms_script.specs.Transcript.Lines.{entry_line}
+use Rattle.sms_script.specs.Transcript.Shown.{stored}
+use Rattle.sms_script.proofs.playing.end.put_entry.Goals as goal
+
+pub returns-in_err-line-clause-puts : goal.returns-in_err-line-clause-puts
+returns-in_err-line-clause-puts g c =
+    let p = err_from_is_err_and c.from_residual.result c.from_residual.ensures.1 in
+    rw p.1 ([], entry_line (stored c.args.entry), refl, Appends-none (g.K.Sink.contents c.args.sink.now))
+
+pub returns-clause-puts : goal.returns-clause-puts
+returns-clause-puts g c =
+    subst (λ (t : List ℕ). Puts (g.K.Sink.contents c.args.sink.now) (g.K.Sink.contents c.put.new.sink) t c.put.result) (c.deref.ensures.value ∙ c.in_ok-line.ensures) c.put.ensures.puts
