@@ -1,6 +1,7 @@
 //! Events that come to nothing, and what is told of them.
 
-use crate::two::{Two, address, answers, coming, new_two, typing};
+use crate::found::same;
+use crate::two::{Two, address, answers, coming, new_two, new_world, typing};
 use sms_party::{Dropped, Outcome};
 use sms_script::Network;
 use sms_world::{Event, Octets, Text, World, WorldFault};
@@ -32,7 +33,7 @@ fn is_for_no_phone(rt: &impl Abort, two: &mut Two, event: &Event) {
 }
 
 /// Nothing is typed at the third phone, and nothing comes from it or to it.
-fn third_is_not_there(rt: &impl Abort, alloc: Global, two: &mut Two) -> Result<(), Fail> {
+fn third_is_not_there(rt: &impl Abort, alloc: Global, two: &mut Two) -> Result<(), AllocError> {
     is_for_no_phone(rt, two, &third_types(alloc)?);
     is_for_no_phone(rt, two, &two_octets(alloc, true, 2)?);
     is_for_no_phone(rt, two, &two_octets(alloc, false, 2)?);
@@ -51,17 +52,24 @@ fn clock_ends(rt: &impl Abort, two: &mut Two) {
 /// Nothing was put out.
 fn nothing_was_put_out(rt: &impl Abort, two: &mut Two) {
     answers(rt, two, &Event::Carry(1), Err(WorldFault::NoSuchPacket));
-    assert_eq!(rt; two.world.packet_count(), 0);
+    same(rt, &"packets", &two.world.packet_count(), &0);
+}
+
+/// Nothing comes of events for the third phone, and the world goes on.
+fn nothing_changes(rt: &impl Abort, alloc: Global, two: &mut Two) -> Result<(), AllocError> {
+    third_is_not_there(rt, alloc, two)?;
+    clock_ends(rt, two);
+    nothing_was_put_out(rt, two);
+    Ok(())
 }
 
 /// An event for the third of two phones changes nothing; the world goes on.
 #[test]
 fn there_is_no_third_phone(rt: HostRuntime) -> Result<(), Fail> {
     let mut two = new_two(rt.alloc())?;
-    third_is_not_there(&rt, rt.alloc(), &mut two)?;
-    clock_ends(&rt, &mut two);
-    nothing_was_put_out(&rt, &mut two);
-    Ok(())
+    let told = nothing_changes(&rt, rt.alloc(), &mut two);
+    drop(two);
+    Ok(told?)
 }
 
 /// A fault and its words.
@@ -71,7 +79,7 @@ struct Row {
     words: &'static str,
 }
 
-const ROWS: [Row; 8] = [
+static ROWS: [Row; 8] = [
     Row {
         fault: WorldFault::NoSuchPacket,
         words: "fault no such packet",
@@ -106,21 +114,16 @@ const ROWS: [Row; 8] = [
     },
 ];
 
-/// Words are these.
-fn are_words(rt: &impl Abort, said: &str, wanted: &str) {
-    assert_eq!(rt; said, wanted);
-}
-
 /// What a fault says by itself.
-fn says(rt: &impl Abort, alloc: Global, row: &Row) -> Result<(), Fail> {
+fn says(rt: &impl Abort, alloc: Global, row: &Row) -> Result<(), AllocError> {
     let said = format!(in alloc; "{}", row.fault)?;
-    are_words(rt, said.as_str(), row.words);
+    same(rt, &row.fault, &said.as_str(), &row.words);
     Ok(())
 }
 
 #[test]
 fn a_fault_says_what_it_is(rt: HostRuntime) -> Result<(), Fail> {
-    for row in &ROWS {
+    for row in ROWS.as_slice() {
         says(&rt, rt.alloc(), row)?;
     }
     Ok(())
@@ -133,9 +136,9 @@ fn tells(
     world: &mut World,
     event: &Event,
     words: &str,
-) -> Result<(), Fail> {
+) -> Result<(), AllocError> {
     let told = Network::step(world, alloc, event)?;
-    are_words(rt, told.as_str(), words);
+    same(rt, event, &told.as_str(), &words);
     Ok(())
 }
 
@@ -186,33 +189,60 @@ fn told_events(alloc: Global) -> Result<[Told; 6], AllocError> {
 }
 
 /// The transcript tells of each event what its row says.
-fn all_tell(rt: &impl Abort, alloc: Global, world: &mut World, rows: &[Told]) -> Result<(), Fail> {
+fn all_tell(
+    rt: &impl Abort,
+    alloc: Global,
+    world: &mut World,
+    rows: &[Told],
+) -> Result<(), AllocError> {
     for row in rows {
         tells(rt, alloc, world, &row.event, row.words)?;
     }
     Ok(())
 }
 
+/// The transcript tells of each fault what it says by itself.
+fn all_are_told(rt: &impl Abort, alloc: Global, world: &mut World) -> Result<(), AllocError> {
+    let rows = told_events(alloc)?;
+    let told = all_tell(rt, alloc, world, &rows);
+    drop(rows);
+    told
+}
+
 /// That what a fault says by itself is what the transcript tells of it.
 #[test]
 fn a_fault_says_what_the_transcript_tells(rt: HostRuntime) -> Result<(), Fail> {
-    let mut two = new_two(rt.alloc())?;
-    let rows = told_events(rt.alloc())?;
-    all_tell(&rt, rt.alloc(), &mut two.world, &rows)
+    let mut world = new_world(rt.alloc())?;
+    let told = all_are_told(&rt, rt.alloc(), &mut world);
+    drop(world);
+    Ok(told?)
 }
 
 /// The first phone types as many texts as may wait.
-fn types_a_thousand(world: &mut World, event: &Event) -> Result<(), Fail> {
+fn types_a_thousand(world: &mut World, event: &Event) -> Result<(), WorldFault> {
     for _ in 0..1000u16 {
         let _ = world.step(event)?;
     }
     Ok(())
 }
 
+/// As many texts as may wait are typed, and the transcript tells of one more that they wait.
+fn texts_wait(
+    rt: &impl Abort,
+    alloc: Global,
+    world: &mut World,
+    event: &Event,
+) -> Result<(), Fail> {
+    types_a_thousand(world, event)?;
+    tells(rt, alloc, world, event, "drop busy")?;
+    Ok(())
+}
+
 #[test]
 fn the_transcript_tells_that_texts_wait(rt: HostRuntime) -> Result<(), Fail> {
-    let mut two = new_two(rt.alloc())?;
     let event = typing(rt.alloc(), "")?;
-    types_a_thousand(&mut two.world, &event)?;
-    tells(&rt, rt.alloc(), &mut two.world, &event, "drop busy")
+    let mut world = new_world(rt.alloc())?;
+    let told = texts_wait(&rt, rt.alloc(), &mut world, &event);
+    drop(world);
+    told
 }

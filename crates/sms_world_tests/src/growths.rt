@@ -2,10 +2,11 @@
 //! memory has changed nothing, and the same event is then answered as where none was refused. `way`
 //! has such a test too.
 
-use crate::two::{all_answer, coming, has_stored, new_two, typing};
+use crate::two::{Two, all_answer, coming, has_stored, new_two, typing};
 use sms_party::Outcome;
 use sms_world::Event;
 use std::alloc::{AllocError, Global};
+use std::process::Abort;
 use std::test::Fail;
 
 /// A text of two segments is typed, and they come in the other order.
@@ -38,14 +39,27 @@ const PARTS: [Outcome; 8] = [
     Outcome::Finished,
 ];
 
+/// Both parts of a text come, and it is stored.
+fn two_parts_come(
+    rt: &impl Abort,
+    alloc: Global,
+    two: &mut Two,
+    text: &str,
+) -> Result<(), AllocError> {
+    let events = two_parts(alloc, text)?;
+    all_answer(rt, two, &events, &PARTS);
+    drop(events);
+    has_stored(rt, two, text);
+    Ok(())
+}
+
 #[test]
 fn two_parts_come_after_a_refused_growth(rt: HostRuntime) -> Result<(), Fail> {
     let text = "a".repeat(rt.alloc(), 161)?;
     let mut two = new_two(rt.alloc())?;
-    let events = two_parts(rt.alloc(), text.as_str())?;
-    all_answer(&rt, &mut two, &events, &PARTS);
-    has_stored(&rt, &two, text.as_str());
-    Ok(())
+    let come = two_parts_come(&rt, rt.alloc(), &mut two, text.as_str());
+    drop(two);
+    Ok(come?)
 }
 
 /// A delivery of 8-bit text.
@@ -88,11 +102,19 @@ const REJECTIONS: [Outcome; 9] = [
     },
 ];
 
+/// The refusals come, and `hi` is stored.
+fn refusals_come(rt: &impl Abort, alloc: Global, two: &mut Two) -> Result<(), AllocError> {
+    let events = repeats(alloc)?;
+    all_answer(rt, two, &events, &REJECTIONS);
+    drop(events);
+    has_stored(rt, two, "hi");
+    Ok(())
+}
+
 #[test]
 fn refusals_come_after_a_refused_growth(rt: HostRuntime) -> Result<(), Fail> {
     let mut two = new_two(rt.alloc())?;
-    let events = repeats(rt.alloc())?;
-    all_answer(&rt, &mut two, &events, &REJECTIONS);
-    has_stored(&rt, &two, "hi");
-    Ok(())
+    let come = refusals_come(&rt, rt.alloc(), &mut two);
+    drop(two);
+    Ok(come?)
 }

@@ -4,6 +4,8 @@
 #[cfg(test)]
 mod faults;
 #[cfg(test)]
+mod found;
+#[cfg(test)]
 mod growths;
 #[cfg(test)]
 mod segments;

@@ -1,8 +1,6 @@
 //! Texts of three segments that come in any order, to a phone that has room or has none.
 
-ghost use Rattle.sms_script.specs.declared.meaning.statement.Limit.TheVariants as limits;
-ghost use Rattle.sms_script.specs.Script.Limits.{IsIn};
-
+use crate::found::{holds, same};
 use crate::two::{Two, at_last, coming, is_stored, new_two, two_with_room, typing};
 use sms_party::Outcome;
 use sms_world::{Entry, Event};
@@ -33,11 +31,12 @@ fn push_three(two: &mut Two) {
 }
 
 /// Lets a text of three segments be accepted and pushed: its segments are packets 13 to 15.
-fn pushed_text(alloc: Global, mut two: Two, text: &str) -> Result<Two, Fail> {
-    let _ = at_last(&mut two, &typing(alloc, text)?);
-    carry(&mut two, &[1, 3, 5, 7, 9, 11]);
-    push_three(&mut two);
-    Ok(two)
+fn push_text(alloc: Global, two: &mut Two, text: &str) -> Result<(), AllocError> {
+    let typed = typing(alloc, text)?;
+    let _ = at_last(two, &typed);
+    carry(two, &[1, 3, 5, 7, 9, 11]);
+    push_three(two);
+    Ok(())
 }
 
 /// Carries each of these packets twice, and says which one is no repeat the second time, if any is
@@ -55,19 +54,33 @@ fn not_repeated(two: &mut Two, order: [u64; 3]) -> Option<u64> {
 
 /// Each packet is a repeat the second time, and the text is stored once.
 fn is_stored_once(rt: &impl Abort, two: &mut Two, text: &str, order: [u64; 3]) {
-    assert_eq!(rt; not_repeated(two, order), None, "{order:?}");
-    assert!(rt; is_stored(two.world.store(1), text), "{order:?}");
+    same(rt, &order, &not_repeated(two, order), &None);
+    holds(rt, &order, is_stored(two.world.store(1), text));
 }
 
 /// Segments come in this order, each twice.
-fn come(rt: &impl Abort, alloc: Global, text: &str, order: [u64; 3]) -> Result<(), Fail> {
-    let mut two = pushed_text(alloc, new_two(alloc)?, text)?;
-    is_stored_once(rt, &mut two, text, order);
+fn come(
+    rt: &impl Abort,
+    alloc: Global,
+    two: &mut Two,
+    text: &str,
+    order: [u64; 3],
+) -> Result<(), AllocError> {
+    push_text(alloc, two, text)?;
+    is_stored_once(rt, two, text, order);
     Ok(())
 }
 
+/// Segments come in this order, each twice, in a new world.
+fn come_anew(rt: &impl Abort, alloc: Global, text: &str, order: [u64; 3]) -> Result<(), Fail> {
+    let mut two = new_two(alloc)?;
+    let told = come(rt, alloc, &mut two, text, order);
+    drop(two);
+    Ok(told?)
+}
+
 /// The orders in which three segments can come.
-const ORDERS: [[u64; 3]; 6] = [
+static ORDERS: [[u64; 3]; 6] = [
     [13, 14, 15],
     [13, 15, 14],
     [14, 13, 15],
@@ -79,8 +92,8 @@ const ORDERS: [[u64; 3]; 6] = [
 #[test]
 fn segments_come_in_any_order_and_twice(rt: HostRuntime) -> Result<(), Fail> {
     let text = "a".repeat(rt.alloc(), 307)?;
-    for order in ORDERS {
-        come(&rt, rt.alloc(), text.as_str(), order)?;
+    for order in ORDERS.as_slice() {
+        come_anew(&rt, rt.alloc(), text.as_str(), *order)?;
     }
     Ok(())
 }
@@ -94,14 +107,12 @@ fn delivery_of_one(alloc: Global) -> Result<Event, AllocError> {
     )
 }
 
-/// Such a world, where the second phone has stored `one` before the segments come.
-fn pushed_after_one(alloc: Global, store: u64, text: &str) -> Result<Two, Fail>
-    requires { IsIn limits.Store store }
-{
-    let two = two_with_room(alloc, store)?;
-    let mut two = pushed_text(alloc, two, text)?;
-    let _ = at_last(&mut two, &delivery_of_one(alloc)?);
-    Ok(two)
+/// The same, and the second phone has stored `one` before the segments come.
+fn push_after_one(alloc: Global, two: &mut Two, text: &str) -> Result<(), AllocError> {
+    push_text(alloc, two, text)?;
+    let one = delivery_of_one(alloc)?;
+    let _ = at_last(two, &one);
+    Ok(())
 }
 
 /// Carries a packet twice, and says whether both times have this answer.
@@ -141,31 +152,52 @@ fn is_taken_with_room(two: &mut Two, text: &str, [first, second, last]: [u64; 3]
     kept && taken && are_stored(two.world.store(1), "one", text)
 }
 
-/// A phone refuses the last segment of a text in this order, or takes it.
-fn is_so(rt: &impl Abort, order: [u64; 3], room: &str, so: bool) {
-    assert!(rt; so, "{order:?}, {room}");
+/// Whether a phone with room for one text refuses the last segment.
+fn is_refused(
+    alloc: Global,
+    two: &mut Two,
+    text: &str,
+    order: [u64; 3],
+) -> Result<bool, AllocError> {
+    push_after_one(alloc, two, text)?;
+    Ok(is_refused_when_full(two, order))
+}
+
+/// Whether a phone with room for two texts takes the last segment.
+fn is_taken_at_last(
+    alloc: Global,
+    two: &mut Two,
+    text: &str,
+    order: [u64; 3],
+) -> Result<bool, AllocError> {
+    push_after_one(alloc, two, text)?;
+    Ok(is_taken_with_room(two, text, order))
 }
 
 /// A phone without room refuses the last segment.
 fn refuses(rt: &impl Abort, alloc: Global, text: &str, order: [u64; 3]) -> Result<(), Fail> {
-    let mut two = pushed_after_one(alloc, 1, text)?;
-    is_so(rt, order, "no room", is_refused_when_full(&mut two, order));
+    let mut two = two_with_room(alloc, 1)?;
+    let refused = is_refused(alloc, &mut two, text, order);
+    drop(two);
+    holds(rt, &(order, "no room"), refused?);
     Ok(())
 }
 
 /// A phone with room takes the last segment.
 fn takes(rt: &impl Abort, alloc: Global, text: &str, order: [u64; 3]) -> Result<(), Fail> {
-    let mut two = pushed_after_one(alloc, 2, text)?;
-    is_so(rt, order, "room", is_taken_with_room(&mut two, text, order));
+    let mut two = two_with_room(alloc, 2)?;
+    let taken = is_taken_at_last(alloc, &mut two, text, order);
+    drop(two);
+    holds(rt, &(order, "room"), taken?);
     Ok(())
 }
 
 #[test]
 fn a_last_segment_wants_room(rt: HostRuntime) -> Result<(), Fail> {
     let text = "a".repeat(rt.alloc(), 307)?;
-    for order in ORDERS {
-        refuses(&rt, rt.alloc(), text.as_str(), order)?;
-        takes(&rt, rt.alloc(), text.as_str(), order)?;
+    for order in ORDERS.as_slice() {
+        refuses(&rt, rt.alloc(), text.as_str(), *order)?;
+        takes(&rt, rt.alloc(), text.as_str(), *order)?;
     }
     Ok(())
 }

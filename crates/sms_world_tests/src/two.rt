@@ -5,6 +5,7 @@ ghost use Rattle.sms_field.specs.declared.symbols.Symbols.TheVariants as symbols
 ghost use Rattle.sms_script.specs.declared.meaning.statement.Limit.TheVariants as limits;
 ghost use Rattle.sms_script.specs.Script.Limits.{IsIn};
 
+use crate::found::holds;
 use sms_field::{Address, Digits, Symbols};
 use sms_party::{Dropped, Outcome};
 use sms_script::Limit;
@@ -51,6 +52,12 @@ pub fn new_two(alloc: Global) -> Result<Two, Fail> {
     two_with_room(alloc, 500)
 }
 
+/// The same world by itself.
+pub fn new_world(alloc: Global) -> Result<World, Fail> {
+    let two = new_two(alloc)?;
+    Ok(two.world)
+}
+
 /// Someone types a text at the first phone, to the second one.
 pub fn typing(alloc: Global, text: &str) -> Result<Event, AllocError> {
     Ok(Event::Compose {
@@ -91,7 +98,7 @@ pub fn at_last(two: &mut Two, event: &Event) -> Result<Outcome, WorldFault> {
 /// An event is answered so.
 pub fn answers(rt: &impl Abort, two: &mut Two, event: &Event, wanted: Result<Outcome, WorldFault>) {
     let answer = at_last(two, event);
-    assert!(rt; answer == wanted, "{event:?}");
+    holds(rt, event, answer == wanted);
 }
 
 /// Events are answered so, one after another.
@@ -103,5 +110,5 @@ pub fn all_answer(rt: &impl Abort, two: &mut Two, events: &[Event], wanted: &[Ou
 
 /// The second phone has stored this text alone.
 pub fn has_stored(rt: &impl Abort, two: &Two, text: &str) {
-    assert!(rt; is_stored(two.world.store(1), text), "{text}");
+    holds(rt, &text, is_stored(two.world.store(1), text));
 }

@@ -1,5 +1,6 @@
 //! A text of one segment on its way.
 
+use crate::found::{holds, same};
 use crate::two::{Two, address, all_answer, has_stored, new_two, typing};
 use sms_party::{Outcome, Status};
 use sms_world::{Event, Limits, World, WorldFault, run};
@@ -75,33 +76,31 @@ static SENT: [Sent; 8] = [
 /// These packets were put out.
 fn were_put_out(rt: &impl Abort, world: &World, packets: &[Sent]) {
     for sent in packets {
-        assert!(rt;
-            world.packet(sent.number) == Some(sent.octets),
-            "packet {}",
-            sent.number
-        );
+        let put_out = world.packet(sent.number) == Some(sent.octets);
+        holds(rt, &sent.number, put_out);
     }
 }
 
 /// No packets have these numbers.
 fn were_not_put_out(rt: &impl Abort, world: &World, numbers: &[u64]) {
     for number in numbers {
-        assert!(rt; world.packet(*number).is_none(), "packet {number}");
+        holds(rt, number, world.packet(*number).is_none());
     }
 }
 
 /// These are the answers.
 fn are_answers(rt: &impl Abort, answers: &[Result<Outcome, WorldFault>], wanted: &[Outcome]) {
-    assert_eq!(rt; answers.len(), wanted.len());
+    same(rt, &"answers", &answers.len(), &wanted.len());
     for (answer, outcome) in answers.iter().zip(wanted) {
-        assert!(rt; *answer == Ok(*outcome), "{answer:?} for {outcome:?}");
+        holds(rt, &(answer, outcome), *answer == Ok(*outcome));
     }
 }
 
 /// The first phone has typed a text that was accepted, and has stored none.
 fn first_phone_stands(rt: &impl Abort, two: &Two) {
-    assert_eq!(rt; two.world.status(0, 1), Some(Status::Accepted));
-    assert_eq!(rt; two.world.store(0).len(), 0);
+    let status = two.world.status(0, 1);
+    same(rt, &"the text", &status, &Some(Status::Accepted));
+    same(rt, &"the store", &two.world.store(0).len(), &0);
 }
 
 /// A world after a run, and what each event has answered.
@@ -141,6 +140,17 @@ fn way_was_gone(rt: &impl Abort, ran: &Ran) {
 fn a_text_goes_its_way(rt: HostRuntime) -> Result<(), Fail> {
     let ran = ran_whole_way(rt.alloc())?;
     way_was_gone(&rt, &ran);
+    drop(ran);
+    Ok(())
+}
+
+/// The text goes its whole way.
+fn goes(rt: &impl Abort, alloc: Global, two: &mut Two) -> Result<(), AllocError> {
+    let events = whole_way(alloc)?;
+    all_answer(rt, two, &events, &ANSWERS);
+    drop(events);
+    were_put_out(rt, &two.world, &SENT);
+    has_stored(rt, two, "hi");
     Ok(())
 }
 
@@ -149,9 +159,7 @@ fn a_text_goes_its_way(rt: HostRuntime) -> Result<(), Fail> {
 #[test]
 fn happens_after_a_refused_growth(rt: HostRuntime) -> Result<(), Fail> {
     let mut two = new_two(rt.alloc())?;
-    let events = whole_way(rt.alloc())?;
-    all_answer(&rt, &mut two, &events, &ANSWERS);
-    were_put_out(&rt, &two.world, &SENT);
-    has_stored(&rt, &two, "hi");
-    Ok(())
+    let gone = goes(&rt, rt.alloc(), &mut two);
+    drop(two);
+    Ok(gone?)
 }
