@@ -5,11 +5,12 @@ use std::process::Abort;
 
 /// Whether these packets are put out.
 fn are_packets(packets: &[Vec<u8>], wanted: &[&[u8]]) -> bool {
+    for (packet, octets) in packets.iter().zip(wanted) {
+        if packet.as_slice() != *octets {
+            return false;
+        }
+    }
     packets.len() == wanted.len()
-        && packets
-            .iter()
-            .zip(wanted.iter())
-            .all(|(packet, octets)| packet.as_slice() == *octets)
 }
 
 /// Whether a call has this answer, and puts out these packets.

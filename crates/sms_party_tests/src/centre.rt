@@ -114,9 +114,7 @@ fn plays(rt: &impl Abort, alloc: Global, held: usize, rows: &[Row]) -> Result<()
     requires most { held ≤ 1000 }
 {
     let mut fixture = new_fixture(alloc, held)?;
-    let other = differs(alloc, &mut fixture, rows);
-    drop(fixture);
-    none_differs(rt, other);
+    none_differs(rt, differs(alloc, &mut fixture, rows));
     Ok(())
 }
 

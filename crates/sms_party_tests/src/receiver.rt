@@ -22,11 +22,12 @@ struct Limits {
 
 /// Whether a store has these texts.
 fn has_texts(store: &[Entry], texts: &[&str]) -> bool {
+    for (entry, text) in store.iter().zip(texts) {
+        if entry.text.as_str() != *text {
+            return false;
+        }
+    }
     store.len() == texts.len()
-        && store
-            .iter()
-            .zip(texts.iter())
-            .all(|(entry, text)| entry.text.as_str() == *text)
 }
 
 /// The packet of a row comes, and comes again where memory runs out.
