@@ -4,7 +4,6 @@ use crate::answer::{is_answer, is_so, none_differs};
 use sms_party::{Dropped, Outcome, Phone};
 use sms_tpdu::Width;
 use std::alloc::{AllocError, Global};
-use std::process::Abort;
 use std::test::Fail;
 
 /// A packet, and what is answered to it.
@@ -46,32 +45,27 @@ fn phone(alloc: Global) -> Result<Phone, AllocError> {
     Phone::new(alloc, 16, 32, 500, Width::Eight, false)
 }
 
-/// Whether the packet of a row is answered as it says.
-fn is_answered(phone: &mut Phone, row: &Row) -> bool {
-    let told = phone.receive(0, row.octets);
-    is_answer(&told, row.answer, row.packets)
-}
-
 /// Says which row is answered otherwise, if any is.
 fn differs(phone: &mut Phone, rows: &[Row]) -> Option<&'static str> {
     for row in rows {
-        if !is_answered(phone, row) {
+        let told = phone.receive(0, row.octets);
+        if !is_answer(&told, row.answer, row.packets) {
             return Some(row.name);
         }
     }
     None
 }
 
-/// Nothing waits at a phone.
-fn is_idle(rt: &impl Abort, phone: &mut Phone) {
-    let told = phone.timeout();
-    is_so(rt, "nothing waits", &told, Ok(Outcome::Idle), &[]);
-}
-
 #[test]
 fn a_phone_tells_answers_by_their_flag(rt: HostRuntime) -> Result<(), Fail> {
     let mut phone = phone(rt.alloc())?;
     none_differs(&rt, differs(&mut phone, FLAGS.as_slice()));
-    is_idle(&rt, &mut phone);
+    is_so(
+        &rt,
+        "nothing waits",
+        &phone.timeout(),
+        Ok(Outcome::Idle),
+        &[],
+    );
     Ok(())
 }

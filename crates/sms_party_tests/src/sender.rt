@@ -21,24 +21,14 @@ fn called(sender: &mut Sender, target: &Address, row: &Row) -> Result<Step, Drop
     }
 }
 
-/// The call of a row, made again where memory runs out.
-fn called_at_last(sender: &mut Sender, target: &Address, row: &Row) -> Result<Step, Dropped> {
-    match called(sender, target, row) {
-        Err(Dropped::Memory) => called(sender, target, row),
-        told => told,
-    }
-}
-
-/// Whether a row is answered as it says.
-fn is_right(sender: &mut Sender, target: &Address, row: &Row) -> bool {
-    let told = called_at_last(sender, target, row);
-    is_answer(&told, row.answer, row.packets)
-}
-
 /// Makes the calls of the rows, and says which one is answered otherwise, if any is.
 fn differs(sender: &mut Sender, target: &Address, rows: &[Row]) -> Option<&'static str> {
     for row in rows {
-        if !is_right(sender, target, row) {
+        let mut told = called(sender, target, row);
+        if let Err(Dropped::Memory) = told {
+            told = called(sender, target, row);
+        }
+        if !is_answer(&told, row.answer, row.packets) {
             return Some(row.name);
         }
     }
@@ -101,17 +91,6 @@ fn hears_refusals_of_a_sender_that_rejects_early(rt: HostRuntime) -> Result<(), 
     Ok(())
 }
 
-/// What is answered where as many letters `a` are typed to an address.
-fn typed_to(
-    alloc: Global,
-    sender: &mut Sender,
-    target: &Address,
-    letters: usize,
-) -> Result<Result<Step, Dropped>, AllocError> {
-    let text = "a".repeat(alloc, letters)?;
-    Ok(sender.type_text(target, text.as_str()))
-}
-
 /// What is answered where as many letters `a` are typed to +1002.
 fn typed(
     alloc: Global,
@@ -119,7 +98,8 @@ fn typed(
     letters: usize,
 ) -> Result<Result<Step, Dropped>, Fail> {
     let target = Address::from_text(alloc, "+1002")?;
-    Ok(typed_to(alloc, sender, &target, letters)?)
+    let text = "a".repeat(alloc, letters)?;
+    Ok(sender.type_text(&target, text.as_str()))
 }
 
 /// The packet with the first of two segments: eight letters `a` are packed into seven octets.
@@ -131,18 +111,13 @@ fn first_segment(alloc: Global) -> Result<Vec<u8>, AllocError> {
     Ok(packet)
 }
 
-/// A text of two segments is typed, and this packet is put out.
-fn puts_out(rt: &impl Abort, alloc: Global, sender: &mut Sender, first: &[u8]) -> Result<(), Fail> {
-    let told = typed(alloc, sender, 161)?;
-    let wanted = Ok(Outcome::Typed { text: 1 });
-    is_so(rt, "two segments", &told, wanted, &[first]);
-    Ok(())
-}
-
 /// A text of two segments is typed, and the first is put out.
 fn types_two_segments(rt: &impl Abort, alloc: Global, sender: &mut Sender) -> Result<(), Fail> {
+    let told = typed(alloc, sender, 161)?;
     let first = first_segment(alloc)?;
-    puts_out(rt, alloc, sender, &first)
+    let wanted = Ok(Outcome::Typed { text: 1 });
+    is_so(rt, "two segments", &told, wanted, &[first.as_slice()]);
+    Ok(())
 }
 
 #[test]
@@ -176,18 +151,14 @@ fn refuses_too_many_segments(rt: HostRuntime) -> Result<(), Fail> {
     Ok(())
 }
 
-/// A thousand empty texts to an address are typed.
-fn types_a_thousand(sender: &mut Sender, target: &Address) -> Result<(), Dropped> {
-    for _ in 0..1000 {
-        let _step = sender.type_text(target, "")?;
-    }
-    Ok(())
-}
-
-/// A thousand empty texts to +1002 wait.
-fn fills(alloc: Global, sender: &mut Sender) -> Result<(), Fail> {
+/// A sender at which a thousand empty texts to +1002 wait.
+fn full_sender(alloc: Global) -> Result<Sender, Fail> {
     let target = Address::from_text(alloc, "+1002")?;
-    Ok(types_a_thousand(sender, &target)?)
+    let mut sender = Sender::new(alloc, Width::Eight, false);
+    for _ in 0..1000 {
+        let _step = sender.type_text(&target, "")?;
+    }
+    Ok(sender)
 }
 
 /// The first text is accepted.
@@ -198,8 +169,7 @@ fn accepts_the_first(sender: &mut Sender) -> Result<(), Dropped> {
 
 #[test]
 fn refuses_too_many_texts(rt: HostRuntime) -> Result<(), Fail> {
-    let mut sender = Sender::new(rt.alloc(), Width::Eight, false);
-    fills(rt.alloc(), &mut sender)?;
+    let mut sender = full_sender(rt.alloc())?;
     is_answered(&rt, rt.alloc(), &mut sender, 0, Err(Dropped::Busy))?;
     stands(&rt, &sender, 1000, Some(Status::Waiting));
     stands(&rt, &sender, 1001, None);
