@@ -3,7 +3,7 @@
 use crate::again::rewritten;
 use crate::found::{are, holds, same};
 use sms_tpdu::{Body, Concat, Deliver, Header, Refusal, Unit, UnitFault, UserData, Width};
-use std::alloc::{AllocError, Global};
+use std::alloc::Global;
 use std::process::Abort;
 use std::test::Fail;
 
@@ -134,16 +134,21 @@ fn has_header(header: &Option<Header>, row: &Delivery) -> bool {
     }
 }
 
-/// Whether a copy of user data is what a row says.
-fn has_user(alloc: Global, user: &UserData, row: &Delivery) -> Result<bool, AllocError> {
-    let user = user.copy(alloc)?;
-    Ok(octets_in(&user.body) == row.body && has_header(&user.header, row))
+/// The user data of the delivery that is read, and how many octets it takes.
+fn user_of(alloc: Global, octets: &[u8]) -> Result<(UserData, usize), Fail> {
+    let (deliver, used) = Deliver::read(alloc, octets)?;
+    let user = deliver.user.copy(alloc)?;
+    Ok((user, used))
 }
 
 /// Whether a delivery is read as its row says.
-fn is_read(alloc: Global, row: &Delivery) -> Result<bool, Refusal<UnitFault>> {
-    let (deliver, used) = Deliver::read(alloc, row.octets)?;
-    Ok(used == row.octets.len() && has_user(alloc, &deliver.user, row)?)
+fn is_read(alloc: Global, row: &Delivery) -> Result<bool, Fail> {
+    let (user, used) = user_of(alloc, row.octets)?;
+    Ok(
+        used == row.octets.len()
+            && octets_in(&user.body) == row.body
+            && has_header(&user.header, row),
+    )
 }
 
 /// What is written of the delivery that is read, and read again.
@@ -152,19 +157,13 @@ fn written(alloc: Global, octets: &[u8]) -> Result<Vec<u8>, Refusal<UnitFault>> 
     rewritten(alloc, &deliver)
 }
 
-/// The delivery that is read is written in the same octets.
-fn is_written(rt: &impl Abort, alloc: Global, octets: &[u8]) -> Result<(), Refusal<UnitFault>> {
-    let written = written(alloc, octets)?;
-    are(rt, &octets, &written, octets);
-    Ok(())
-}
-
 #[test]
 fn reads_and_writes_deliveries(rt: HostRuntime) -> Result<(), Fail> {
     for row in DELIVERIES.as_slice() {
         let read = is_read(rt.alloc(), row)?;
         holds(&rt, &row.octets, read);
-        is_written(&rt, rt.alloc(), row.octets)?;
+        let written = written(rt.alloc(), row.octets)?;
+        are(&rt, &row.octets, &written, row.octets);
     }
     Ok(())
 }
@@ -201,7 +200,9 @@ fn reads_a_delivery(rt: HostRuntime) -> Result<(), Fail> {
 
 #[test]
 fn writes_a_delivery(rt: HostRuntime) -> Result<(), Fail> {
-    Ok(is_written(&rt, rt.alloc(), &HELLO)?)
+    let written = written(rt.alloc(), &HELLO)?;
+    are(&rt, &"written", &written, &HELLO);
+    Ok(())
 }
 
 /// Octets that are no delivery, and the place and the reason of the refusal.

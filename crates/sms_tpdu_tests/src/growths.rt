@@ -80,10 +80,10 @@ fn is_submission(octets: &[u8]) -> bool {
     }
 }
 
-/// The submission, from a telephone number and a text.
-fn submission(alloc: Global) -> Result<Submit, AllocError> {
+/// Whether the submission is written, from a telephone number and a text.
+fn is_written(alloc: Global) -> Result<bool, AllocError> {
     let target = Address::from_text(alloc, "+46708251358").map_err(|_| AllocError)?;
-    Ok(Submit {
+    let submit = Submit {
         reject: false,
         validity: Validity::Relative(170),
         report: false,
@@ -93,12 +93,7 @@ fn submission(alloc: Global) -> Result<Submit, AllocError> {
         pid: 0,
         dcs: 0,
         user: letters(alloc)?,
-    })
-}
-
-/// Whether the submission is written.
-fn is_written(alloc: Global) -> Result<bool, AllocError> {
-    let submit = submission(alloc)?;
+    };
     let octets = submit.write(alloc)?;
     Ok(is_submission(&octets))
 }

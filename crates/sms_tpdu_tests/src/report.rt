@@ -486,22 +486,17 @@ fn refuses_what_is_no_report(rt: HostRuntime) {
 }
 
 /// The octets of a report on a delivery with 181 septets, which are 159 octets.
-fn longest(alloc: Global) -> Result<Vec<u8>, AllocError> {
+fn longest(alloc: Global) -> Result<Vec<u8>, Fail> {
     let mut octets = Vec::from_slice(alloc, b"\x00\x04\xB5")?;
     octets.extend_from_slice(&[0x55; 159])?;
     Ok(octets)
 }
 
-/// All octets of the longest report are read, and written again.
-fn is_longest(rt: &impl Abort, alloc: Global, octets: &[u8]) -> Result<(), Refusal<UnitFault>> {
-    let read = deliver_ack(alloc, octets)?;
-    same(rt, &"octets", &read.used, &162);
-    are(rt, &"written", &read.written, octets);
-    Ok(())
-}
-
 #[test]
 fn reads_and_writes_the_longest_report(rt: HostRuntime) -> Result<(), Fail> {
     let octets = longest(rt.alloc())?;
-    Ok(is_longest(&rt, rt.alloc(), &octets)?)
+    let read = deliver_ack(rt.alloc(), &octets)?;
+    same(&rt, &"octets", &read.used, &162);
+    are(&rt, &"written", &read.written, &octets);
+    Ok(())
 }

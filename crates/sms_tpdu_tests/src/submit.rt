@@ -6,7 +6,6 @@ use crate::found::{are, holds};
 use sms_field::{Stamp, Symbols, Validity};
 use sms_tpdu::{Refusal, Submit, Unit, UnitFault};
 use std::alloc::Global;
-use std::process::Abort;
 use std::test::Fail;
 
 /// TP-VP as a row says it.
@@ -149,7 +148,7 @@ fn has_fields(submit: &Submit, row: &Row) -> bool {
 }
 
 /// Whether a submission is read as its row says.
-fn is_read(alloc: Global, row: &Row) -> Result<bool, Refusal<UnitFault>> {
+fn is_read(alloc: Global, row: &Row) -> Result<bool, Fail> {
     let (submit, used) = Submit::read(alloc, row.octets)?;
     Ok(used == row.octets.len() && has_fields(&submit, row))
 }
@@ -160,19 +159,13 @@ fn written(alloc: Global, octets: &[u8]) -> Result<Vec<u8>, Refusal<UnitFault>> 
     rewritten(alloc, &submit)
 }
 
-/// The submission that is read is written in the same octets.
-fn is_written(rt: &impl Abort, alloc: Global, octets: &[u8]) -> Result<(), Refusal<UnitFault>> {
-    let written = written(alloc, octets)?;
-    are(rt, &octets, &written, octets);
-    Ok(())
-}
-
 #[test]
 fn reads_and_writes_submissions(rt: HostRuntime) -> Result<(), Fail> {
     for row in ROWS.as_slice() {
         let read = is_read(rt.alloc(), row)?;
         holds(&rt, &row.octets, read);
-        is_written(&rt, rt.alloc(), row.octets)?;
+        let written = written(rt.alloc(), row.octets)?;
+        are(&rt, &row.octets, &written, row.octets);
     }
     Ok(())
 }

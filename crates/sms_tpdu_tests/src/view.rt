@@ -2,7 +2,6 @@
 
 use crate::found::{holds, same};
 use sms_tpdu::{BodyView, Deliver, DeliverView, HeaderElement, HeaderView, SeptetsView, View};
-use std::alloc::{AllocError, Global};
 use std::process::Abort;
 use std::test::Fail;
 
@@ -61,17 +60,10 @@ fn is_seen(rt: &impl Abort, view: &DeliverView) {
     has_two_septets(rt, view.user.body());
 }
 
-/// A value has the same TP-PID and the same type of number.
-fn is_value(rt: &impl Abort, deliver: &Deliver) {
+/// Its value has the same TP-PID and the same type of number.
+fn is_valued(rt: &impl Abort, deliver: &Deliver) {
     same(rt, &"TP-PID", &deliver.pid, &0);
     same(rt, &"type of number", &deliver.origin.type_of_number, &1);
-}
-
-/// Its value is made so.
-fn is_valued(rt: &impl Abort, alloc: Global, view: &DeliverView) -> Result<(), AllocError> {
-    let deliver = view.to_value(alloc)?;
-    is_value(rt, &deliver);
-    Ok(())
 }
 
 #[test]
@@ -79,5 +71,7 @@ fn a_delivery_where_it_lies(rt: HostRuntime) -> Result<(), Fail> {
     let (view, used) = DeliverView::read(&INPUT)?;
     same(&rt, &"octets", &used, &23);
     is_seen(&rt, &view);
-    Ok(is_valued(&rt, rt.alloc(), &view)?)
+    let deliver = view.to_value(rt.alloc())?;
+    is_valued(&rt, &deliver);
+    Ok(())
 }
