@@ -1,5 +1,5 @@
--- What is dropped puts nothing out.
-use Rattle.std.proofs.Common.{◌≡◌, ℕ, ◌-◌, ◌&&◌, Bool, true, false, cond, nat_lt, List, [], ◌∷◌, length, Option, Some, None, Ok, Err, refl}
+-- What a phone drops puts nothing out.
+use Rattle.std.proofs.Common.{ℕ, ◌-◌, Bool, true, false, cond, nat_lt, List, [], ◌∷◌, length, Option, Some, None, refl}
 use Rattle.std.specs.Prelude.{nat_le}
 use Rattle.sms_field.specs.AddressValue.{AddressValue}
 use Rattle.sms_relay.specs.declared.side.Side.TheVariants.{FromPhone, ToPhone}
@@ -7,30 +7,19 @@ use Rattle.sms_join.specs.declared.units.Units.{Units}
 use Rattle.sms_join.specs.Joiner as joiner
 use Rattle.sms_join.specs.Piece.{Piece}
 use Rattle.sms_field.specs.Coding.{alphabet_at}
-use Rattle.sms_tpdu.specs.Submit.{Submission}
 use Rattle.sms_tpdu.specs.Deliver.{Delivery}
-use Rattle.sms_party.specs.declared.message.Report.{Report}
-use Rattle.sms_party.specs.declared.message.TransferUnit.{TransferUnit}
-use Rattle.sms_party.specs.declared.message.TransferUnit.TheVariants.{Submit, Deliver, OtherUnit, BadUnit}
-use Rattle.sms_party.specs.declared.message.Relay.{Relay}
-use Rattle.sms_party.specs.declared.message.Relay.TheVariants.{Transfer, Answer, UnknownType, Unreadable}
-use Rattle.sms_party.specs.declared.message.Message.{Message}
-use Rattle.sms_party.specs.declared.message.Message.TheVariants.{NotCp, Note, Tiny, Data}
-use Rattle.sms_party.specs.declared.message.Tag.{Tag}
-use Rattle.sms_party.specs.declared.outcome.Outcome.{Outcome}
-use Rattle.sms_party.specs.declared.outcome.Dropped.{Dropped}
-use Rattle.sms_party.specs.declared.centre.check.Check.{Check}
-use Rattle.sms_party.specs.declared.centre.check.Check.TheVariants.{Refuse, Accept}
-use Rattle.sms_party.specs.Message.{Origin, tag_of, same_tag}
-use Rattle.sms_party.specs.Does.{Does}
+use Rattle.sms_message.specs.declared.message.Report.{Report}
+use Rattle.sms_message.specs.declared.message.TransferUnit.{TransferUnit}
+use Rattle.sms_message.specs.declared.message.TransferUnit.TheVariants.{Submit, Deliver, OtherUnit, BadUnit}
+use Rattle.sms_message.specs.declared.message.Relay.{Relay}
+use Rattle.sms_message.specs.declared.message.Relay.TheVariants.{Transfer, Answer, UnknownType, Unreadable}
+use Rattle.sms_message.specs.declared.message.Message.{Message}
+use Rattle.sms_message.specs.declared.message.Message.TheVariants.{NotCp, Note, Tiny, Data}
+use Rattle.sms_message.specs.declared.message.Tag.{Tag}
+use Rattle.sms_message.specs.declared.outcome.Outcome.{Outcome}
+use Rattle.sms_message.specs.declared.outcome.Dropped.{Dropped}
+use Rattle.sms_message.specs.Message.{Origin, tag_of, same_tag}
 use Rattle.sms_party.specs.Sent.{Sends}
-use Rattle.sms_party.specs.Centre.{centre_opened, centre_answered, centre_receives}
-use Rattle.sms_party.specs.Centre.State.{Acceptance, Pushing, CentreState}
-use Rattle.sms_party.specs.Centre.Held.{unended}
-use Rattle.sms_party.specs.Centre.Checks.{books_of, checked_by}
-use Rattle.sms_party.specs.Centre.Submissions.{checked, centre_takes}
-use Rattle.sms_party.specs.Centre.Pushes.{pushes_first, centre_pushes}
-use Rattle.sms_party.specs.Centre.Verdicts.{settled, centre_hears}
 use Rattle.sms_party.specs.Sender.Texts.{Sender, SenderState, new_text}
 use Rattle.sms_party.specs.Sender.Putting.{sender_drops, does}
 use Rattle.sms_party.specs.Sender.Calls.{typed, composes, repeats, times_out}
@@ -39,74 +28,13 @@ use Rattle.sms_party.specs.Receiver.{receiver_takes, receiver_opened, receiver_r
 use Rattle.sms_party.specs.Receiver.State.{ReceiverLimits, ReceiverState}
 use Rattle.sms_party.specs.Receiver.Pieces.{units_in, piece_in}
 use Rattle.sms_party.specs.Receiver.Offers.{settles, is_full_for, receiver_offers, offers_units}
-use Rattle.sms_party.specs.Drops.{DoesOrDrops, SendsOrDrops, DropsPutNothingOut}
-
--- what was done was not dropped
-done : {X : Type 0} (word : Outcome) (why : Dropped) (put : List X) → Ok word ≡ Err why → put ≡ []
-done word why put e = absurd (let f : Ok word ≡ Err why = e in cc)
+use Rattle.sms_party.specs.Drops.{SendsOrDrops, DropsPutNothingOut}
+use Rattle.sms_message.specs.Drops.{DoesOrDrops, not_dropped, either_drops}
 
 -- a test, whichever way it goes
-either_does : {S : Type 0} (b : Bool) (d e : Does S) → DoesOrDrops d → DoesOrDrops e → DoesOrDrops (cond b d e)
-either_does true d e h k = h
-either_does false d e h k = k
-
 either_sends : {S : Type 0} (b : Bool) (d e : Sends S) → SendsOrDrops d → SendsOrDrops e → SendsOrDrops (cond b d e)
 either_sends true d e h k = h
 either_sends false d e h k = k
-
--- ---- the centre
-
-hears_none : (c : CentreState) (now phone : ℕ) (tag : Tag) (cause : Option ℕ) (latest : Option Pushing) → DoesOrDrops (centre_hears c now phone tag cause latest)
-unfolding centre_hears settled
-hears_none c now phone tag cause None = λ why e. refl
-hears_none c now phone tag cause (Some p) =
-    either_does (same_tag tag p.tag && nat_lt now p.message.ends) _ _ (λ why e. done _ why _ e) (λ why e. refl)
-
-checked_none : (c : CentreState) (now phone : ℕ) (tag : Tag) (s : Submission) (origin : Option Origin) (check : Check) → DoesOrDrops (checked c now phone tag s origin check)
-unfolding checked
-checked_none c now phone tag s origin (Refuse cause failure) = λ why e. done _ why _ e
-checked_none c now phone tag s origin (Accept recipient ends stamp) = λ why e. done _ why _ e
-
-takes_none : (limit : ℕ) (phones : List AddressValue) (c : CentreState) (now phone : ℕ) (tag : Tag) (unit : TransferUnit) (origin : Option Origin) → DoesOrDrops (centre_takes limit phones c now phone tag unit origin)
-unfolding centre_takes
-takes_none limit phones c now phone tag (Submit s) origin =
-    checked_none c now phone tag s origin (checked_by limit phones (books_of c.accepted now phone s) now s)
-takes_none limit phones c now phone tag (Deliver d) origin = λ why e. done _ why _ e
-takes_none limit phones c now phone tag OtherUnit origin = λ why e. done _ why _ e
-takes_none limit phones c now phone tag BadUnit origin = λ why e. done _ why _ e
-
-opened_none : (limit : ℕ) (phones : List AddressValue) (c : CentreState) (now phone : ℕ) (tag : Tag) (relay : Relay) (origin : Option Origin) → DoesOrDrops (centre_opened limit phones c now phone tag relay origin)
-unfolding centre_opened
-opened_none limit phones c now phone tag (Transfer FromPhone unit) origin = takes_none limit phones c now phone tag unit origin
-opened_none limit phones c now phone tag (Transfer ToPhone unit) origin = λ why e. refl
-opened_none limit phones c now phone tag (Answer side cause report) origin = λ why e. refl
-opened_none limit phones c now phone tag UnknownType origin = λ why e. done _ why _ e
-opened_none limit phones c now phone tag Unreadable origin = λ why e. done _ why _ e
-
-answered_none : (c : CentreState) (now phone : ℕ) (tag : Tag) (relay : Relay) → DoesOrDrops (centre_answered c now phone tag relay)
-unfolding centre_answered
-answered_none c now phone tag (Answer FromPhone cause report) = hears_none c now phone tag cause (c.line phone).latest
-answered_none c now phone tag (Answer ToPhone cause report) = λ why e. refl
-answered_none c now phone tag (Transfer side unit) = λ why e. refl
-answered_none c now phone tag UnknownType = λ why e. refl
-answered_none c now phone tag Unreadable = λ why e. refl
-
-centre_none : (limit : ℕ) (phones : List AddressValue) (c : CentreState) (now phone : ℕ) (message : Message) (origin : Option Origin) → DoesOrDrops (centre_receives limit phones c now phone message origin)
-unfolding centre_receives
-centre_none limit phones c now phone NotCp origin = λ why e. refl
-centre_none limit phones c now phone (Note flag value) origin = λ why e. refl
-centre_none limit phones c now phone (Tiny flag value) origin = λ why e. refl
-centre_none limit phones c now phone (Data false tag relay) origin = opened_none limit phones c now phone tag relay origin
-centre_none limit phones c now phone (Data true tag relay) origin = answered_none c now phone tag relay
-
-pushes_none : (phones : List AddressValue) (c : CentreState) (phone : ℕ) (queue : List Acceptance) → DoesOrDrops (pushes_first phones c phone queue)
-unfolding pushes_first
-pushes_none phones c phone [] = λ why e. refl
-pushes_none phones c phone (a ∷ others) = λ why e. done _ why _ e
-
-centre_pushes_none : (phones : List AddressValue) (c : CentreState) (now phone : ℕ) → DoesOrDrops (centre_pushes phones c now phone)
-unfolding centre_pushes
-centre_pushes_none phones c now phone = pushes_none phones c phone (unended (c.line phone).queue now)
 
 -- ---- the sender
 
@@ -116,7 +44,7 @@ dropped_none x why = λ other e. refl
 
 typed_none : (x : SenderState) (phone : ℕ) (target : AddressValue) (characters : List ℕ) (pieces : List Units) → SendsOrDrops (typed x phone (new_text x.wide x.texts phone target characters pieces))
 unfolding typed does
-typed_none x phone target characters pieces = λ why e. done _ why _ e
+typed_none x phone target characters pieces = λ why e. not_dropped _ why _ e
 
 composes_none : (x : SenderState) (phone : ℕ) (target : AddressValue) (characters : List ℕ) (pieces : List Units) → SendsOrDrops (composes x phone target characters pieces)
 unfolding composes
@@ -127,7 +55,7 @@ composes_none x phone target characters pieces =
 repeats_none : (x : SenderState) (phone : ℕ) (s : Sender) (queue : List ℕ) → SendsOrDrops (repeats x phone s queue)
 unfolding repeats does
 repeats_none x phone s [] = λ why e. refl
-repeats_none x phone s (n ∷ later) = either_sends (nat_lt s.tries 4) _ _ (λ why e. done _ why _ e) (λ why e. done _ why _ e)
+repeats_none x phone s (n ∷ later) = either_sends (nat_lt s.tries 4) _ _ (λ why e. not_dropped _ why _ e) (λ why e. not_dropped _ why _ e)
 
 times_out_none : (x : SenderState) (phone : ℕ) → SendsOrDrops (times_out x phone)
 unfolding times_out
@@ -135,10 +63,10 @@ times_out_none x phone = repeats_none x phone (x.sender phone) (x.sender phone).
 
 heard_none : (x : SenderState) (phone : ℕ) (tag : Tag) (s : Sender) (n : ℕ) (later : List ℕ) (good more : Bool) (word : Outcome) → SendsOrDrops (hears x phone tag s n later good more word)
 unfolding hears does
-heard_none x phone tag s n later true true word = λ why e. done _ why _ e
-heard_none x phone tag s n later true false word = λ why e. done _ why _ e
-heard_none x phone tag s n later false true word = λ why e. done _ why _ e
-heard_none x phone tag s n later false false word = λ why e. done _ why _ e
+heard_none x phone tag s n later true true word = λ why e. not_dropped _ why _ e
+heard_none x phone tag s n later true false word = λ why e. not_dropped _ why _ e
+heard_none x phone tag s n later false true word = λ why e. not_dropped _ why _ e
+heard_none x phone tag s n later false false word = λ why e. not_dropped _ why _ e
 
 matches_none : (x : SenderState) (phone : ℕ) (tag : Tag) (s : Sender) (queue : List ℕ) (cause : Option ℕ) (report : Option Report) → SendsOrDrops (matches x phone tag s queue cause report)
 unfolding matches
@@ -166,35 +94,35 @@ sender_takes_none x phone (Data false tag relay) = dropped_none x _
 
 settles_none : (limits : ReceiverLimits) (s : ReceiverState) (tag : Tag) (from : AddressValue) (p : Piece) (origin : Option Origin) (given : joiner.Answer) → DoesOrDrops (settles limits s tag from p origin given)
 unfolding settles
-settles_none limits s tag from p origin joiner.Repeat = λ why e. done _ why _ e
-settles_none limits s tag from p origin joiner.Kept = λ why e. done _ why _ e
-settles_none limits s tag from p origin (joiner.Finished us) = λ why e. done _ why _ e
-settles_none limits s tag from p origin joiner.TooManyOpen = λ why e. done _ why _ e
+settles_none limits s tag from p origin joiner.Repeat = λ why e. not_dropped _ why _ e
+settles_none limits s tag from p origin joiner.Kept = λ why e. not_dropped _ why _ e
+settles_none limits s tag from p origin (joiner.Finished us) = λ why e. not_dropped _ why _ e
+settles_none limits s tag from p origin joiner.TooManyOpen = λ why e. not_dropped _ why _ e
 
 offers_none : (limits : ReceiverLimits) (s : ReceiverState) (tag : Tag) (from : AddressValue) (p : Piece) (origin : Option Origin) → DoesOrDrops (receiver_offers limits s tag from p origin)
 unfolding receiver_offers
 offers_none limits s tag from p origin =
-    either_does (is_full_for limits s p) _ _ (λ why e. done _ why _ e)
+    either_drops (is_full_for limits s p) _ _ (λ why e. not_dropped _ why _ e)
     (settles_none limits s tag from p origin (joiner.answer limits.open_max s.joiner p))
 
 units_none : (limits : ReceiverLimits) (s : ReceiverState) (now : ℕ) (tag : Tag) (d : Delivery) (origin : Option Origin) (units : Option Units) → DoesOrDrops (offers_units limits s now tag d origin units)
-units_none limits s now tag d origin None = λ why e. done _ why _ e
+units_none limits s now tag d origin None = λ why e. not_dropped _ why _ e
 units_none limits s now tag d origin (Some us) = offers_none limits s tag d.origin (piece_in now d us) origin
 
 delivered_none : (limits : ReceiverLimits) (s : ReceiverState) (now : ℕ) (tag : Tag) (unit : TransferUnit) (origin : Option Origin) → DoesOrDrops (receiver_takes limits s now tag unit origin)
 unfolding receiver_takes
 delivered_none limits s now tag (Deliver d) origin = units_none limits s now tag d origin (units_in (alphabet_at d.dcs) d.user.body)
-delivered_none limits s now tag (Submit d) origin = λ why e. done _ why _ e
-delivered_none limits s now tag OtherUnit origin = λ why e. done _ why _ e
-delivered_none limits s now tag BadUnit origin = λ why e. done _ why _ e
+delivered_none limits s now tag (Submit d) origin = λ why e. not_dropped _ why _ e
+delivered_none limits s now tag OtherUnit origin = λ why e. not_dropped _ why _ e
+delivered_none limits s now tag BadUnit origin = λ why e. not_dropped _ why _ e
 
 receiver_opened_none : (limits : ReceiverLimits) (s : ReceiverState) (now : ℕ) (tag : Tag) (relay : Relay) (origin : Option Origin) → DoesOrDrops (receiver_opened limits s now tag relay origin)
 unfolding receiver_opened
 receiver_opened_none limits s now tag (Transfer ToPhone unit) origin = delivered_none limits s now tag unit origin
 receiver_opened_none limits s now tag (Transfer FromPhone unit) origin = λ why e. refl
 receiver_opened_none limits s now tag (Answer side cause report) origin = λ why e. refl
-receiver_opened_none limits s now tag UnknownType origin = λ why e. done _ why _ e
-receiver_opened_none limits s now tag Unreadable origin = λ why e. done _ why _ e
+receiver_opened_none limits s now tag UnknownType origin = λ why e. not_dropped _ why _ e
+receiver_opened_none limits s now tag Unreadable origin = λ why e. not_dropped _ why _ e
 
 receiver_none : (limits : ReceiverLimits) (s : ReceiverState) (now : ℕ) (message : Message) (origin : Option Origin) → DoesOrDrops (receiver_receives limits s now message origin)
 unfolding receiver_receives
@@ -207,8 +135,6 @@ receiver_none limits s now (Data true tag relay) origin = λ why e. refl
 pub drops_put_nothing_out : DropsPutNothingOut
 drops_put_nothing_out =
     record {
-      centre_receives = centre_none;
-      centre_pushes = centre_pushes_none;
       composes = composes_none;
       times_out = times_out_none;
       sender_takes = sender_takes_none;

@@ -1,36 +1,27 @@
--- How much a party puts out.
-use Rattle.std.proofs.Common.{◌≡◌, ℕ, ◌-◌, ◌≤◌, Bool, true, false, cond, nat_lt, List, [], ◌∷◌, length, Option, Some, None, refl, arith}
-use Rattle.std.specs.Prelude.{nat_le, ◌==◌, ◌&&◌}
+-- How much a phone puts out.
+use Rattle.std.proofs.Common.{◌≡◌, ℕ, ◌-◌, Bool, true, false, cond, nat_lt, List, [], ◌∷◌, length, Option, Some, None, refl, arith}
+use Rattle.std.specs.Prelude.{nat_le, ◌==◌}
 use Rattle.sms_field.specs.AddressValue.{AddressValue}
 use Rattle.sms_field.specs.Coding.{alphabet_at}
 use Rattle.sms_tpdu.specs.Deliver.{Delivery}
-use Rattle.sms_tpdu.specs.Submit.{Submission}
 use Rattle.sms_relay.specs.declared.side.Side.TheVariants.{FromPhone, ToPhone}
 use Rattle.sms_join.specs.declared.units.Units.{Units}
 use Rattle.sms_join.specs.Piece.{Piece}
 use Rattle.sms_join.specs.Joiner as joiner
-use Rattle.sms_party.specs.declared.centre.check.Check.{Check}
-use Rattle.sms_party.specs.declared.centre.check.Check.TheVariants.{Refuse, Accept}
-use Rattle.sms_party.specs.declared.message.Report.{Report}
-use Rattle.sms_party.specs.declared.message.TransferUnit.{TransferUnit}
-use Rattle.sms_party.specs.declared.message.TransferUnit.TheVariants.{Submit, Deliver, OtherUnit, BadUnit}
-use Rattle.sms_party.specs.declared.message.Relay.{Relay}
-use Rattle.sms_party.specs.declared.message.Relay.TheVariants.{Transfer, Answer, UnknownType, Unreadable}
-use Rattle.sms_party.specs.declared.message.Message.{Message}
-use Rattle.sms_party.specs.declared.message.Message.TheVariants.{NotCp, Note, Tiny, Data}
-use Rattle.sms_party.specs.declared.message.Tag.{Tag}
-use Rattle.sms_party.specs.declared.outcome.Outcome.{Outcome}
-use Rattle.sms_party.specs.declared.outcome.Dropped.{Dropped}
-use Rattle.sms_party.specs.Message.{Origin, tag_of, same_tag}
+use Rattle.sms_message.specs.declared.message.Report.{Report}
+use Rattle.sms_message.specs.declared.message.TransferUnit.{TransferUnit}
+use Rattle.sms_message.specs.declared.message.TransferUnit.TheVariants.{Submit, Deliver, OtherUnit, BadUnit}
+use Rattle.sms_message.specs.declared.message.Relay.{Relay}
+use Rattle.sms_message.specs.declared.message.Relay.TheVariants.{Transfer, Answer, UnknownType, Unreadable}
+use Rattle.sms_message.specs.declared.message.Message.{Message}
+use Rattle.sms_message.specs.declared.message.Message.TheVariants.{NotCp, Note, Tiny, Data}
+use Rattle.sms_message.specs.declared.message.Tag.{Tag}
+use Rattle.sms_message.specs.declared.outcome.Outcome.{Outcome}
+use Rattle.sms_message.specs.declared.outcome.Dropped.{Dropped}
+use Rattle.sms_message.specs.Message.{Origin, tag_of, same_tag}
 use Rattle.sms_party.specs.Sent.{nth, Place, Centre, Sent, Sends, bare}
-use Rattle.sms_party.specs.Does.{Does}
+use Rattle.sms_message.specs.Few.{PutsFew, few_either}
 use Rattle.sms_party.specs.Few.{AreFewTo, FewArePutOut}
-use Rattle.sms_party.specs.Centre.{centre_opened, centre_answered, centre_receives}
-use Rattle.sms_party.specs.Centre.State.{Acceptance, Pushing, CentreState}
-use Rattle.sms_party.specs.Centre.Held.{unended}
-use Rattle.sms_party.specs.Centre.Submissions.{checked, centre_takes}
-use Rattle.sms_party.specs.Centre.Pushes.{pushes_first, centre_pushes}
-use Rattle.sms_party.specs.Centre.Verdicts.{settled, centre_hears}
 use Rattle.sms_party.specs.Receiver.{receiver_takes, receiver_opened, receiver_receives}
 use Rattle.sms_party.specs.Receiver.State.{ReceiverLimits, ReceiverState}
 use Rattle.sms_party.specs.Receiver.Pieces.{units_in}
@@ -147,95 +138,31 @@ module _ (phone : ℕ) where
   taken x (Data true tag relay) = received x tag relay
   taken x (Data false tag relay) = dropped x _
 
--- ---- the centre
-
-abbrev IsShort : {S : Type 0} → Does S → Type 0
-IsShort d = length d.put ≤ 2
-
-short_either : {S : Type 0} (b : Bool) (d e : Does S) → IsShort d → IsShort e → IsShort (cond b d e)
-short_either true d e h k = h
-short_either false d e h k = k
-
-was_checked : (c : CentreState) (now phone : ℕ) (tag : Tag) (s : Submission) (origin : Option Origin) (check : Check) → IsShort (checked c now phone tag s origin check)
-unfolding checked
-was_checked c now phone tag s origin (Refuse cause failure) = omega arith
-was_checked c now phone tag s origin (Accept recipient ends stamp) = omega arith
-
-unit_taken : (limit : ℕ) (phones : List AddressValue) (c : CentreState) (now phone : ℕ) (tag : Tag) (unit : TransferUnit) (origin : Option Origin) → IsShort (centre_takes limit phones c now phone tag unit origin)
-unfolding centre_takes
-unit_taken limit phones c now phone tag (Submit s) origin = was_checked c now phone tag s origin _
-unit_taken limit phones c now phone tag (Deliver d) origin = omega arith
-unit_taken limit phones c now phone tag OtherUnit origin = omega arith
-unit_taken limit phones c now phone tag BadUnit origin = omega arith
-
-opened : (limit : ℕ) (phones : List AddressValue) (c : CentreState) (now phone : ℕ) (tag : Tag) (relay : Relay) (origin : Option Origin) → IsShort (centre_opened limit phones c now phone tag relay origin)
-unfolding centre_opened
-opened limit phones c now phone tag (Transfer FromPhone unit) origin = unit_taken limit phones c now phone tag unit origin
-opened limit phones c now phone tag (Transfer ToPhone unit) origin = omega arith
-opened limit phones c now phone tag (Answer side cause report) origin = omega arith
-opened limit phones c now phone tag UnknownType origin = omega arith
-opened limit phones c now phone tag Unreadable origin = omega arith
-
-is_settled : (c : CentreState) (phone : ℕ) (tag : Tag) (a : Acceptance) (cause : Option ℕ) → IsShort (settled c phone tag a cause)
-unfolding settled
-is_settled c phone tag a cause = omega arith
-
-push_heard : (c : CentreState) (now phone : ℕ) (tag : Tag) (cause : Option ℕ) (latest : Option Pushing) → IsShort (centre_hears c now phone tag cause latest)
-unfolding centre_hears
-push_heard c now phone tag cause None = omega arith
-push_heard c now phone tag cause (Some p) =
-    short_either (same_tag tag p.tag && nat_lt now p.message.ends) _ _ (is_settled c phone tag p.message cause) (omega arith)
-
-answered : (c : CentreState) (now phone : ℕ) (tag : Tag) (relay : Relay) → IsShort (centre_answered c now phone tag relay)
-unfolding centre_answered
-answered c now phone tag (Answer FromPhone cause report) = push_heard c now phone tag cause (c.line phone).latest
-answered c now phone tag (Answer ToPhone cause report) = omega arith
-answered c now phone tag (Transfer side unit) = omega arith
-answered c now phone tag UnknownType = omega arith
-answered c now phone tag Unreadable = omega arith
-
-centre_few : (limit : ℕ) (phones : List AddressValue) (c : CentreState) (now phone : ℕ) (message : Message) (origin : Option Origin) → IsShort (centre_receives limit phones c now phone message origin)
-unfolding centre_receives
-centre_few limit phones c now phone NotCp origin = omega arith
-centre_few limit phones c now phone (Note flag value) origin = omega arith
-centre_few limit phones c now phone (Tiny flag value) origin = omega arith
-centre_few limit phones c now phone (Data false tag relay) origin = opened limit phones c now phone tag relay origin
-centre_few limit phones c now phone (Data true tag relay) origin = answered c now phone tag relay
-
-first_pushed : (phones : List AddressValue) (c : CentreState) (phone : ℕ) (queue : List Acceptance) → IsShort (pushes_first phones c phone queue)
-unfolding pushes_first
-first_pushed phones c phone [] = omega arith
-first_pushed phones c phone (a ∷ others) = omega arith
-
-push_few : (phones : List AddressValue) (c : CentreState) (now phone : ℕ) → IsShort (centre_pushes phones c now phone)
-unfolding centre_pushes
-push_few phones c now phone = first_pushed phones c phone (unended (c.line phone).queue now)
-
 -- ---- a receiver
 
-is_answered : (limits : ReceiverLimits) (s : ReceiverState) (tag : Tag) (from : AddressValue) (p : Piece) (origin : Option Origin) (given : joiner.Answer) → IsShort (settles limits s tag from p origin given)
+is_answered : (limits : ReceiverLimits) (s : ReceiverState) (tag : Tag) (from : AddressValue) (p : Piece) (origin : Option Origin) (given : joiner.Answer) → PutsFew (settles limits s tag from p origin given)
 unfolding settles
 is_answered limits s tag from p origin joiner.Repeat = omega arith
 is_answered limits s tag from p origin joiner.Kept = omega arith
 is_answered limits s tag from p origin (joiner.Finished us) = omega arith
 is_answered limits s tag from p origin joiner.TooManyOpen = omega arith
 
-is_offered : (limits : ReceiverLimits) (s : ReceiverState) (tag : Tag) (from : AddressValue) (p : Piece) (origin : Option Origin) → IsShort (receiver_offers limits s tag from p origin)
+is_offered : (limits : ReceiverLimits) (s : ReceiverState) (tag : Tag) (from : AddressValue) (p : Piece) (origin : Option Origin) → PutsFew (receiver_offers limits s tag from p origin)
 unfolding receiver_offers
-is_offered limits s tag from p origin = short_either (is_full_for limits s p) _ _ (omega arith) (is_answered limits s tag from p origin _)
+is_offered limits s tag from p origin = few_either (is_full_for limits s p) _ _ (omega arith) (is_answered limits s tag from p origin _)
 
-units_offered : (limits : ReceiverLimits) (s : ReceiverState) (now : ℕ) (tag : Tag) (d : Delivery) (origin : Option Origin) (units : Option Units) → IsShort (offers_units limits s now tag d origin units)
+units_offered : (limits : ReceiverLimits) (s : ReceiverState) (now : ℕ) (tag : Tag) (d : Delivery) (origin : Option Origin) (units : Option Units) → PutsFew (offers_units limits s now tag d origin units)
 units_offered limits s now tag d origin None = omega arith
 units_offered limits s now tag d origin (Some us) = is_offered limits s tag d.origin _ origin
 
-delivery_taken : (limits : ReceiverLimits) (s : ReceiverState) (now : ℕ) (tag : Tag) (unit : TransferUnit) (origin : Option Origin) → IsShort (receiver_takes limits s now tag unit origin)
+delivery_taken : (limits : ReceiverLimits) (s : ReceiverState) (now : ℕ) (tag : Tag) (unit : TransferUnit) (origin : Option Origin) → PutsFew (receiver_takes limits s now tag unit origin)
 unfolding receiver_takes
 delivery_taken limits s now tag (Deliver d) origin = units_offered limits s now tag d origin (units_in (alphabet_at d.dcs) d.user.body)
 delivery_taken limits s now tag (Submit u) origin = omega arith
 delivery_taken limits s now tag OtherUnit origin = omega arith
 delivery_taken limits s now tag BadUnit origin = omega arith
 
-down_opened : (limits : ReceiverLimits) (s : ReceiverState) (now : ℕ) (tag : Tag) (relay : Relay) (origin : Option Origin) → IsShort (receiver_opened limits s now tag relay origin)
+down_opened : (limits : ReceiverLimits) (s : ReceiverState) (now : ℕ) (tag : Tag) (relay : Relay) (origin : Option Origin) → PutsFew (receiver_opened limits s now tag relay origin)
 unfolding receiver_opened
 down_opened limits s now tag (Transfer ToPhone unit) origin = delivery_taken limits s now tag unit origin
 down_opened limits s now tag (Transfer FromPhone unit) origin = omega arith
@@ -243,7 +170,7 @@ down_opened limits s now tag (Answer side cause report) origin = omega arith
 down_opened limits s now tag UnknownType origin = omega arith
 down_opened limits s now tag Unreadable origin = omega arith
 
-receiver_few : (limits : ReceiverLimits) (s : ReceiverState) (now : ℕ) (message : Message) (origin : Option Origin) → IsShort (receiver_receives limits s now message origin)
+receiver_few : (limits : ReceiverLimits) (s : ReceiverState) (now : ℕ) (message : Message) (origin : Option Origin) → PutsFew (receiver_receives limits s now message origin)
 unfolding receiver_receives
 receiver_few limits s now NotCp origin = omega arith
 receiver_few limits s now (Note flag value) origin = omega arith
@@ -257,7 +184,5 @@ few_are_put_out =
       when_typed = λ x phone target characters pieces. composed phone x target characters pieces;
       when_late = λ x phone. late phone x;
       when_heard = λ x phone message. taken phone x message;
-      by_centre = centre_few;
-      when_pushed = push_few;
       by_receiver = receiver_few;
     }

@@ -1,23 +1,3 @@
-pub mod Keys
-pub mod HeldMaps
-pub mod Keeping
-pub mod Lines
-pub mod Queues
-pub mod Pushing
-pub mod Read
-pub mod Replies
-pub mod Short
-pub mod Taking
-pub mod Hearing
-pub mod Accepting
-pub mod Receiving
-pub mod Carrying
-pub mod OneMessage
-pub mod EachMessage
-pub mod Stamps
-pub mod Recipients
-pub mod NewCentre
-mod Rows
 pub mod Storing
 mod PhoneRows
 pub mod Waiting
@@ -28,7 +8,4 @@ pub mod SenderStatus
 pub mod SenderSteps
 pub mod Few
 pub mod Drops
-pub mod Holdings
-pub mod SameAddresses
-pub mod DeliveryKeys
 pub mod Ended

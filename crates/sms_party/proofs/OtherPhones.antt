@@ -5,16 +5,16 @@ use Rattle.std.proofs.lemmas.Bool.Decides.{nat_tests}
 use Rattle.sms_field.specs.AddressValue.{AddressValue}
 use Rattle.sms_relay.specs.declared.side.Side.TheVariants.{FromPhone, ToPhone}
 use Rattle.sms_join.specs.declared.units.Units.{Units}
-use Rattle.sms_party.specs.declared.message.Report.{Report}
-use Rattle.sms_party.specs.declared.message.Relay.{Relay}
-use Rattle.sms_party.specs.declared.message.Relay.TheVariants.{Transfer, Answer, UnknownType, Unreadable}
-use Rattle.sms_party.specs.declared.message.Message.{Message}
-use Rattle.sms_party.specs.declared.message.Message.TheVariants.{NotCp, Note, Tiny, Data}
-use Rattle.sms_party.specs.declared.message.Tag.{Tag}
-use Rattle.sms_party.specs.declared.outcome.Outcome.{Outcome}
-use Rattle.sms_party.specs.declared.outcome.Dropped.{Dropped}
-use Rattle.sms_party.specs.Message.{tag_of, same_tag}
-use Rattle.sms_party.specs.Centre.State.{changed}
+use Rattle.sms_message.specs.declared.message.Report.{Report}
+use Rattle.sms_message.specs.declared.message.Relay.{Relay}
+use Rattle.sms_message.specs.declared.message.Relay.TheVariants.{Transfer, Answer, UnknownType, Unreadable}
+use Rattle.sms_message.specs.declared.message.Message.{Message}
+use Rattle.sms_message.specs.declared.message.Message.TheVariants.{NotCp, Note, Tiny, Data}
+use Rattle.sms_message.specs.declared.message.Tag.{Tag}
+use Rattle.sms_message.specs.declared.outcome.Outcome.{Outcome}
+use Rattle.sms_message.specs.declared.outcome.Dropped.{Dropped}
+use Rattle.sms_message.specs.Message.{tag_of, same_tag}
+use Rattle.sms_message.specs.Changed.{changed}
 use Rattle.sms_party.specs.Sent.{Sent, Sends}
 use Rattle.sms_party.specs.Sender.Texts.{Text, Sender, SenderState, new_text, size_of}
 use Rattle.sms_party.specs.Sender.Putting.{Puts, with_sender, sender_drops, does}

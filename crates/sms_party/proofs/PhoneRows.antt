@@ -14,16 +14,16 @@ use Rattle.sms_field.specs.SameAddress.{same_address}
 use Rattle.sms_join.specs.Key.{same_width, same_key}
 use Rattle.sms_join.specs.Reading.{text_of_segments}
 use Rattle.sms_join.specs.Joiner.{new_joiner, is_repeat, is_whole, has_room, decided, answer, answered}
-use Rattle.sms_party.specs.declared.message.Tag.{Tag}
-use Rattle.sms_party.specs.declared.message.TransferUnit.TheVariants.{Deliver, OtherUnit, BadUnit}
-use Rattle.sms_party.specs.declared.message.Relay.TheVariants.{Transfer}
-use Rattle.sms_party.specs.declared.message.Message.{Message}
-use Rattle.sms_party.specs.declared.message.Message.TheVariants.{Data}
-use Rattle.sms_party.specs.declared.outcome.Outcome.TheVariants.{Kept, Repeat, Refused}
-use Rattle.sms_party.specs.declared.outcome.Dropped.TheVariants as dropped
+use Rattle.sms_message.specs.declared.message.Tag.{Tag}
+use Rattle.sms_message.specs.declared.message.TransferUnit.TheVariants.{Deliver, OtherUnit, BadUnit}
+use Rattle.sms_message.specs.declared.message.Relay.TheVariants.{Transfer}
+use Rattle.sms_message.specs.declared.message.Message.{Message}
+use Rattle.sms_message.specs.declared.message.Message.TheVariants.{Data}
+use Rattle.sms_message.specs.declared.outcome.Outcome.TheVariants.{Kept, Repeat, Refused}
+use Rattle.sms_message.specs.declared.outcome.Dropped.TheVariants as dropped
 use Rattle.sms_tpdu.specs.UserData.ConcatenationFound.{concat_of_header}
 use Rattle.sms_party.specs.Receiver.State.{ReceiverLimits, ReceiverState, new_receiver}
-use Rattle.sms_party.specs.Message.Answers.{answers, deliver_error_of}
+use Rattle.sms_message.specs.Message.Answers.{answers, deliver_error_of}
 use Rattle.sms_party.specs.Receiver.Offers.{settles, receiver_offers}
 use Rattle.sms_party.specs.Receiver.{receiver_takes, receiver_opened, receiver_receives}
 

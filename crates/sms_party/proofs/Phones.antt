@@ -1,11 +1,11 @@
 -- What comes to a phone is taken by its receiver, where it is no answer.
 use Rattle.std.proofs.Common.{◌≡◌, ℕ, Bool, false, List, Result, Ok, Err, refl, sym, ap, subst}
 use Rattle.std.specs.Result.{OnErr}
-use Rattle.sms_party.specs.declared.message.Message.{Message}
-use Rattle.sms_party.specs.declared.outcome.Step.{Step}
-use Rattle.sms_party.specs.declared.outcome.Dropped.{Dropped}
-use Rattle.sms_party.specs.declared.outcome.Dropped.TheVariants.{NotCp, Unmatched, Busy, Memory, TooManySegments}
-use Rattle.sms_party.specs.Message.Reading.{ReadsAs}
+use Rattle.sms_message.specs.declared.message.Message.{Message}
+use Rattle.sms_message.specs.declared.outcome.Step.{Step}
+use Rattle.sms_message.specs.declared.outcome.Dropped.{Dropped}
+use Rattle.sms_message.specs.declared.outcome.Dropped.TheVariants.{NotCp, Unmatched, Busy, Memory, TooManySegments}
+use Rattle.sms_message.specs.Message.Reading.{ReadsAs}
 use Rattle.sms_party.specs.Receiver.{receiver_receives}
 use Rattle.sms_party.specs.Receiver.Standing.{ReceiverValue, Steps}
 use Rattle.sms_party.specs.Phone.{PhoneValue, is_answer, TakesBy, PhoneReceives}

@@ -3,10 +3,10 @@ use Rattle.std.proofs.lemmas.Bool.Decides.{nat_tests}
 use Rattle.std.proofs.Common.{◌≡◌, ◌≢◌, ◌==◌, arith, ℕ, suc, Bool, true, false, List, [], ◌∷◌, ◌++◌, map, drop, length, not, Option, Some, None, refl, sym, ap, ◌∙◌, subst}
 use Rattle.std.specs.Option.{option_to_list, is_some}
 use Rattle.std.specs.List.{slice_get}
-use Rattle.sms_party.specs.declared.message.Message.{Message}
-use Rattle.sms_party.specs.declared.outcome.Step.{Step}
-use Rattle.sms_party.specs.Does.{CarriesEach, packets_of}
-use Rattle.sms_party.specs.Centre.Pushes.{is_more}
+use Rattle.sms_message.specs.declared.message.Message.{Message}
+use Rattle.sms_message.specs.declared.outcome.Step.{Step}
+use Rattle.sms_message.specs.Does.{CarriesEach, packets_of}
+use Rattle.sms_message.specs.More.{is_more}
 
 carries_both : (ps qs : List (List ℕ)) (ms ns : List Message) → CarriesEach ps ms → CarriesEach qs ns → CarriesEach (ps ++ qs) (ms ++ ns)
 carries_both [] qs [] ns h k = k

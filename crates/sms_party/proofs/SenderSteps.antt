@@ -14,21 +14,21 @@ use Rattle.sms_join.specs.declared.cut.SplitFault.TheVariants as split
 use Rattle.sms_join.specs.declared.segment.Segment.{Segment}
 use Rattle.sms_join.specs.declared.units.Units.{Units}
 use Rattle.sms_join.specs.Segments.{AreNumbered}
-use Rattle.sms_party.specs.declared.message.Message.{Message}
-use Rattle.sms_party.specs.declared.message.Message.TheVariants.{Note}
-use Rattle.sms_party.specs.declared.message.Report.{Report}
-use Rattle.sms_party.specs.declared.message.Tag.{Tag}
-use Rattle.sms_party.specs.declared.outcome.Outcome.{Outcome}
-use Rattle.sms_party.specs.declared.outcome.Outcome.TheVariants as outcome
-use Rattle.sms_party.specs.declared.outcome.Step.{Step}
-use Rattle.sms_party.specs.declared.outcome.Dropped.{Dropped}
-use Rattle.sms_party.specs.declared.outcome.Dropped.TheVariants.{NotCp, Unmatched, Busy, Memory, TooManySegments}
+use Rattle.sms_message.specs.declared.message.Message.{Message}
+use Rattle.sms_message.specs.declared.message.Message.TheVariants.{Note}
+use Rattle.sms_message.specs.declared.message.Report.{Report}
+use Rattle.sms_message.specs.declared.message.Tag.{Tag}
+use Rattle.sms_message.specs.declared.outcome.Outcome.{Outcome}
+use Rattle.sms_message.specs.declared.outcome.Outcome.TheVariants as outcome
+use Rattle.sms_message.specs.declared.outcome.Step.{Step}
+use Rattle.sms_message.specs.declared.outcome.Dropped.{Dropped}
+use Rattle.sms_message.specs.declared.outcome.Dropped.TheVariants.{NotCp, Unmatched, Busy, Memory, TooManySegments}
 use Rattle.sms_party.specs.declared.sender.Status.TheVariants.{Accepted, Failed}
 use Rattle.sms_party.specs.declared.sender.Status.{Status}
-use Rattle.sms_party.specs.Sender.Splitting.{dropped_of}
-use Rattle.sms_party.specs.Message.{tag_of, same_tag}
-use Rattle.sms_party.specs.Does.{Does, CarriesEach, packets_of, Answered}
-use Rattle.sms_party.specs.Centre.State.{changed}
+use Rattle.sms_message.specs.Splitting.{dropped_of}
+use Rattle.sms_message.specs.Message.{tag_of, same_tag}
+use Rattle.sms_message.specs.Does.{Does, CarriesEach, packets_of, Answered}
+use Rattle.sms_message.specs.Changed.{changed}
 use Rattle.sms_party.specs.Sent.{nth, Sent, Sends, bare, messages_of}
 use Rattle.sms_party.specs.Sender.Texts.{Text, Sender, SenderState, new_sender, new_senders, width_of, new_text, number_of, size_of}
 use Rattle.sms_party.specs.Sender.Putting.{Puts, puts, with_sender, sender_drops, does}

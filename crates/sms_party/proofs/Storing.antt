@@ -20,18 +20,18 @@ use Rattle.sms_join.specs.Offering.{SaysAnswer, Says}
 use Rattle.sms_join.specs.Finishing.{would_finish, is_finished, AnswerFinishes, SameIsEquivalence}
 use Rattle.sms_join.specs.Aging.{AgesAlike, aged}
 use Rattle.sms_relay.specs.declared.side.Side.TheVariants.{FromPhone}
-use Rattle.sms_party.specs.declared.message.Message.{Message}
-use Rattle.sms_party.specs.declared.message.Tag.{Tag}
-use Rattle.sms_party.specs.declared.outcome.Step.{Step}
-use Rattle.sms_party.specs.declared.outcome.Outcome.{Outcome}
-use Rattle.sms_party.specs.declared.outcome.Outcome.TheVariants as outcome
-use Rattle.sms_party.specs.declared.outcome.Dropped.{Dropped}
-use Rattle.sms_party.specs.declared.outcome.Dropped.TheVariants.{NotCp, Unmatched, Busy, Memory, TooManySegments}
-use Rattle.sms_party.specs.Message.Reading.{ReadsAs}
-use Rattle.sms_party.specs.Message.{Origin}
-use Rattle.sms_party.specs.Does.{Puts, packets_of, CarriesEach, drops, notes}
+use Rattle.sms_message.specs.declared.message.Message.{Message}
+use Rattle.sms_message.specs.declared.message.Tag.{Tag}
+use Rattle.sms_message.specs.declared.outcome.Step.{Step}
+use Rattle.sms_message.specs.declared.outcome.Outcome.{Outcome}
+use Rattle.sms_message.specs.declared.outcome.Outcome.TheVariants as outcome
+use Rattle.sms_message.specs.declared.outcome.Dropped.{Dropped}
+use Rattle.sms_message.specs.declared.outcome.Dropped.TheVariants.{NotCp, Unmatched, Busy, Memory, TooManySegments}
+use Rattle.sms_message.specs.Message.Reading.{ReadsAs}
+use Rattle.sms_message.specs.Message.{Origin}
+use Rattle.sms_message.specs.Does.{Puts, packets_of, CarriesEach, drops, notes}
 use Rattle.sms_party.specs.Receiver.State.{Entry, ReceiverLimits, ReceiverState, new_receiver}
-use Rattle.sms_party.specs.Message.Answers.{answers, plain_ack}
+use Rattle.sms_message.specs.Message.Answers.{answers, plain_ack}
 use Rattle.sms_party.specs.Receiver.Offers.{refuses, settles, is_full_for, offers_units, receiver_offers}
 use Rattle.sms_party.specs.Receiver.{receiver_receives}
 use Rattle.sms_party.specs.Receiver.Aging.{ages}

@@ -10,13 +10,13 @@ use Rattle.sms_join.specs.declared.segment.Segment.{Segment}
 use Rattle.sms_join.specs.declared.units.Units.{Units}
 use Rattle.sms_join.specs.declared.units.Units.TheVariants.{Gsm}
 use Rattle.sms_join.specs.Segments.{AreNumbered}
-use Rattle.sms_party.specs.declared.message.TransferUnit.TheVariants.{Submit}
-use Rattle.sms_party.specs.declared.message.Relay.TheVariants.{Transfer}
-use Rattle.sms_party.specs.declared.message.Message.{Message}
-use Rattle.sms_party.specs.declared.message.Message.TheVariants.{Data}
-use Rattle.sms_party.specs.declared.message.Tag.{Tag}
+use Rattle.sms_message.specs.declared.message.TransferUnit.TheVariants.{Submit}
+use Rattle.sms_message.specs.declared.message.Relay.TheVariants.{Transfer}
+use Rattle.sms_message.specs.declared.message.Message.{Message}
+use Rattle.sms_message.specs.declared.message.Message.TheVariants.{Data}
+use Rattle.sms_message.specs.declared.message.Tag.{Tag}
 use Rattle.sms_party.specs.declared.sender.Status.{Status}
-use Rattle.sms_party.specs.Message.{tag_of}
+use Rattle.sms_message.specs.Message.{tag_of}
 use Rattle.sms_party.specs.Sent.{nth, messages_of}
 use Rattle.sms_party.specs.Sender.Texts.{Text, Sender, sets_of, width_of, new_text, size_of}
 use Rattle.sms_party.specs.Sender.Segments.{submission_of}

@@ -1,36 +1,25 @@
--- What is dropped puts nothing out: where a party's answer is an error, there is no message.
+-- What a phone drops puts nothing out: where its answer is an error, there is no message.
 use Rattle.std.specs.Prelude.{◌≡◌, ℕ, List, [], Option, Err}
 use Rattle.sms_field.specs.AddressValue.{AddressValue}
 use Rattle.sms_join.specs.declared.units.Units.{Units}
-use Rattle.sms_party.specs.Message.{Origin}
+use Rattle.sms_message.specs.Message.{Origin}
+use Rattle.sms_message.specs.Drops.{DoesOrDrops}
 use Rattle.sms_party.specs.Sent.{Sends}
-use Rattle.sms_party.specs.Does.{Does}
-use Rattle.sms_party.specs.Centre as centre
-use Rattle.sms_party.specs.Centre.State.{CentreState}
-use Rattle.sms_party.specs.Centre.Pushes as pushes
 use Rattle.sms_party.specs.Sender.Texts.{SenderState}
 use Rattle.sms_party.specs.Sender.Calls as calls
 use Rattle.sms_party.specs.Sender.Answers as answers
 use Rattle.sms_party.specs.Receiver as receiver
 use Rattle.sms_party.specs.Receiver.State.{ReceiverLimits, ReceiverState}
-use Rattle.sms_party.specs.declared.message.Message.{Message}
-use Rattle.sms_party.specs.declared.message.Relay.{Relay}
-use Rattle.sms_party.specs.declared.message.Tag.{Tag}
-use Rattle.sms_party.specs.declared.outcome.Dropped.{Dropped}
+use Rattle.sms_message.specs.declared.message.Message.{Message}
+use Rattle.sms_message.specs.declared.message.Relay.{Relay}
+use Rattle.sms_message.specs.declared.message.Tag.{Tag}
+use Rattle.sms_message.specs.declared.outcome.Dropped.{Dropped}
 
-abbrev pub DoesOrDrops : {S : Type 0} → Does S → Type 0
-DoesOrDrops d = (why : Dropped) → d.answer ≡ Err why → d.put ≡ []
-
--- the same of a sender
+-- of a sender
 abbrev pub SendsOrDrops : {S : Type 0} → Sends S → Type 0
 SendsOrDrops d = (why : Dropped) → d.answer ≡ Err why → d.put ≡ []
 
 pub record DropsPutNothingOut : Type 0 where
-  pub centre_receives : (limit : ℕ) (phones : List AddressValue) (c : CentreState) (now phone : ℕ)
-      (message : Message) (origin : Option Origin)
-      → DoesOrDrops (centre.centre_receives limit phones c now phone message origin)
-  pub centre_pushes : (phones : List AddressValue) (c : CentreState) (now phone : ℕ)
-      → DoesOrDrops (pushes.centre_pushes phones c now phone)
   pub composes : (x : SenderState) (phone : ℕ) (target : AddressValue) (characters : List ℕ)
       (pieces : List Units)
       → SendsOrDrops (calls.composes x phone target characters pieces)

@@ -1,8 +1,4 @@
-pub mod Address
-pub mod Message
-pub mod Does
 pub mod Few
-pub mod Centre
 pub mod Receiver
 pub mod Sent
 pub mod Sender

@@ -1,12 +1,12 @@
 -- A phone: its sender takes what comes in the transactions that it has opened, its receiver the
 -- rest.
 use Rattle.std.specs.Prelude.{◌≡◌, ℕ, Bool, true, false, List, Result, Err}
-use Rattle.sms_party.specs.declared.message.Message.{Message}
-use Rattle.sms_party.specs.declared.message.Message.TheVariants.{NotCp, Note, Tiny, Data}
-use Rattle.sms_party.specs.declared.outcome.Step.{Step}
-use Rattle.sms_party.specs.declared.outcome.Dropped.{Dropped}
-use Rattle.sms_party.specs.declared.outcome.Dropped.TheVariants as dropped
-use Rattle.sms_party.specs.Message.Reading.{ReadsAs}
+use Rattle.sms_message.specs.declared.message.Message.{Message}
+use Rattle.sms_message.specs.declared.message.Message.TheVariants.{NotCp, Note, Tiny, Data}
+use Rattle.sms_message.specs.declared.outcome.Step.{Step}
+use Rattle.sms_message.specs.declared.outcome.Dropped.{Dropped}
+use Rattle.sms_message.specs.declared.outcome.Dropped.TheVariants as dropped
+use Rattle.sms_message.specs.Message.Reading.{ReadsAs}
 use Rattle.sms_party.specs.Sender.Value.{SenderValue}
 use Rattle.sms_party.specs.Sender.Answers.{sender_takes}
 use Rattle.sms_party.specs.Sender.Stands as sender

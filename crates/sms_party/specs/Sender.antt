@@ -4,7 +4,6 @@ pub mod Segments
 pub mod Putting
 pub mod Calls
 pub mod Answers
-pub mod Splitting
 pub mod Value
 pub mod Stands
 pub mod Others

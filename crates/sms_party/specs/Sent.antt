@@ -1,9 +1,9 @@
 -- What was put out, with its destination and with what is kept beside it.
 use Rattle.std.specs.Prelude.{ℕ, ◌==◌, if◌then◌else◌, List, [], ◌∷◌, length, Option, Some, None, Result}
-use Rattle.sms_party.specs.declared.message.Message.{Message}
-use Rattle.sms_party.specs.declared.outcome.Outcome.{Outcome}
-use Rattle.sms_party.specs.declared.outcome.Dropped.{Dropped}
-use Rattle.sms_party.specs.Message.{Origin}
+use Rattle.sms_message.specs.declared.message.Message.{Message}
+use Rattle.sms_message.specs.declared.outcome.Outcome.{Outcome}
+use Rattle.sms_message.specs.declared.outcome.Dropped.{Dropped}
+use Rattle.sms_message.specs.Message.{Origin}
 
 -- the n-th entry from the oldest on, counted from 0, of a list that has its newest entry first
 abbrev pub nth : {X : Type 0} → List X → ℕ → Option X

@@ -8,14 +8,12 @@ ghost use Rattle.sms_party.specs.Sender.Stands.{Steps, Types, TellsStatus, IsNew
 ghost use Rattle.sms_party.specs.Receiver.State.{limits_of};
 ghost use Rattle.sms_party.specs.Receiver.Standing.{IsNew, AgesTo};
 ghost use Rattle.sms_party.specs.Phone.{is_answer, PhoneReceives};
-ghost use Rattle.sms_party.specs.declared.outcome.Dropped.TheVariants.{Memory};
+ghost use Rattle.sms_message.specs.declared.outcome.Dropped.TheVariants.{Memory};
 
-use crate::message::Message;
-use crate::message::reading::read_message;
-use crate::outcome::{Dropped, Step};
 use crate::receiver::{Entry, Receiver};
 use crate::sender::{Sender, Status};
 use sms_field::Address;
+use sms_message::{Dropped, Message, Step, read_message};
 use sms_tpdu::Width;
 use std::alloc::{AllocError, Global};
 use std::marker::Model;

@@ -6,24 +6,26 @@ ghost use Rattle.sms_join.specs.declared.units.Units.{Units as TheUnits};
 ghost use Rattle.sms_join.specs.Piece.{piece_of};
 ghost use Rattle.sms_tpdu.specs.UserData.ConcatenationFound.{IsPlace, concat_of_header};
 ghost use Rattle.sms_join.specs.Finishing.{would_finish};
-ghost use Rattle.sms_party.specs.Message.Reading.{HasTag};
+ghost use Rattle.sms_message.specs.Message.Tests.{is_data, is_transfer};
+ghost use Rattle.sms_message.specs.Message.Reading.{HasTag};
 ghost use Rattle.sms_party.specs.Receiver.State.{limits_of};
 ghost use Rattle.sms_party.specs.Receiver.Pieces.{units_in};
 ghost use Rattle.sms_party.specs.Receiver.Offers.{offers_units, receiver_offers};
 ghost use Rattle.sms_party.specs.Receiver.{receiver_takes, receiver_opened, receiver_receives};
 ghost use Rattle.sms_party.specs.Receiver.Standing.{IsNew, AgesTo, Steps, ReceivesAs};
-ghost use Rattle.sms_party.specs.declared.outcome.Dropped.TheVariants.{Memory};
+ghost use Rattle.sms_message.specs.declared.outcome.Dropped.TheVariants.{Memory};
 
 mod replying;
 
-use crate::message::packets::relay_refusal;
-use crate::message::reading::read_message;
-use crate::message::{Message, Relay, Tag, TransferUnit, failure_cause, rp_cause};
-use crate::outcome::{Dropped, Outcome, Step};
 use crate::receiver::replying::{approval, no_room, refusal};
 use sms_field::{Address, Alphabet, Stamp, alphabet_of};
 use sms_join::laws::{agings_keep_same, answer_finishes, answers_alike, same_is_equivalence};
 use sms_join::{Joiner, Offer, OfferFault, Ucs2Units, Units};
+use sms_message::packets::relay_refusal;
+use sms_message::{
+    Dropped, Message, Outcome, Relay, Step, Tag, TransferUnit, failure_cause, read_message,
+    rp_cause,
+};
 use sms_relay::Side;
 use sms_text::units_of_octets;
 use sms_tpdu::{Body, Concat, Deliver, Header};
@@ -156,19 +158,36 @@ impl Receiver {
         ensures refused { OnErr result (self.new ≡ self.old) }
     {
         match message {
+            Message::Data { flag, tag, relay } => {
+                if flag {
+                    drop(relay);
+                    Err(Dropped::Unmatched)
+                } else {
+                    self.take_request(now, tag, relay)
+                }
+            }
+            other => {
+                let step = self.pass(now, &other);
+                drop(other);
+                step
+            }
+        }
+    }
+
+    /// Takes a message without data.
+    fn pass(&self, now: u64, message: &Message) -> Result<Step, Dropped>
+        requires { is_data message.now ≡ false }
+        ensures { Steps (λ limits s origin. receiver_receives limits s now message.now origin)
+            self.now result self.now }
+    {
+        match message {
             Message::NotCp => Err(Dropped::NotCp),
             Message::Note { .. } => Ok(Step {
                 outcome: Outcome::Noted,
                 packets: Vec::new(self.alloc),
             }),
             Message::Tiny { .. } => Err(Dropped::Unmatched),
-            Message::Data { flag, tag, relay } => {
-                if flag {
-                    Err(Dropped::Unmatched)
-                } else {
-                    self.take_request(now, tag, relay)
-                }
-            }
+            Message::Data { .. } => Err(Dropped::Unmatched),
         }
     }
 
@@ -181,10 +200,28 @@ impl Receiver {
     {
         match relay {
             Relay::Transfer { side, unit } => match side {
-                Side::FromPhone => Err(Dropped::Unmatched),
+                Side::FromPhone => {
+                    drop(unit);
+                    Err(Dropped::Unmatched)
+                }
                 Side::ToPhone => self.take_unit(now, tag, unit),
             },
-            Relay::Answer { .. } => Err(Dropped::Unmatched),
+            other => {
+                let step = self.refuse(now, tag, &other);
+                drop(other);
+                step
+            }
+        }
+    }
+
+    /// Refuses what is no transfer.
+    fn refuse(&self, now: u64, tag: Tag, relay: &Relay) -> Result<Step, Dropped>
+        requires tag { tag.value < 7 }
+        requires other { is_transfer relay.now ≡ false }
+        ensures { Steps (λ limits s origin. receiver_opened limits s now tag relay.now origin)
+            self.now result self.now }
+    {
+        match relay {
             Relay::UnknownType => relay_refusal(
                 self.alloc,
                 Side::FromPhone,
@@ -197,6 +234,8 @@ impl Receiver {
                 tag,
                 rp_cause::INVALID_MANDATORY_INFORMATION,
             ),
+            Relay::Answer { .. } => Err(Dropped::Unmatched),
+            Relay::Transfer { .. } => Err(Dropped::Unmatched),
         }
     }
 

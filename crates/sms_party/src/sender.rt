@@ -3,24 +3,24 @@
 ghost use Rattle.std.specs.Prelude.{◌≡◌, ◌<◌, ◌≤◌, All, Some, IfOk, IfErr, OnErr, length, List, ◌++◌, option_to_list, slice_get};
 ghost use Rattle.std.specs.Str.{chars};
 ghost use Rattle.sms_join.specs.SegmentUser.{IsSendable};
-ghost use Rattle.sms_party.specs.Message.Reading.{HasTag};
-ghost use Rattle.sms_party.specs.Centre.Pushes.{is_more};
+ghost use Rattle.sms_message.specs.Message.Reading.{HasTag};
+ghost use Rattle.sms_message.specs.More.{is_more};
 ghost use Rattle.sms_party.specs.Sender.Calls.{times_out};
 ghost use Rattle.sms_party.specs.Sender.Answers.{failure_of, accepts, sender_receives, sender_takes};
 ghost use Rattle.sms_party.specs.Sender.Value.{text_in, enters, first_put, hears_at, text_put, following, next_set, counted, puts_again, puts_next, ends_first, CarriesOptional, CarriesAll, Did, status_among, statuses_in};
 ghost use Rattle.sms_party.specs.Sender.Stands.{Steps, Receives, Types, TellsStatus, IsNewSender};
-ghost use Rattle.sms_party.specs.declared.outcome.Dropped.TheVariants.{Memory};
-ghost use Rattle.sms_party.specs.declared.message.Message.{Message as MessageValue};
+ghost use Rattle.sms_message.specs.declared.outcome.Dropped.TheVariants.{Memory};
+ghost use Rattle.sms_message.specs.declared.message.Message.{Message as MessageValue};
 
 mod typed_text;
 
-use crate::message::packets::acknowledgement;
-use crate::message::reading::read_message;
-use crate::message::{Message, Relay, Report, Tag, failure_cause};
-use crate::outcome::{Dropped, Outcome, Step};
 use crate::sender::typed_text::TypedText;
 use sms_field::Address;
 use sms_join::{Segments, cut_text};
+use sms_message::packets::acknowledgement;
+use sms_message::{
+    Dropped, Message, Outcome, Relay, Report, Step, Tag, failure_cause, read_message,
+};
 use sms_relay::Side;
 use sms_tpdu::Width;
 use std::alloc::{AllocError, Global};
@@ -311,7 +311,9 @@ impl Sender {
         ensures steps { Steps (λ x phone. sender_takes x phone message) self.old result self.new }
         ensures refused { OnErr result (self.new ≡ self.old) }
     {
-        self.take_lent(&message)
+        let step = self.take_lent(&message);
+        drop(message);
+        step
     }
 
     /// Takes a message that is lent.

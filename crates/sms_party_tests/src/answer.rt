@@ -1,6 +1,6 @@
 //! What a party answers to a call, beside what a row wants.
 
-use sms_party::{Dropped, Outcome, Step};
+use sms_message::{Dropped, Outcome, Step};
 use std::process::Abort;
 
 /// Whether these packets are put out.

@@ -2,7 +2,7 @@
 
 ghost use Rattle.std.specs.Prelude.{◌≡◌, ◌<◌, ◌≤◌, [], ◌∷◌, length, IfOk};
 ghost use Rattle.sms_field.specs.declared.symbols.Symbols.TheVariants as symbols;
-ghost use Rattle.sms_party.specs.Centre.Value.{phones_of};
+ghost use Rattle.sms_centre.specs.Centre.Value.{phones_of};
 
 mod rows;
 
@@ -10,8 +10,9 @@ use crate::answer::{is_answer, none_differs};
 use crate::centre::rows::{
     BETWEEN, Call, DELIVERED, DUPLICATES, ENDED, FULL, GONE, REFUSALS, Row, STAMPS, TURNS, TWO_ENDS,
 };
+use sms_centre::Centre;
 use sms_field::{Address, Digits, Symbols};
-use sms_party::{Centre, Dropped, Outcome, Step};
+use sms_message::{Dropped, Outcome, Step};
 use std::alloc::{AllocError, Global};
 use std::process::Abort;
 use std::test::Fail;

@@ -1,4 +1,5 @@
-//! Worked rows of what the parties answer, against the public calls of `sms_party`.
+//! Worked rows of what the parties answer, against the public calls of `sms_centre` and
+//! `sms_party`.
 #![tactic(auto)]
 
 #[cfg(test)]

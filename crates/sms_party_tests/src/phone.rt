@@ -1,7 +1,8 @@
 //! What comes to a phone, to its sender or its receiver.
 
 use crate::answer::{is_answer, is_so, none_differs};
-use sms_party::{Dropped, Outcome, Phone};
+use sms_message::{Dropped, Outcome};
+use sms_party::Phone;
 use sms_tpdu::Width;
 use std::alloc::{AllocError, Global};
 use std::test::Fail;

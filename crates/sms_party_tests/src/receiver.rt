@@ -6,7 +6,8 @@ mod rows;
 
 use crate::answer::{is_answer, none_differs};
 use crate::receiver::rows::{AGES, FULL, FULL_STORE, REFUSALS, Row, TEXTS, WIDTHS};
-use sms_party::{Dropped, Entry, Receiver, Step};
+use sms_message::{Dropped, Step};
+use sms_party::{Entry, Receiver};
 use std::alloc::Global;
 use std::process::Abort;
 use std::test::Fail;

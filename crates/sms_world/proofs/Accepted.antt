@@ -1,7 +1,7 @@
 -- A text that is shown as accepted was accepted by the centre, segment by segment.
 use Rattle.std.proofs.Common.{◌≡◌, ℕ, zero, suc, ◌+◌, ◌-◌, ◌<◌, Bool, true, false, cond, not, ◌&&◌, ◌||◌, eqb, ltb, leb, List, [], ◌∷◌, ◌++◌, length, refl, sym, ◌∙◌, subst, arith, Some, None, Option, Ok, Err, Result, is_some, inl, inr, get_or, Contains, ◌≤◌, ap}
 use Rattle.std.specs.List.{AllByRecursion}
-use Rattle.sms_party.specs.Message.Answers.{answers}
+use Rattle.sms_message.specs.Message.Answers.{answers}
 use Rattle.std.proofs.lemmas.Bool.{cond_both, and_parts, and_from, eqb-true, eq-eqb, ltb-true, ltb-false, eqb-false}
 use Rattle.sms_field.specs.AddressValue.{AddressValue}
 use Rattle.sms_field.specs.declared.validity.ValidityFault.{ValidityFault}
@@ -10,19 +10,19 @@ use Rattle.sms_tpdu.specs.Submit.{Submission}
 use Rattle.sms_relay.specs.declared.side.Side.TheVariants.{FromPhone, ToPhone}
 use Rattle.sms_join.specs.declared.units.Units.{Units}
 use Rattle.sms_join.specs.Cut.{IsCut}
-use Rattle.sms_party.specs.declared.message.TransferUnit.{TransferUnit}
-use Rattle.sms_party.specs.declared.message.TransferUnit.TheVariants.{Submit, Deliver, OtherUnit, BadUnit}
-use Rattle.sms_party.specs.declared.message.Report.{Report}
-use Rattle.sms_party.specs.declared.message.Relay.{Relay}
-use Rattle.sms_party.specs.declared.message.Relay.TheVariants.{Transfer, Answer, UnknownType, Unreadable}
-use Rattle.sms_party.specs.declared.message.Message.{Message}
-use Rattle.sms_party.specs.declared.message.Message.TheVariants.{NotCp, Note, Tiny, Data}
-use Rattle.sms_party.specs.declared.message.Tag.{Tag}
-use Rattle.sms_party.specs.Message.{tag_of, same_tag, Origin}
-use Rattle.sms_party.specs.declared.centre.check.Check.{Check}
-use Rattle.sms_party.specs.declared.centre.check.Check.TheVariants.{Refuse, Accept}
+use Rattle.sms_message.specs.declared.message.TransferUnit.{TransferUnit}
+use Rattle.sms_message.specs.declared.message.TransferUnit.TheVariants.{Submit, Deliver, OtherUnit, BadUnit}
+use Rattle.sms_message.specs.declared.message.Report.{Report}
+use Rattle.sms_message.specs.declared.message.Relay.{Relay}
+use Rattle.sms_message.specs.declared.message.Relay.TheVariants.{Transfer, Answer, UnknownType, Unreadable}
+use Rattle.sms_message.specs.declared.message.Message.{Message}
+use Rattle.sms_message.specs.declared.message.Message.TheVariants.{NotCp, Note, Tiny, Data}
+use Rattle.sms_message.specs.declared.message.Tag.{Tag}
+use Rattle.sms_message.specs.Message.{tag_of, same_tag, Origin}
+use Rattle.sms_centre.specs.declared.centre.check.Check.{Check}
+use Rattle.sms_centre.specs.declared.centre.check.Check.TheVariants.{Refuse, Accept}
 use Rattle.sms_field.specs.Times.{end_of, end_of_2099}
-use Rattle.sms_party.specs.Address.{phone_at, address_of}
+use Rattle.sms_message.specs.Address.{phone_at, address_of}
 use Rattle.sms_field.specs.SameAddress.{same_address}
 use Rattle.sms_field.specs.SameAddressLaws.{same_address_true}
 use Rattle.std.proofs.lemmas.List.Quantifiers.{position-Some}
@@ -30,19 +30,20 @@ use Rattle.sms_relay.specs.declared.side.Side.{Side}
 use Rattle.sms_world.proofs.Entries.{contains_here, contains_more, each_at}
 use Rattle.sms_world.proofs.Tested.{is_from_own, from_is}
 use Rattle.sms_world.proofs.Stamped.{Fits, run_stamped}
-use Rattle.sms_party.specs.declared.outcome.Dropped.{Dropped}
-use Rattle.sms_party.specs.Centre.State.{CentreState, new_centre, Acceptance, Pushing, changed}
-use Rattle.sms_party.specs.Centre.Checks.{Books, check_space, check_recipient, check_validity, checked_by, books_of}
-use Rattle.sms_party.specs.Centre.Held.{is_held, unended}
-use Rattle.sms_party.specs.Centre.Submissions.{checked, centre_takes}
-use Rattle.sms_party.specs.Does.{drops, Does}
-use Rattle.sms_party.specs.Centre.{centre_opened, centre_answered, centre_receives}
-use Rattle.sms_party.specs.Centre.Verdicts.{centre_hears, settled}
-use Rattle.sms_party.specs.Centre.Pushes.{centre_pushes, pushes_first}
+use Rattle.sms_message.specs.declared.outcome.Dropped.{Dropped}
+use Rattle.sms_centre.specs.Centre.State.{CentreState, new_centre, Acceptance, Pushing}
+use Rattle.sms_message.specs.Changed.{changed}
+use Rattle.sms_centre.specs.Centre.Checks.{Books, check_space, check_recipient, check_validity, checked_by, books_of}
+use Rattle.sms_centre.specs.Centre.Held.{is_held, unended}
+use Rattle.sms_centre.specs.Centre.Submissions.{checked, centre_takes}
+use Rattle.sms_message.specs.Does.{drops, Does}
+use Rattle.sms_centre.specs.Centre.{centre_opened, centre_answered, centre_receives}
+use Rattle.sms_centre.specs.Centre.Verdicts.{centre_hears, settled}
+use Rattle.sms_centre.specs.Centre.Pushes.{centre_pushes, pushes_first}
 use Rattle.sms_party.specs.Sent.{nth, Place, Centre, Phone, Sent, bare, Sends}
 use Rattle.sms_world.specs.Machine.Next.{Next, next, stays, by_sender, by_centre, by_receiver, of_centre, to_phone, pushed, comes, comes_to_phone, carries, packet, ticked, to_centre, receiver_limits}
-use Rattle.sms_party.specs.declared.outcome.Outcome.{Outcome}
-use Rattle.sms_party.specs.declared.outcome.Outcome.TheVariants.{Typed}
+use Rattle.sms_message.specs.declared.outcome.Outcome.{Outcome}
+use Rattle.sms_message.specs.declared.outcome.Outcome.TheVariants.{Typed}
 use Rattle.sms_world.specs.Told as whole
 use Rattle.sms_party.specs.Sender.Texts.{Text, Sender, SenderState, new_sender, width_of, new_text, size_of}
 use Rattle.sms_party.specs.Sender.Putting.{Puts, puts, puts_first, puts_text, with_sender, sender_drops, does}

@@ -2,7 +2,7 @@
 use Rattle.std.proofs.Common.{◌≡◌, ℕ, zero, suc, ◌≤◌, List, [], ◌∷◌, length, Some, refl, sym, ◌∙◌, subst, arith}
 use Rattle.std.specs.List.{slice_get}
 use Rattle.std.proofs.Math.ListN.{set}
-use Rattle.sms_party.specs.Centre.Calls.{StandsLater}
+use Rattle.sms_centre.specs.Centre.Calls.{StandsLater}
 use Rattle.sms_party.specs.Phone.{PhoneValue}
 use Rattle.sms_party.specs.Receiver.Aging.{ages}
 use Rattle.sms_party.specs.Sender.Stands.{SenderStands}

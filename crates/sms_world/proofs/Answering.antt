@@ -5,17 +5,19 @@ use Rattle.sms_field.specs.AddressValue.{AddressValue}
 use Rattle.sms_join.specs.declared.units.Units.{Units}
 use Rattle.sms_join.specs.Cut.{IsCut}
 use Rattle.sms_join.specs.UnitsOfText.{IsText}
-use Rattle.sms_party.specs.Drops.{DoesOrDrops, SendsOrDrops}
+use Rattle.sms_party.specs.Drops.{SendsOrDrops}
+use Rattle.sms_message.specs.Drops.{DoesOrDrops}
 use Rattle.sms_party.specs.Few.{AreFewTo}
-use Rattle.sms_party.specs.Does.{Does, packets_of, Answered}
-use Rattle.sms_party.specs.Message.{Origin}
+use Rattle.sms_message.specs.Does.{Does, packets_of, Answered}
+use Rattle.sms_message.specs.Message.{Origin}
 use Rattle.sms_party.specs.Sent.{Sent, Sends, Centre, Phone, messages_of}
-use Rattle.sms_party.specs.Centre.{centre_receives}
-use Rattle.sms_party.specs.Centre.State.{CentreState, changed}
-use Rattle.sms_party.specs.Centre.Calls.{CentreAnswers, StandsLater, PushSteps, ReceivesAs}
-use Rattle.sms_party.specs.Centre.Pushes.{centre_pushes}
-use Rattle.sms_party.specs.Centre.Value.{CentreValue}
-use Rattle.sms_party.specs.Centre.Standing as centre
+use Rattle.sms_centre.specs.Centre.{centre_receives}
+use Rattle.sms_centre.specs.Centre.State.{CentreState}
+use Rattle.sms_message.specs.Changed.{changed}
+use Rattle.sms_centre.specs.Centre.Calls.{CentreAnswers, StandsLater, PushSteps, ReceivesAs}
+use Rattle.sms_centre.specs.Centre.Pushes.{centre_pushes}
+use Rattle.sms_centre.specs.Centre.Value.{CentreValue}
+use Rattle.sms_centre.specs.Centre.Standing as centre
 use Rattle.sms_party.specs.Phone.{PhoneValue, is_answer, TakesBy, PhoneReceives}
 use Rattle.sms_party.specs.Receiver.{receiver_receives}
 use Rattle.sms_party.specs.Receiver.State.{ReceiverState}
@@ -27,11 +29,11 @@ use Rattle.sms_party.specs.Sender.Stands as sender
 use Rattle.sms_party.specs.Sender.Texts.{SenderState, width_of}
 use Rattle.sms_party.specs.Sender.Stands.{SenderStands, in_messages}
 use Rattle.sms_party.specs.Sender.Value.{SenderValue}
-use Rattle.sms_party.specs.declared.message.Message.{Message}
-use Rattle.sms_party.specs.declared.message.Message.TheVariants.{NotCp, Note, Tiny, Data}
-use Rattle.sms_party.specs.declared.outcome.Step.{Step}
-use Rattle.sms_party.specs.declared.outcome.Dropped.{Dropped}
-use Rattle.sms_party.specs.declared.outcome.Dropped.TheVariants as dropped
+use Rattle.sms_message.specs.declared.message.Message.{Message}
+use Rattle.sms_message.specs.declared.message.Message.TheVariants.{NotCp, Note, Tiny, Data}
+use Rattle.sms_message.specs.declared.outcome.Step.{Step}
+use Rattle.sms_message.specs.declared.outcome.Dropped.{Dropped}
+use Rattle.sms_message.specs.declared.outcome.Dropped.TheVariants as dropped
 use Rattle.sms_world.specs.declared.fault.WorldFault.TheVariants.{Party}
 use Rattle.sms_world.specs.Below.{Below}
 use Rattle.sms_world.specs.Told.{of_party}
@@ -192,7 +194,7 @@ up_by : (now p : ℕ) (octets : List ℕ) (v : PartiesValue) (new : CentreValue)
 unfolding comes
 up_by now p octets v new law message r answers m origin about h e =
     centre_answers v m p None about (centre_receives m.limits.held m.phones m.centre m.clock p message origin) new h
-    (law.few_put.by_centre m.limits.held m.phones m.centre m.clock p message origin) (law.dropped.centre_receives m.limits.held m.phones m.centre m.clock p message origin) r
+    (law.centre_few.when_received m.limits.held m.phones m.centre m.clock p message origin) (law.centre_dropped.when_received m.limits.held m.phones m.centre m.clock p message origin) r
     (subst (λ t. CentreAnswers m.limits.held m.phones t m.centre (centre_receives m.limits.held m.phones m.centre t p message origin) r new) (sym e)
     (answers m.limits.held m.phones m.clock m.centre origin (omega (arith, e)) h.centre_stands))
 
@@ -218,7 +220,7 @@ unfolding pushed
 pushes now p v new r law k m h e =
     let d = centre_pushes m.phones m.centre m.clock p in
     centre_answers v m p (origin_of (d.after.line p).latest) None d new h
-    (law.few_put.when_pushed m.phones m.centre m.clock p) (law.dropped.centre_pushes m.phones m.centre m.clock p) r
+    (law.centre_few.when_pushed m.phones m.centre m.clock p) (law.centre_dropped.when_pushed m.phones m.centre m.clock p) r
     (subst (λ t. CentreAnswers m.limits.held m.phones t m.centre (centre_pushes m.phones m.centre t p) r new) (sym e)
     (k m.limits.held m.phones m.clock m.centre (omega (arith, e)) h.centre_stands))
 

@@ -4,10 +4,10 @@ use Rattle.std.specs.Prelude.{IsTrue, ◌∷◌}
 use Rattle.std.specs.List.{AllByRecursion, list_any}
 use Rattle.sms_field.specs.AddressValue.{AddressValue}
 use Rattle.sms_field.specs.SameAddress.{same_address}
-use Rattle.sms_party.specs.Address.{are_distinct}
-use Rattle.sms_party.specs.Centre.State.{new_centre}
-use Rattle.sms_party.specs.Centre.Value.{CentreValue}
-use Rattle.sms_party.specs.Centre.Calls.{StandsAlways}
+use Rattle.sms_message.specs.Address.{are_distinct}
+use Rattle.sms_centre.specs.Centre.State.{new_centre}
+use Rattle.sms_centre.specs.Centre.Value.{CentreValue}
+use Rattle.sms_centre.specs.Centre.Calls.{StandsAlways}
 use Rattle.sms_party.specs.Phone.{PhoneValue}
 use Rattle.sms_script.specs.Meaning.Known.{AreDistinct}
 use Rattle.sms_script.specs.declared.script.limits.Limits.{Limits}

@@ -1,6 +1,6 @@
 -- No table holds more than it may.
 use Rattle.std.proofs.Common.{◌≡◌, ℕ, ◌+◌, ◌≤◌, ◌<◌, Bool, true, false, not, ◌&&◌, leb, ltb, List, [], ◌∷◌, length, refl, subst, arith, Some, None, Option, inl, inr}
-use Rattle.sms_party.specs.Does.{Does}
+use Rattle.sms_message.specs.Does.{Does}
 use Rattle.std.proofs.lemmas.Bool.{cond_both, leb-false}
 use Rattle.sms_field.specs.AddressValue.{AddressValue}
 use Rattle.sms_tpdu.specs.Deliver.{Delivery}
@@ -8,12 +8,12 @@ use Rattle.sms_join.specs.declared.units.Units.{Units}
 use Rattle.sms_join.specs.Piece.{Piece}
 use Rattle.sms_join.specs.Sets.{open_sets, units_upto}
 use Rattle.sms_join.specs.Joiner.{new_joiner, answer, answered, decided, is_repeat, is_whole, has_room, offered}
-use Rattle.sms_party.specs.declared.message.Relay.{Relay}
-use Rattle.sms_party.specs.declared.message.Message.{Message}
-use Rattle.sms_party.specs.declared.message.Message.TheVariants.{NotCp, Note, Tiny, Data}
-use Rattle.sms_party.specs.declared.message.Tag.{Tag}
+use Rattle.sms_message.specs.declared.message.Relay.{Relay}
+use Rattle.sms_message.specs.declared.message.Message.{Message}
+use Rattle.sms_message.specs.declared.message.Message.TheVariants.{NotCp, Note, Tiny, Data}
+use Rattle.sms_message.specs.declared.message.Tag.{Tag}
 use Rattle.sms_field.specs.Times.{end_of_2099}
-use Rattle.sms_party.specs.Message.{Origin}
+use Rattle.sms_message.specs.Message.{Origin}
 use Rattle.sms_party.specs.Sent.{nth, Place, Centre, Phone, Sent}
 use Rattle.sms_world.specs.Told.{Told}
 use Rattle.sms_party.specs.Receiver.State.{ReceiverState, new_receiver, ReceiverLimits}

@@ -12,10 +12,10 @@ use Rattle.sms_join.specs.Arrivals.{Arrival, is_done, completed, is_listed, has_
 use Rattle.sms_join.specs.Joining.{is_clear, is_recent}
 use Rattle.sms_world.proofs.SameKeys.{same_key_true}
 use Rattle.sms_field.specs.Times.{stamp_octets, moment_of, MomentComesBackOfZone0}
-use Rattle.sms_party.specs.Address.{phone_at, address_of}
-use Rattle.sms_party.specs.Message.{Origin}
-use Rattle.sms_party.specs.Centre.State.{Acceptance}
-use Rattle.sms_party.specs.Centre.Stamps.{IsRising}
+use Rattle.sms_message.specs.Address.{phone_at, address_of}
+use Rattle.sms_message.specs.Message.{Origin}
+use Rattle.sms_centre.specs.Centre.State.{Acceptance}
+use Rattle.sms_centre.specs.Centre.Stamps.{IsRising}
 use Rattle.sms_party.specs.Sent.{nth}
 use Rattle.sms_party.specs.Sender.Texts.{Text, size_of}
 use Rattle.sms_tpdu.specs.UserData.ConcatenationFound.{concat_of_header}

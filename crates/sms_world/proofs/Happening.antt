@@ -8,20 +8,20 @@ use Rattle.sms_text.specs.Octets.{IsOctets}
 use Rattle.sms_field.specs.AddressValue.{AddressValue}
 use Rattle.sms_field.specs.Times.{end_of_2099}
 use Rattle.sms_join.specs.UnitsOfText.{IsText}
-use Rattle.sms_party.specs.Does.{packets_of}
-use Rattle.sms_party.specs.Message.{Origin}
-use Rattle.sms_party.specs.Message.Reading.{ReadsAs}
+use Rattle.sms_message.specs.Does.{packets_of}
+use Rattle.sms_message.specs.Message.{Origin}
+use Rattle.sms_message.specs.Message.Reading.{ReadsAs}
 use Rattle.sms_party.specs.Sent.{Place, Centre, Phone, Sent}
 use Rattle.sms_party.specs.Sender.Texts.{width_of}
 use Rattle.sms_party.specs.Sender.Calls.{composes, times_out}
-use Rattle.sms_party.specs.Centre.Pushes.{centre_pushes}
-use Rattle.sms_party.specs.declared.message.Message.{Message}
-use Rattle.sms_party.specs.declared.message.Message.TheVariants.{NotCp, Note, Tiny, Data}
-use Rattle.sms_party.specs.declared.outcome.Outcome.{Outcome}
-use Rattle.sms_party.specs.declared.outcome.Outcome.TheVariants.{Ticked}
-use Rattle.sms_party.specs.declared.outcome.Step.{Step as PartyStep}
-use Rattle.sms_party.specs.declared.outcome.Dropped.{Dropped}
-use Rattle.sms_party.specs.declared.outcome.Dropped.TheVariants as dropped
+use Rattle.sms_centre.specs.Centre.Pushes.{centre_pushes}
+use Rattle.sms_message.specs.declared.message.Message.{Message}
+use Rattle.sms_message.specs.declared.message.Message.TheVariants.{NotCp, Note, Tiny, Data}
+use Rattle.sms_message.specs.declared.outcome.Outcome.{Outcome}
+use Rattle.sms_message.specs.declared.outcome.Outcome.TheVariants.{Ticked}
+use Rattle.sms_message.specs.declared.outcome.Step.{Step as PartyStep}
+use Rattle.sms_message.specs.declared.outcome.Dropped.{Dropped}
+use Rattle.sms_message.specs.declared.outcome.Dropped.TheVariants as dropped
 use Rattle.sms_script.specs.Transcript.Lines.{PacketValue}
 use Rattle.sms_world.specs.declared.fault.WorldFault.{WorldFault}
 use Rattle.sms_world.specs.declared.fault.WorldFault.TheVariants.{NoSuchPacket, NoSuchPhone, ClockEnd, Party}

@@ -6,30 +6,31 @@ use Rattle.sms_field.specs.AddressValue.{AddressValue}
 use Rattle.sms_tpdu.specs.Submit.{Submission}
 use Rattle.sms_relay.specs.declared.side.Side.TheVariants.{FromPhone, ToPhone}
 use Rattle.sms_join.specs.declared.units.Units.{Units}
-use Rattle.sms_party.specs.declared.message.TransferUnit.{TransferUnit}
-use Rattle.sms_party.specs.declared.message.TransferUnit.TheVariants.{Submit, Deliver, OtherUnit, BadUnit}
-use Rattle.sms_party.specs.declared.message.Report.{Report}
-use Rattle.sms_party.specs.declared.message.Relay.{Relay}
-use Rattle.sms_party.specs.declared.message.Relay.TheVariants.{Transfer, Answer, UnknownType, Unreadable}
-use Rattle.sms_party.specs.declared.message.Message.{Message}
-use Rattle.sms_party.specs.declared.message.Message.TheVariants.{NotCp, Note, Tiny, Data}
-use Rattle.sms_party.specs.declared.message.Tag.{Tag}
-use Rattle.sms_party.specs.Message.{Origin, tag_of, same_tag}
-use Rattle.sms_party.specs.Message.Answers.{answers}
-use Rattle.sms_party.specs.declared.centre.check.Check.{Check}
-use Rattle.sms_party.specs.declared.centre.check.Check.TheVariants.{Refuse, Accept}
-use Rattle.sms_party.specs.declared.outcome.Outcome.{Outcome}
-use Rattle.sms_party.specs.declared.outcome.Outcome.TheVariants.{Typed}
-use Rattle.sms_party.specs.declared.outcome.Dropped.{Dropped}
+use Rattle.sms_message.specs.declared.message.TransferUnit.{TransferUnit}
+use Rattle.sms_message.specs.declared.message.TransferUnit.TheVariants.{Submit, Deliver, OtherUnit, BadUnit}
+use Rattle.sms_message.specs.declared.message.Report.{Report}
+use Rattle.sms_message.specs.declared.message.Relay.{Relay}
+use Rattle.sms_message.specs.declared.message.Relay.TheVariants.{Transfer, Answer, UnknownType, Unreadable}
+use Rattle.sms_message.specs.declared.message.Message.{Message}
+use Rattle.sms_message.specs.declared.message.Message.TheVariants.{NotCp, Note, Tiny, Data}
+use Rattle.sms_message.specs.declared.message.Tag.{Tag}
+use Rattle.sms_message.specs.Message.{Origin, tag_of, same_tag}
+use Rattle.sms_message.specs.Message.Answers.{answers}
+use Rattle.sms_centre.specs.declared.centre.check.Check.{Check}
+use Rattle.sms_centre.specs.declared.centre.check.Check.TheVariants.{Refuse, Accept}
+use Rattle.sms_message.specs.declared.outcome.Outcome.{Outcome}
+use Rattle.sms_message.specs.declared.outcome.Outcome.TheVariants.{Typed}
+use Rattle.sms_message.specs.declared.outcome.Dropped.{Dropped}
 use Rattle.sms_field.specs.Times.{end_of_2099}
-use Rattle.sms_party.specs.Does.{Does}
-use Rattle.sms_party.specs.Centre.{centre_opened, centre_answered, centre_receives}
-use Rattle.sms_party.specs.Centre.State.{CentreState, Acceptance, Pushing, changed}
-use Rattle.sms_party.specs.Centre.Held.{unended}
-use Rattle.sms_party.specs.Centre.Checks.{checked_by, books_of}
-use Rattle.sms_party.specs.Centre.Submissions.{checked, centre_takes}
-use Rattle.sms_party.specs.Centre.Pushes.{centre_pushes, pushes_first}
-use Rattle.sms_party.specs.Centre.Verdicts.{centre_hears, settled}
+use Rattle.sms_message.specs.Does.{Does}
+use Rattle.sms_centre.specs.Centre.{centre_opened, centre_answered, centre_receives}
+use Rattle.sms_centre.specs.Centre.State.{CentreState, Acceptance, Pushing}
+use Rattle.sms_message.specs.Changed.{changed}
+use Rattle.sms_centre.specs.Centre.Held.{unended}
+use Rattle.sms_centre.specs.Centre.Checks.{checked_by, books_of}
+use Rattle.sms_centre.specs.Centre.Submissions.{checked, centre_takes}
+use Rattle.sms_centre.specs.Centre.Pushes.{centre_pushes, pushes_first}
+use Rattle.sms_centre.specs.Centre.Verdicts.{centre_hears, settled}
 use Rattle.sms_party.specs.Sent.{nth, Place, Centre, Phone, Sent, bare, Sends}
 use Rattle.sms_party.specs.Sender.Texts.{Text, Sender, SenderState, width_of}
 use Rattle.sms_party.specs.Sender.Putting.{Puts, puts, puts_first, puts_text, with_sender, sender_drops, does}

@@ -10,17 +10,17 @@ use Rattle.sms_join.specs.Piece.{Piece}
 use Rattle.sms_join.specs.Reading.{text_of_segments}
 use Rattle.sms_join.specs.Joiner as join
 use Rattle.sms_join.specs.Joiner.{answer, answered}
-use Rattle.sms_party.specs.Message.{Origin}
-use Rattle.sms_party.specs.Message.Answers.{answers, plain_ack}
-use Rattle.sms_party.specs.Does.{Does, drops, refuses_with}
-use Rattle.sms_party.specs.declared.message.TransferUnit.TheVariants.{Submit, Deliver, OtherUnit, BadUnit}
-use Rattle.sms_party.specs.declared.message.Report.{Report}
-use Rattle.sms_party.specs.declared.message.Relay.{Relay}
-use Rattle.sms_party.specs.declared.message.Relay.TheVariants.{Transfer, Answer, UnknownType, Unreadable}
-use Rattle.sms_party.specs.declared.message.Tag.{Tag}
-use Rattle.sms_party.specs.declared.outcome.Outcome.{Outcome}
-use Rattle.sms_party.specs.declared.outcome.Outcome.TheVariants as outcome
-use Rattle.sms_party.specs.declared.outcome.Dropped.TheVariants.{Unmatched}
+use Rattle.sms_message.specs.Message.{Origin}
+use Rattle.sms_message.specs.Message.Answers.{answers, plain_ack}
+use Rattle.sms_message.specs.Does.{Does, drops, refuses_with}
+use Rattle.sms_message.specs.declared.message.TransferUnit.TheVariants.{Submit, Deliver, OtherUnit, BadUnit}
+use Rattle.sms_message.specs.declared.message.Report.{Report}
+use Rattle.sms_message.specs.declared.message.Relay.{Relay}
+use Rattle.sms_message.specs.declared.message.Relay.TheVariants.{Transfer, Answer, UnknownType, Unreadable}
+use Rattle.sms_message.specs.declared.message.Tag.{Tag}
+use Rattle.sms_message.specs.declared.outcome.Outcome.{Outcome}
+use Rattle.sms_message.specs.declared.outcome.Outcome.TheVariants as outcome
+use Rattle.sms_message.specs.declared.outcome.Dropped.TheVariants.{Unmatched}
 use Rattle.sms_party.specs.Receiver.{receiver_takes, receiver_opened}
 use Rattle.sms_party.specs.Receiver.State.{Entry, ReceiverLimits, ReceiverState}
 use Rattle.sms_party.specs.Receiver.Pieces.{units_in, piece_in}

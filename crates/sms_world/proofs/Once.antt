@@ -1,24 +1,24 @@
 -- Each event keeps that every message of a segment has its piece, and that each segment is accepted at most once.
 use Rattle.std.proofs.Common.{◌≡◌, ◌≢◌, ℕ, zero, suc, ◌+◌, Bool, true, false, cond, ltb, List, [], ◌∷◌, ◌++◌, length, refl, sym, ap, ◌∙◌, subst, Some, None, Option, ◌⊎◌, inl, inr, Contains}
 use Rattle.std.specs.List.{AllByRecursion}
-use Rattle.sms_party.specs.Message.Answers.{answers}
-use Rattle.sms_party.specs.Does.{Does}
+use Rattle.sms_message.specs.Message.Answers.{answers}
+use Rattle.sms_message.specs.Does.{Does}
 use Rattle.std.proofs.lemmas.Bool.{cond_both}
 use Rattle.sms_field.specs.AddressValue.{AddressValue}
 use Rattle.sms_tpdu.specs.Deliver.{Delivery}
 use Rattle.sms_relay.specs.declared.side.Side.TheVariants.{FromPhone}
 use Rattle.sms_join.specs.declared.units.Units.{Units}
 use Rattle.sms_join.specs.Joiner.{answer}
-use Rattle.sms_party.specs.declared.message.Report.{Report}
-use Rattle.sms_party.specs.declared.message.Relay.{Relay}
-use Rattle.sms_party.specs.declared.message.Message.{Message}
-use Rattle.sms_party.specs.declared.message.Message.TheVariants.{NotCp, Note, Tiny, Data}
-use Rattle.sms_party.specs.declared.message.Tag.{Tag}
+use Rattle.sms_message.specs.declared.message.Report.{Report}
+use Rattle.sms_message.specs.declared.message.Relay.{Relay}
+use Rattle.sms_message.specs.declared.message.Message.{Message}
+use Rattle.sms_message.specs.declared.message.Message.TheVariants.{NotCp, Note, Tiny, Data}
+use Rattle.sms_message.specs.declared.message.Tag.{Tag}
 use Rattle.sms_field.specs.Times.{end_of_2099}
-use Rattle.sms_party.specs.Message.{Origin}
-use Rattle.sms_party.specs.Centre.State.{Acceptance, CentreState, new_centre}
-use Rattle.sms_party.specs.Centre.{centre_receives}
-use Rattle.sms_party.specs.Centre.Pushes.{centre_pushes}
+use Rattle.sms_message.specs.Message.{Origin}
+use Rattle.sms_centre.specs.Centre.State.{Acceptance, CentreState, new_centre}
+use Rattle.sms_centre.specs.Centre.{centre_receives}
+use Rattle.sms_centre.specs.Centre.Pushes.{centre_pushes}
 use Rattle.sms_party.specs.Sent.{Place, Centre, Phone, Sent, bare, Sends}
 use Rattle.sms_world.specs.Told.{Told}
 use Rattle.sms_party.specs.Sender.Texts.{Text, SenderState, new_sender, width_of}

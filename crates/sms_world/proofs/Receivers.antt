@@ -22,9 +22,9 @@ use Rattle.sms_join.specs.Reading.{text_of_segments}
 use Rattle.sms_join.specs.Arrivals.{Arrival, Texts, AllOf, is_done, completed, has_pieces, units_of, whole_text, has_text, remaining}
 use Rattle.sms_join.specs.Joining.{is_clear, is_recent, HoldsOpen, Delivers, Whole, Nothing}
 use Rattle.sms_field.specs.Times.{stamp_octets}
-use Rattle.sms_party.specs.Address.{address_of}
-use Rattle.sms_party.specs.Message.{Origin}
-use Rattle.sms_party.specs.Centre.State.{Acceptance}
+use Rattle.sms_message.specs.Address.{address_of}
+use Rattle.sms_message.specs.Message.{Origin}
+use Rattle.sms_centre.specs.Centre.State.{Acceptance}
 use Rattle.sms_party.specs.Sent.{nth}
 use Rattle.sms_party.specs.Sender.Texts.{Text, size_of}
 use Rattle.sms_party.specs.Sender.Segments.{piece_of, submission_of}

@@ -4,8 +4,8 @@ use Rattle.std.specs.List.{slice_get}
 use Rattle.std.proofs.Math.ListN.{set}
 use Rattle.std.proofs.lemmas.List.{length-set}
 use Rattle.std.proofs.lemmas.Bool.Decides.{nat_tests}
-use Rattle.sms_party.specs.Centre.Standing as centre
-use Rattle.sms_party.specs.Centre.State.{changed}
+use Rattle.sms_centre.specs.Centre.Standing as centre
+use Rattle.sms_message.specs.Changed.{changed}
 use Rattle.sms_party.specs.Phone.{PhoneValue}
 use Rattle.sms_party.specs.Receiver.State.{ReceiverState}
 use Rattle.sms_party.specs.Receiver.Standing as receiver

@@ -13,12 +13,12 @@ use Rattle.sms_join.specs.Joining.{is_recent}
 use Rattle.sms_join.specs.Reading.{text_of_segments}
 use Rattle.sms_field.specs.Times.{stamp_octets}
 use Rattle.sms_field.specs.SameAddress.{same_address}
-use Rattle.sms_party.specs.Centre.{centre_opened, centre_answered, centre_receives}
-use Rattle.sms_party.specs.Centre.State.{new_centre}
-use Rattle.sms_party.specs.Centre.Checks.{checked_by}
-use Rattle.sms_party.specs.Centre.Submissions.{checked, centre_takes}
-use Rattle.sms_party.specs.Centre.Pushes.{pushes_first, centre_pushes}
-use Rattle.sms_party.specs.Centre.Verdicts.{settled, centre_hears}
+use Rattle.sms_centre.specs.Centre.{centre_opened, centre_answered, centre_receives}
+use Rattle.sms_centre.specs.Centre.State.{new_centre}
+use Rattle.sms_centre.specs.Centre.Checks.{checked_by}
+use Rattle.sms_centre.specs.Centre.Submissions.{checked, centre_takes}
+use Rattle.sms_centre.specs.Centre.Pushes.{pushes_first, centre_pushes}
+use Rattle.sms_centre.specs.Centre.Verdicts.{settled, centre_hears}
 use Rattle.sms_party.specs.Sent.{bare}
 use Rattle.sms_party.specs.Sender.Texts
 use Rattle.sms_party.specs.Sender.Segments
@@ -29,8 +29,8 @@ use Rattle.sms_party.specs.Receiver.{receiver_takes, receiver_opened}
 use Rattle.sms_party.specs.Receiver.State.{new_receiver}
 use Rattle.sms_party.specs.Receiver.Offers.{settles, receiver_offers}
 use Rattle.sms_party.specs.Receiver.Aging.{ages}
-use Rattle.sms_party.specs.declared.outcome.Outcome.TheVariants.{Typed, Segment, Accepted, Repeated, Held, Refused, Pushed, Delivered, Finished, Kept, Repeat, Ticked}
-use Rattle.sms_party.specs.declared.outcome.Dropped.TheVariants.{Unmatched}
+use Rattle.sms_message.specs.declared.outcome.Outcome.TheVariants.{Typed, Segment, Accepted, Repeated, Held, Refused, Pushed, Delivered, Finished, Kept, Repeat, Ticked}
+use Rattle.sms_message.specs.declared.outcome.Dropped.TheVariants.{Unmatched}
 use Rattle.sms_world.specs.declared.fault.WorldFault.TheVariants.{Party}
 use Rattle.sms_join.specs.Aging
 use Rattle.sms_world.specs.Machine.{Machine, start}

@@ -7,26 +7,26 @@ use Rattle.sms_field.specs.declared.validity.ValidityFault.{ValidityFault}
 use Rattle.sms_field.specs.declared.validity.ValidityFault.TheVariants.{EnhancedValidity, NoMoment}
 use Rattle.sms_tpdu.specs.Submit.{Submission}
 use Rattle.sms_relay.specs.declared.side.Side.TheVariants.{FromPhone, ToPhone}
-use Rattle.sms_party.specs.declared.message.TransferUnit.{TransferUnit}
-use Rattle.sms_party.specs.declared.message.TransferUnit.TheVariants.{Submit, Deliver, OtherUnit, BadUnit}
-use Rattle.sms_party.specs.declared.message.Relay.TheVariants.{Transfer, Answer, UnknownType, Unreadable}
-use Rattle.sms_party.specs.declared.message.Message.{Message}
-use Rattle.sms_party.specs.declared.message.Message.TheVariants.{NotCp, Note, Tiny, Data}
-use Rattle.sms_party.specs.declared.message.Tag.{Tag}
-use Rattle.sms_party.specs.Message.{same_tag, Origin}
-use Rattle.sms_party.specs.declared.centre.check.Check.{Check}
-use Rattle.sms_party.specs.declared.centre.check.Check.TheVariants.{Refuse, Accept}
+use Rattle.sms_message.specs.declared.message.TransferUnit.{TransferUnit}
+use Rattle.sms_message.specs.declared.message.TransferUnit.TheVariants.{Submit, Deliver, OtherUnit, BadUnit}
+use Rattle.sms_message.specs.declared.message.Relay.TheVariants.{Transfer, Answer, UnknownType, Unreadable}
+use Rattle.sms_message.specs.declared.message.Message.{Message}
+use Rattle.sms_message.specs.declared.message.Message.TheVariants.{NotCp, Note, Tiny, Data}
+use Rattle.sms_message.specs.declared.message.Tag.{Tag}
+use Rattle.sms_message.specs.Message.{same_tag, Origin}
+use Rattle.sms_centre.specs.declared.centre.check.Check.{Check}
+use Rattle.sms_centre.specs.declared.centre.check.Check.TheVariants.{Refuse, Accept}
 use Rattle.sms_field.specs.Times.{end_of, end_of_2099}
-use Rattle.sms_party.specs.Address.{phone_at}
-use Rattle.sms_party.specs.Centre.State.{CentreState, Acceptance, Pushing, new_centre}
-use Rattle.sms_party.specs.Does.{Does}
-use Rattle.sms_party.specs.Centre.Checks.{Books, check_space, check_recipient, check_validity, checked_by, books_of}
-use Rattle.sms_party.specs.Centre.Submissions.{checked, centre_takes}
-use Rattle.sms_party.specs.Centre.{centre_opened, centre_answered, centre_receives}
-use Rattle.sms_party.specs.Centre.Verdicts.{centre_hears, settled}
-use Rattle.sms_party.specs.Centre.Pushes.{centre_pushes, pushes_first}
-use Rattle.sms_party.specs.Centre.Held.{unended}
-use Rattle.sms_party.specs.Centre.Stamps.{Call, Receive, Push, called_all, AreBelow, IsRising, StampsRise}
+use Rattle.sms_message.specs.Address.{phone_at}
+use Rattle.sms_centre.specs.Centre.State.{CentreState, Acceptance, Pushing, new_centre}
+use Rattle.sms_message.specs.Does.{Does}
+use Rattle.sms_centre.specs.Centre.Checks.{Books, check_space, check_recipient, check_validity, checked_by, books_of}
+use Rattle.sms_centre.specs.Centre.Submissions.{checked, centre_takes}
+use Rattle.sms_centre.specs.Centre.{centre_opened, centre_answered, centre_receives}
+use Rattle.sms_centre.specs.Centre.Verdicts.{centre_hears, settled}
+use Rattle.sms_centre.specs.Centre.Pushes.{centre_pushes, pushes_first}
+use Rattle.sms_centre.specs.Centre.Held.{unended}
+use Rattle.sms_centre.specs.Centre.Stamps.{Call, Receive, Push, called_all, AreBelow, IsRising, StampsRise}
 use Rattle.sms_party.specs.Sent.{Place, Centre, Phone, Sent}
 use Rattle.sms_world.specs.Told.{Told}
 use Rattle.sms_script.specs.declared.script.limits.Limits.{Limits}

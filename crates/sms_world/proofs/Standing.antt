@@ -3,8 +3,8 @@ use Rattle.std.specs.Prelude.{◌≡◌, ℕ, ◌≤◌, List, map, take, length
 use Rattle.std.specs.List.{AllByRecursion}
 use Rattle.sms_field.specs.AddressValue.{AddressValue}
 use Rattle.sms_join.specs.Arrivals.{Arrival, completed, open_pieces, IsOf, OpenApart}
-use Rattle.sms_party.specs.Address.{phone_at}
-use Rattle.sms_party.specs.Centre.State.{Acceptance}
+use Rattle.sms_message.specs.Address.{phone_at}
+use Rattle.sms_centre.specs.Centre.State.{Acceptance}
 use Rattle.sms_party.specs.Sent.{nth}
 use Rattle.sms_party.specs.Sender.Texts.{Text}
 use Rattle.sms_party.specs.Receiver.State.{ReceiverState}

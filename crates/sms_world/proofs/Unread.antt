@@ -2,14 +2,14 @@
 use Rattle.std.proofs.Common.{◌≡◌, ℕ, Bool, true, false, cond, eqb, ltb, [], length, refl, sym, ap, ◌∙◌, subst, None, inl, inr}
 use Rattle.std.proofs.lemmas.Bool.{cond_both, eqb-true}
 use Rattle.sms_relay.specs.declared.side.Side.TheVariants.{FromPhone, ToPhone}
-use Rattle.sms_party.specs.declared.message.TransferUnit.TheVariants.{Submit, Deliver, OtherUnit, BadUnit}
-use Rattle.sms_party.specs.declared.message.Relay.TheVariants.{Transfer, Answer, UnknownType, Unreadable}
-use Rattle.sms_party.specs.declared.message.Message.{Message}
-use Rattle.sms_party.specs.declared.message.Message.TheVariants.{NotCp, Note, Tiny, Data}
-use Rattle.sms_party.specs.Message.Laws.{OneMessageIsRead}
-use Rattle.sms_party.specs.Centre.{centre_opened, centre_answered, centre_receives}
-use Rattle.sms_party.specs.Centre.State.{changed}
-use Rattle.sms_party.specs.Centre.Submissions.{centre_takes}
+use Rattle.sms_message.specs.declared.message.TransferUnit.TheVariants.{Submit, Deliver, OtherUnit, BadUnit}
+use Rattle.sms_message.specs.declared.message.Relay.TheVariants.{Transfer, Answer, UnknownType, Unreadable}
+use Rattle.sms_message.specs.declared.message.Message.{Message}
+use Rattle.sms_message.specs.declared.message.Message.TheVariants.{NotCp, Note, Tiny, Data}
+use Rattle.sms_message.specs.Message.Laws.{OneMessageIsRead}
+use Rattle.sms_centre.specs.Centre.{centre_opened, centre_answered, centre_receives}
+use Rattle.sms_message.specs.Changed.{changed}
+use Rattle.sms_centre.specs.Centre.Submissions.{centre_takes}
 use Rattle.sms_party.specs.Sent.{Place, Centre, Phone}
 use Rattle.sms_party.specs.Sender.Putting.{sender_drops}
 use Rattle.sms_party.specs.Sender.Answers.{sender_receives}

@@ -8,16 +8,16 @@ use Rattle.sms_join.specs.declared.units.Units.{Units}
 use Rattle.sms_join.specs.Arrivals.{Arrival}
 use Rattle.sms_join.specs.Joining.{is_clear, is_recent}
 use Rattle.sms_relay.specs.declared.side.Side.TheVariants.{FromPhone, ToPhone}
-use Rattle.sms_party.specs.declared.message.TransferUnit.{TransferUnit}
-use Rattle.sms_party.specs.declared.message.TransferUnit.TheVariants.{Submit, Deliver, OtherUnit, BadUnit}
-use Rattle.sms_party.specs.declared.message.Relay.{Relay}
-use Rattle.sms_party.specs.declared.message.Relay.TheVariants.{Transfer, Answer, UnknownType, Unreadable}
-use Rattle.sms_party.specs.declared.message.Message.{Message}
-use Rattle.sms_party.specs.declared.message.Message.TheVariants.{NotCp, Note, Tiny, Data}
-use Rattle.sms_party.specs.declared.message.Tag.{Tag}
-use Rattle.sms_party.specs.Message.{tag_of, same_tag, Origin}
-use Rattle.sms_party.specs.Address.{phone_at}
-use Rattle.sms_party.specs.Centre.State.{Acceptance}
+use Rattle.sms_message.specs.declared.message.TransferUnit.{TransferUnit}
+use Rattle.sms_message.specs.declared.message.TransferUnit.TheVariants.{Submit, Deliver, OtherUnit, BadUnit}
+use Rattle.sms_message.specs.declared.message.Relay.{Relay}
+use Rattle.sms_message.specs.declared.message.Relay.TheVariants.{Transfer, Answer, UnknownType, Unreadable}
+use Rattle.sms_message.specs.declared.message.Message.{Message}
+use Rattle.sms_message.specs.declared.message.Message.TheVariants.{NotCp, Note, Tiny, Data}
+use Rattle.sms_message.specs.declared.message.Tag.{Tag}
+use Rattle.sms_message.specs.Message.{tag_of, same_tag, Origin}
+use Rattle.sms_message.specs.Address.{phone_at}
+use Rattle.sms_centre.specs.Centre.State.{Acceptance}
 use Rattle.sms_party.specs.Sent.{Place, Centre, Phone, Sent}
 use Rattle.sms_party.specs.Sender.Texts.{Text}
 use Rattle.sms_world.proofs.Offered.{units_in_delivery}

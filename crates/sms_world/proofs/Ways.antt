@@ -3,9 +3,9 @@ use Rattle.std.specs.Global.{Vec}
 use Rattle.std.proofs.lemmas.List.{append-nil, append_assoc}
 use Rattle.std.proofs.Common.{◌≡◌, ℕ, suc, map, Bool, true, false, List, [], ◌∷◌, ◌++◌, length, Option, refl, sym, ap, ◌∙◌, subst, arith}
 use Rattle.std.specs.List.{AllByRecursion}
-use Rattle.sms_party.specs.declared.message.Message.{Message}
-use Rattle.sms_party.specs.Does.{CarriesEach}
-use Rattle.sms_party.specs.Message.{Origin}
+use Rattle.sms_message.specs.declared.message.Message.{Message}
+use Rattle.sms_message.specs.Does.{CarriesEach}
+use Rattle.sms_message.specs.Message.{Origin}
 use Rattle.sms_party.specs.Sent.{Sent, bare, messages_of}
 use Rattle.sms_script.specs.Transcript.Lines.{PacketValue}
 use Rattle.sms_world.specs.Machine.Next.{to_centre, to_phone}

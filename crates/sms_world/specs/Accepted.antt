@@ -2,7 +2,7 @@
 use Rattle.std.specs.Prelude.{◌≡◌, ℕ, ◌<◌, ◌≤◌, true, List, Some}
 use Rattle.std.specs.List.{Contains}
 use Rattle.sms_field.specs.AddressValue.{AddressValue}
-use Rattle.sms_party.specs.Centre.State.{Acceptance}
+use Rattle.sms_centre.specs.Centre.State.{Acceptance}
 use Rattle.sms_world.specs.Told.{Told}
 use Rattle.sms_script.specs.declared.script.limits.Limits.{Limits}
 use Rattle.sms_world.specs.Machine.{Machine, start}

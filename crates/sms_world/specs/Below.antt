@@ -6,8 +6,10 @@ use Rattle.sms_join.specs.Cut.{HasOneCut}
 use Rattle.sms_join.specs.Joining.{JoinsOne}
 use Rattle.sms_join.specs.OpenTexts.{OpenSetsAreOpenTexts, StayApart, AgesOne, NewIsFresh, TurnsAway}
 use Rattle.sms_join.specs.Reading.{CutIsReadAsText}
-use Rattle.sms_party.specs.Message.Laws.{EachIsRead, OneMessageIsRead, CarriedIsRead}
-use Rattle.sms_party.specs.Centre.Stamps.{StampsRise}
+use Rattle.sms_message.specs.Message.Laws.{EachIsRead, OneMessageIsRead, CarriedIsRead}
+use Rattle.sms_centre.specs.Centre.Stamps.{StampsRise}
+use Rattle.sms_centre.specs.Centre.Few.{CentrePutsFewOut}
+use Rattle.sms_centre.specs.Centre.Drops.{CentreDropsPutNothingOut}
 use Rattle.sms_party.specs.Few.{FewArePutOut}
 use Rattle.sms_party.specs.Drops.{DropsPutNothingOut}
 use Rattle.sms_party.specs.Sender.Others.{OthersLeaveSender}
@@ -29,6 +31,8 @@ pub record Below : Type 0 where
   pub one : OneMessageIsRead
   pub carried : CarriedIsRead
   pub stamps : StampsRise
+  pub centre_few : CentrePutsFewOut
+  pub centre_dropped : CentreDropsPutNothingOut
   pub few_put : FewArePutOut
   pub dropped : DropsPutNothingOut
   pub others : OthersLeaveSender

@@ -2,7 +2,7 @@
 -- out. Lists of what was have the newest entry first.
 use Rattle.std.specs.Prelude.{ℕ, List, []}
 use Rattle.sms_field.specs.AddressValue.{AddressValue}
-use Rattle.sms_party.specs.Centre.State.{CentreState, new_centre}
+use Rattle.sms_centre.specs.Centre.State.{CentreState, new_centre}
 use Rattle.sms_party.specs.Sent.{Sent}
 use Rattle.sms_party.specs.Sender.Texts.{SenderState, new_senders}
 use Rattle.sms_party.specs.Receiver.State.{ReceiverState, new_receiver}

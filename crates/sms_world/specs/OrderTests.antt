@@ -8,15 +8,15 @@ use Rattle.sms_field.specs.SameAddress.{same_address}
 use Rattle.sms_join.specs.Key.{same_width}
 use Rattle.sms_join.specs.Arrivals.{Arrival, is_done, is_listed}
 use Rattle.sms_relay.specs.declared.side.Side.TheVariants.{FromPhone, ToPhone}
-use Rattle.sms_party.specs.declared.message.TransferUnit.{TransferUnit}
-use Rattle.sms_party.specs.declared.message.TransferUnit.TheVariants.{Submit, Deliver, OtherUnit, BadUnit}
-use Rattle.sms_party.specs.declared.message.Relay.{Relay}
-use Rattle.sms_party.specs.declared.message.Relay.TheVariants.{Transfer, Answer, UnknownType, Unreadable}
-use Rattle.sms_party.specs.declared.message.Message.{Message}
-use Rattle.sms_party.specs.declared.message.Message.TheVariants.{NotCp, Note, Tiny, Data}
-use Rattle.sms_party.specs.Address.{address_of}
-use Rattle.sms_party.specs.Message.{Origin}
-use Rattle.sms_party.specs.Centre.State.{Acceptance}
+use Rattle.sms_message.specs.declared.message.TransferUnit.{TransferUnit}
+use Rattle.sms_message.specs.declared.message.TransferUnit.TheVariants.{Submit, Deliver, OtherUnit, BadUnit}
+use Rattle.sms_message.specs.declared.message.Relay.{Relay}
+use Rattle.sms_message.specs.declared.message.Relay.TheVariants.{Transfer, Answer, UnknownType, Unreadable}
+use Rattle.sms_message.specs.declared.message.Message.{Message}
+use Rattle.sms_message.specs.declared.message.Message.TheVariants.{NotCp, Note, Tiny, Data}
+use Rattle.sms_message.specs.Address.{address_of}
+use Rattle.sms_message.specs.Message.{Origin}
+use Rattle.sms_centre.specs.Centre.State.{Acceptance}
 use Rattle.sms_party.specs.Sent.{nth, Place, Centre, Phone, Sent}
 use Rattle.sms_party.specs.Sender.Texts.{Text}
 use Rattle.sms_tpdu.specs.UserData.ConcatenationFound.{concat_of_header}

@@ -1,10 +1,10 @@
 -- The words of a transcript: what was answered to an event, and what became of a text.
 use Rattle.std.specs.Prelude.{ℕ, List, [], ◌∷◌, Option, Some, None, Ok, Err, codes, decimal}
 use Rattle.hex.specs.Hex.{encode_upper}
-use Rattle.sms_party.specs.declared.outcome.Outcome.{Outcome}
-use Rattle.sms_party.specs.declared.outcome.Outcome.TheVariants.{Typed, Segment, Accepted, Failed, Repeated, GaveUp, Idle, Held, Refused, Pushed, NothingWaits, Delivered, Returned, Abandoned, Finished, Kept, Repeat, Ticked, Noted}
-use Rattle.sms_party.specs.declared.outcome.Dropped.{Dropped}
-use Rattle.sms_party.specs.declared.outcome.Dropped.TheVariants.{NotCp, Unmatched, Busy, Memory, TooManySegments}
+use Rattle.sms_message.specs.declared.outcome.Outcome.{Outcome}
+use Rattle.sms_message.specs.declared.outcome.Outcome.TheVariants.{Typed, Segment, Accepted, Failed, Repeated, GaveUp, Idle, Held, Refused, Pushed, NothingWaits, Delivered, Returned, Abandoned, Finished, Kept, Repeat, Ticked, Noted}
+use Rattle.sms_message.specs.declared.outcome.Dropped.{Dropped}
+use Rattle.sms_message.specs.declared.outcome.Dropped.TheVariants.{NotCp, Unmatched, Busy, Memory, TooManySegments}
 use Rattle.sms_party.specs.declared.sender.Status.{Status}
 use Rattle.sms_party.specs.declared.sender.Status.TheVariants as status
 use Rattle.sms_script.specs.Transcript.Appended.{◌⊕◌}

@@ -1,10 +1,10 @@
 //! Why nothing came of an event.
 
 ghost use Rattle.std.specs.Prelude.{◌≡◌};
-ghost use Rattle.sms_party.specs.declared.outcome.Dropped.TheVariants.{Memory};
+ghost use Rattle.sms_message.specs.declared.outcome.Dropped.TheVariants.{Memory};
 ghost use Rattle.sms_world.specs.declared.fault.WorldFault.TheVariants.{Party};
 
-use sms_party::Dropped;
+use sms_message::Dropped;
 use std::alloc::AllocError;
 use thiserror::Error;
 

@@ -16,16 +16,17 @@ ghost use Rattle.sms_world.specs.Understood.{IsOneAct};
 ghost use Rattle.sms_world.specs.World.Claims.{ClaimsHold};
 ghost use Rattle.sms_world.specs.Unread.{NothingSaidChangesNoParty, UnreadChangesNothing};
 
+use sms_centre::{centre_drops_put_nothing_out, centre_puts_few_out, stamps_rise};
 use sms_field::laws::moments_come_back;
 use sms_join::laws::{
     aging_keeps_texts, arrival_joins_in_order, completed_texts_are_whole, new_piece_is_fresh,
     open_texts_stay_apart, piece_is_turned_away, sets_stay_few, texts_complete_in_order,
 };
 use sms_join::{cut_is_read_as_text, texts_have_one_cut};
-use sms_party::{
-    carried_messages_are_read, drops_put_nothing_out, few_are_put_out,
-    octets_are_read_as_a_message, octets_are_read_as_one_message, others_leave_sender, stamps_rise,
+use sms_message::{
+    carried_messages_are_read, octets_are_read_as_a_message, octets_are_read_as_one_message,
 };
+use sms_party::{drops_put_nothing_out, few_are_put_out, others_leave_sender};
 
 /// The laws of the crates below on which the others stand.
 pub(crate) fn laws_below()
@@ -47,6 +48,8 @@ pub(crate) fn laws_below()
     octets_are_read_as_one_message();
     carried_messages_are_read();
     stamps_rise();
+    centre_puts_few_out();
+    centre_drops_put_nothing_out();
     few_are_put_out();
     drops_put_nothing_out();
     others_leave_sender();

@@ -19,7 +19,8 @@ pub use laws::{
 };
 pub use playing::{play, told_stores_stand};
 pub use running::run;
-pub use sms_party::{Dropped, Entry, Outcome, Status};
+pub use sms_message::{Dropped, Outcome};
+pub use sms_party::{Entry, Status};
 pub use sms_script::{
     DeviceFailed, Event, Limits, Octets, PlayFault, ScriptFault, Sink, Source, Text, Watched,
 };

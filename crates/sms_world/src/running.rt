@@ -12,7 +12,7 @@ use crate::fault::WorldFault;
 use crate::laws::{claims_hold, deliveries_are_refused_only_where_full};
 use crate::world::World;
 use sms_field::Address;
-use sms_party::Outcome;
+use sms_message::Outcome;
 use sms_script::{Event, Limits};
 use std::alloc::{AllocError, Global};
 

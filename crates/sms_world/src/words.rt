@@ -5,7 +5,8 @@ ghost use Rattle.std.specs.String.{string_bytes};
 ghost use Rattle.sms_world.specs.Words.{failure_text, outcome_text, dropped_text, fault_text, told_text, status_text};
 
 use crate::fault::WorldFault;
-use sms_party::{Dropped, Outcome, Status};
+use sms_message::{Dropped, Outcome};
+use sms_party::Status;
 use std::alloc::{AllocError, Global};
 
 /// A failure cause (TP-FCS) in two digits, none as `-`.

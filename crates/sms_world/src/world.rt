@@ -7,7 +7,7 @@ ghost use Rattle.std.specs.Prelude.{◌≡◌, ◌≢◌, ◌≤◌, ◌<◌, �
 ghost use Rattle.std.specs.Str.{chars};
 ghost use Rattle.std.specs.Vec.{vec_len, vec_capacity};
 ghost use Rattle.std.specs.Option.{option_map};
-ghost use Rattle.sms_party.specs.Does.{packets_of};
+ghost use Rattle.sms_message.specs.Does.{packets_of};
 ghost use Rattle.sms_party.specs.Sender.Value.{status_among};
 ghost use Rattle.sms_script.specs.Meaning.Known.{ArePhones};
 ghost use Rattle.sms_script.specs.Play.Runs.{IsTick};
@@ -27,7 +27,8 @@ use crate::laws::{claims_hold, laws_below};
 use crate::world::parties::Parties;
 use crate::world::sent_packet::SentPacket;
 use sms_field::{Address, END_OF_2099};
-use sms_party::{Dropped, Entry, Outcome, Status, Step};
+use sms_message::{Dropped, Outcome, Step};
+use sms_party::{Entry, Status};
 use sms_script::{Event, Limits, Packet};
 use std::alloc::{AllocError, Global};
 use std::marker::Model;

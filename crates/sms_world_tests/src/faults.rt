@@ -2,7 +2,7 @@
 
 use crate::found::same;
 use crate::two::{Two, address, answers, coming, new_two, new_world, typing};
-use sms_party::{Dropped, Outcome};
+use sms_message::{Dropped, Outcome};
 use sms_script::Network;
 use sms_world::{Event, Octets, Text, World, WorldFault};
 use std::alloc::{AllocError, Global};

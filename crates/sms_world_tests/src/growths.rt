@@ -3,7 +3,7 @@
 //! has such a test too.
 
 use crate::two::{Two, all_answer, coming, has_stored, new_two, typing};
-use sms_party::Outcome;
+use sms_message::Outcome;
 use sms_world::Event;
 use std::alloc::{AllocError, Global};
 use std::process::Abort;

@@ -2,7 +2,7 @@
 
 use crate::found::{holds, same};
 use crate::two::{Two, at_last, coming, is_stored, new_two, two_with_room, typing};
-use sms_party::Outcome;
+use sms_message::Outcome;
 use sms_world::{Entry, Event};
 use std::alloc::{AllocError, Global};
 use std::process::Abort;

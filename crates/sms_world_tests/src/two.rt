@@ -7,7 +7,7 @@ ghost use Rattle.sms_script.specs.Script.Limits.{IsIn};
 
 use crate::found::holds;
 use sms_field::{Address, Digits, Symbols};
-use sms_party::{Dropped, Outcome};
+use sms_message::{Dropped, Outcome};
 use sms_script::Limit;
 use sms_world::{Entry, Event, Limits, Octets, Text, World, WorldFault};
 use std::alloc::{AllocError, Global};

@@ -2,7 +2,8 @@
 
 use crate::found::{holds, same};
 use crate::two::{Two, address, all_answer, has_stored, new_two, typing};
-use sms_party::{Outcome, Status};
+use sms_message::Outcome;
+use sms_party::Status;
 use sms_world::{Event, Limits, World, WorldFault, run};
 use std::alloc::{AllocError, Global};
 use std::process::Abort;

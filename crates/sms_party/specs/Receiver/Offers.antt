@@ -11,14 +11,14 @@ use Rattle.sms_join.specs.Joiner as joiner
 use Rattle.sms_join.specs.Joiner.{Answer, answer, answered}
 use Rattle.sms_join.specs.Finishing.{would_finish}
 use Rattle.sms_join.specs.Arrivals.{Arrival}
-use Rattle.sms_party.specs.Message.{Origin}
-use Rattle.sms_party.specs.Message.Answers.{answers, plain_ack, deliver_error_of}
-use Rattle.sms_party.specs.Does.{Does, refuses_with}
+use Rattle.sms_message.specs.Message.{Origin}
+use Rattle.sms_message.specs.Message.Answers.{answers, plain_ack, deliver_error_of}
+use Rattle.sms_message.specs.Does.{Does, refuses_with}
 use Rattle.sms_party.specs.Receiver.State.{Entry, ReceiverLimits, ReceiverState}
 use Rattle.sms_party.specs.Receiver.Pieces.{piece_in}
-use Rattle.sms_party.specs.declared.message.Tag.{Tag}
-use Rattle.sms_party.specs.declared.outcome.Outcome.{Outcome}
-use Rattle.sms_party.specs.declared.outcome.Outcome.TheVariants as outcome
+use Rattle.sms_message.specs.declared.message.Tag.{Tag}
+use Rattle.sms_message.specs.declared.outcome.Outcome.{Outcome}
+use Rattle.sms_message.specs.declared.outcome.Outcome.TheVariants as outcome
 
 -- an RP-ERROR with an SMS-DELIVER-REPORT
 abbrev pub refuses : ReceiverState → Tag → ℕ → ℕ → Does ReceiverState

@@ -3,16 +3,16 @@
 use Rattle.std.specs.Prelude.{◌≡◌, ℕ, List, reverse, Option, Result, Err}
 use Rattle.sms_join.specs.JoinerValue.{JoinerValue}
 use Rattle.sms_join.specs.Same.{IsSame}
-use Rattle.sms_party.specs.Message.{Origin}
-use Rattle.sms_party.specs.Message.Reading.{ReadsAs}
-use Rattle.sms_party.specs.Does.{Does, Answered}
+use Rattle.sms_message.specs.Message.{Origin}
+use Rattle.sms_message.specs.Message.Reading.{ReadsAs}
+use Rattle.sms_message.specs.Does.{Does, Answered}
 use Rattle.sms_party.specs.Receiver.{receiver_receives}
 use Rattle.sms_party.specs.Receiver.State.{Entry, ReceiverLimits, ReceiverState, new_receiver}
 use Rattle.sms_party.specs.Receiver.Aging.{ages}
-use Rattle.sms_party.specs.declared.message.Message.{Message}
-use Rattle.sms_party.specs.declared.outcome.Step.{Step}
-use Rattle.sms_party.specs.declared.outcome.Dropped.{Dropped}
-use Rattle.sms_party.specs.declared.outcome.Dropped.TheVariants as dropped
+use Rattle.sms_message.specs.declared.message.Message.{Message}
+use Rattle.sms_message.specs.declared.outcome.Step.{Step}
+use Rattle.sms_message.specs.declared.outcome.Dropped.{Dropped}
+use Rattle.sms_message.specs.declared.outcome.Dropped.TheVariants as dropped
 
 pub record ReceiverValue : Type 0 where
   -- how many texts may be stored

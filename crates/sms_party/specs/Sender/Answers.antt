@@ -1,17 +1,17 @@
 -- An answer comes to a sender (3GPP TS 24.011, 7.3.3 and 7.3.4).
 use Rattle.std.specs.Prelude.{ℕ, suc, ◌-◌, Bool, true, false, if◌then◌else◌, ◌==◌, nat_lt, List, [], ◌∷◌, Option, Some, None, unwrap_or, Ok}
 use Rattle.sms_relay.specs.declared.side.Side.TheVariants.{ToPhone}
-use Rattle.sms_party.specs.declared.message.Report.{Report}
-use Rattle.sms_party.specs.declared.message.Report.TheVariants.{SubmitAck, SubmitError, DeliverAck, DeliverError}
-use Rattle.sms_party.specs.declared.message.Relay.{Relay}
-use Rattle.sms_party.specs.declared.message.Relay.TheVariants.{Answer}
-use Rattle.sms_party.specs.declared.message.Message.{Message}
-use Rattle.sms_party.specs.declared.message.Message.TheVariants.{NotCp, Note, Tiny, Data}
-use Rattle.sms_party.specs.declared.message.Tag.{Tag}
-use Rattle.sms_party.specs.declared.outcome.Outcome.{Outcome}
-use Rattle.sms_party.specs.declared.outcome.Outcome.TheVariants.{Segment, Accepted, Failed, Noted}
-use Rattle.sms_party.specs.declared.outcome.Dropped.TheVariants as dropped
-use Rattle.sms_party.specs.Message.{tag_of, same_tag}
+use Rattle.sms_message.specs.declared.message.Report.{Report}
+use Rattle.sms_message.specs.declared.message.Report.TheVariants.{SubmitAck, SubmitError, DeliverAck, DeliverError}
+use Rattle.sms_message.specs.declared.message.Relay.{Relay}
+use Rattle.sms_message.specs.declared.message.Relay.TheVariants.{Answer}
+use Rattle.sms_message.specs.declared.message.Message.{Message}
+use Rattle.sms_message.specs.declared.message.Message.TheVariants.{NotCp, Note, Tiny, Data}
+use Rattle.sms_message.specs.declared.message.Tag.{Tag}
+use Rattle.sms_message.specs.declared.outcome.Outcome.{Outcome}
+use Rattle.sms_message.specs.declared.outcome.Outcome.TheVariants.{Segment, Accepted, Failed, Noted}
+use Rattle.sms_message.specs.declared.outcome.Dropped.TheVariants as dropped
+use Rattle.sms_message.specs.Message.{tag_of, same_tag}
 use Rattle.sms_party.specs.Sent.{nth, Centre, Sent, bare, Sends}
 use Rattle.sms_party.specs.Sender.Texts.{Sender, SenderState, number_of, size_of}
 use Rattle.sms_party.specs.Sender.Putting.{puts, sender_drops, does}

@@ -2,8 +2,8 @@
 use Rattle.std.specs.Prelude.{ℕ, Bool, true, false, if◌then◌else◌, ◌==◌, nat_lt, nat_le, List, [], ◌∷◌, ◌++◌, length, Ok}
 use Rattle.sms_field.specs.AddressValue.{AddressValue}
 use Rattle.sms_join.specs.declared.units.Units.{Units}
-use Rattle.sms_party.specs.declared.outcome.Outcome.TheVariants.{Typed, Repeated, GaveUp, Idle}
-use Rattle.sms_party.specs.declared.outcome.Dropped.TheVariants.{Busy, TooManySegments}
+use Rattle.sms_message.specs.declared.outcome.Outcome.TheVariants.{Typed, Repeated, GaveUp, Idle}
+use Rattle.sms_message.specs.declared.outcome.Dropped.TheVariants.{Busy, TooManySegments}
 use Rattle.sms_party.specs.Sent.{nth, Sends}
 use Rattle.sms_party.specs.Sender.Texts.{Text, Sender, SenderState, new_text, number_of}
 use Rattle.sms_party.specs.Sender.Putting.{puts, sender_drops, does}

@@ -2,7 +2,7 @@
 use Rattle.std.specs.Prelude.{◌≡◌, ℕ, Bool, List, [], ◌∷◌, Some}
 use Rattle.sms_field.specs.AddressValue.{AddressValue}
 use Rattle.sms_join.specs.declared.units.Units.{Units}
-use Rattle.sms_party.specs.declared.message.Message.{Message}
+use Rattle.sms_message.specs.declared.message.Message.{Message}
 use Rattle.sms_party.specs.Sent.{nth}
 use Rattle.sms_party.specs.Sender.Texts.{SenderState, new_senders, number_of}
 use Rattle.sms_party.specs.Sender.Calls.{composes, times_out}

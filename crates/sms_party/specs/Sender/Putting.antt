@@ -1,13 +1,13 @@
 -- A waiting segment is put out.
 use Rattle.std.specs.Prelude.{ℕ, suc, Bool, false, List, [], ◌∷◌, ◌++◌, Option, Some, None, Ok, Err}
 use Rattle.sms_relay.specs.declared.side.Side.TheVariants.{FromPhone}
-use Rattle.sms_party.specs.declared.message.TransferUnit.TheVariants.{Submit}
-use Rattle.sms_party.specs.declared.message.Relay.TheVariants.{Transfer}
-use Rattle.sms_party.specs.declared.message.Message.TheVariants.{Data}
-use Rattle.sms_party.specs.declared.outcome.Outcome.{Outcome}
-use Rattle.sms_party.specs.declared.outcome.Dropped.{Dropped}
-use Rattle.sms_party.specs.Message.{tag_of}
-use Rattle.sms_party.specs.Centre.State.{changed}
+use Rattle.sms_message.specs.declared.message.TransferUnit.TheVariants.{Submit}
+use Rattle.sms_message.specs.declared.message.Relay.TheVariants.{Transfer}
+use Rattle.sms_message.specs.declared.message.Message.TheVariants.{Data}
+use Rattle.sms_message.specs.declared.outcome.Outcome.{Outcome}
+use Rattle.sms_message.specs.declared.outcome.Dropped.{Dropped}
+use Rattle.sms_message.specs.Message.{tag_of}
+use Rattle.sms_message.specs.Changed.{changed}
 use Rattle.sms_party.specs.Sent.{nth, Centre, Sent, Sends}
 use Rattle.sms_party.specs.Sender.Texts.{Text, Sender, SenderState}
 use Rattle.sms_party.specs.Sender.Segments.{submission_of}

@@ -5,16 +5,16 @@ use Rattle.sms_tpdu.specs.declared.user_data.concat.Width.{Width}
 use Rattle.sms_join.specs.declared.units.Units.{Units}
 use Rattle.sms_join.specs.Cut.{IsCut}
 use Rattle.sms_join.specs.Segments.{AreNumbered}
-use Rattle.sms_party.specs.declared.message.Message.{Message}
-use Rattle.sms_party.specs.declared.outcome.Step.{Step}
-use Rattle.sms_party.specs.declared.outcome.Dropped.{Dropped}
-use Rattle.sms_party.specs.declared.outcome.Dropped.TheVariants as dropped
+use Rattle.sms_message.specs.declared.message.Message.{Message}
+use Rattle.sms_message.specs.declared.outcome.Step.{Step}
+use Rattle.sms_message.specs.declared.outcome.Dropped.{Dropped}
+use Rattle.sms_message.specs.declared.outcome.Dropped.TheVariants as dropped
 use Rattle.sms_party.specs.declared.sender.Status.{Status}
 use Rattle.sms_party.specs.declared.sender.Status.TheVariants.{Accepted, Failed}
-use Rattle.sms_party.specs.Message.{tag_of}
-use Rattle.sms_party.specs.Message.Reading.{ReadsAs}
+use Rattle.sms_message.specs.Message.{tag_of}
+use Rattle.sms_message.specs.Message.Reading.{ReadsAs}
 use Rattle.sms_party.specs.Sent.{nth, Sends, messages_of}
-use Rattle.sms_party.specs.Does.{Does, Answered}
+use Rattle.sms_message.specs.Does.{Does, Answered}
 use Rattle.sms_party.specs.Sender.Texts.{Text, Sender, SenderState, new_senders, texts_of_phone, segments_of, sets_of, width_of, size_of}
 use Rattle.sms_party.specs.Sender.Calls.{composes}
 use Rattle.sms_party.specs.Sender.Answers.{sender_takes}

@@ -10,22 +10,22 @@ use Rattle.sms_tpdu.specs.declared.user_data.concat.Width.TheVariants.{Eight, Si
 use Rattle.sms_relay.specs.declared.side.Side.TheVariants.{FromPhone}
 use Rattle.sms_join.specs.declared.segment.Segment.{Segment}
 use Rattle.sms_join.specs.SegmentUser.{dcs_of, user_of}
-use Rattle.sms_party.specs.declared.message.TransferUnit.TheVariants.{Submit}
-use Rattle.sms_party.specs.declared.message.Relay.TheVariants.{Transfer}
-use Rattle.sms_party.specs.declared.message.Report.{Report}
-use Rattle.sms_party.specs.declared.message.Message.{Message}
-use Rattle.sms_party.specs.declared.message.Message.TheVariants.{Note, Data}
-use Rattle.sms_party.specs.declared.message.Tag.{Tag}
-use Rattle.sms_party.specs.declared.outcome.Outcome.{Outcome}
-use Rattle.sms_party.specs.declared.outcome.Outcome.TheVariants as outcome
-use Rattle.sms_party.specs.declared.outcome.Dropped.TheVariants as dropped
+use Rattle.sms_message.specs.declared.message.TransferUnit.TheVariants.{Submit}
+use Rattle.sms_message.specs.declared.message.Relay.TheVariants.{Transfer}
+use Rattle.sms_message.specs.declared.message.Report.{Report}
+use Rattle.sms_message.specs.declared.message.Message.{Message}
+use Rattle.sms_message.specs.declared.message.Message.TheVariants.{Note, Data}
+use Rattle.sms_message.specs.declared.message.Tag.{Tag}
+use Rattle.sms_message.specs.declared.outcome.Outcome.{Outcome}
+use Rattle.sms_message.specs.declared.outcome.Outcome.TheVariants as outcome
+use Rattle.sms_message.specs.declared.outcome.Dropped.TheVariants as dropped
 use Rattle.sms_party.specs.declared.sender.Status.{Status}
 use Rattle.sms_party.specs.declared.sender.Status.TheVariants.{Waiting, Accepted, Failed}
-use Rattle.sms_party.specs.Message.{same_tag}
+use Rattle.sms_message.specs.Message.{same_tag}
 use Rattle.sms_party.specs.Sender.Answers.{failure_of, accepts}
-use Rattle.sms_party.specs.declared.outcome.Step.{Step}
-use Rattle.sms_party.specs.declared.outcome.Dropped.{Dropped}
-use Rattle.sms_party.specs.Does.{Does, CarriesEach, Answered}
+use Rattle.sms_message.specs.declared.outcome.Step.{Step}
+use Rattle.sms_message.specs.declared.outcome.Dropped.{Dropped}
+use Rattle.sms_message.specs.Does.{Does, CarriesEach, Answered}
 
 -- a typed text that has not ended
 pub record TextValue : Type 0 where

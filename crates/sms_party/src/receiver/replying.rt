@@ -1,18 +1,17 @@
 //! The packets of a phone's answers to deliveries.
 
 ghost use Rattle.std.specs.Prelude.{◌≡◌, ◌<◌, map, true, Some, None, IfOk, IfErr};
-ghost use Rattle.sms_party.specs.Does.{Puts, CarriesEach};
-ghost use Rattle.sms_party.specs.Message.Answers.{answers, deliver_error_of, plain_ack};
-ghost use Rattle.sms_party.specs.Message.Carrying.{Carries};
-ghost use Rattle.sms_party.specs.declared.message.Message.TheVariants.{Data};
-ghost use Rattle.sms_party.specs.declared.message.Relay.TheVariants.{Answer};
+ghost use Rattle.sms_message.specs.Does.{Puts, CarriesEach};
+ghost use Rattle.sms_message.specs.Message.Answers.{answers, deliver_error_of, plain_ack};
+ghost use Rattle.sms_message.specs.Message.Carrying.{Carries};
+ghost use Rattle.sms_message.specs.declared.message.Message.TheVariants.{Data};
+ghost use Rattle.sms_message.specs.declared.message.Relay.TheVariants.{Answer};
 ghost use Rattle.sms_relay.specs.declared.side.Side.TheVariants.{FromPhone};
-ghost use Rattle.sms_party.specs.declared.outcome.Dropped.TheVariants.{Memory};
-ghost use Rattle.sms_party.specs.declared.outcome.Outcome.TheVariants.{Refused};
+ghost use Rattle.sms_message.specs.declared.outcome.Dropped.TheVariants.{Memory};
+ghost use Rattle.sms_message.specs.declared.outcome.Outcome.TheVariants.{Refused};
 
-use crate::message::packets::{acknowledgement, answered, wrapped};
-use crate::message::{Tag, failure_cause, rp_cause};
-use crate::outcome::{Dropped, Outcome, Step};
+use sms_message::packets::{acknowledgement, answered, wrapped};
+use sms_message::{Dropped, Outcome, Step, Tag, failure_cause, rp_cause};
 use sms_relay::{Side, wrap_answer};
 use sms_tpdu::{DeliverAck, DeliverError};
 use std::alloc::Global;

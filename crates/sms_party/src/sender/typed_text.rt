@@ -1,15 +1,19 @@
 //! A typed text on its way.
 
-ghost use Rattle.std.specs.Prelude.{◌≡◌, ◌<◌, Some, IfOk, IfErr};
+ghost use Rattle.std.specs.Prelude.{◌≡◌, ◌<◌, false, Some, IfOk, IfErr};
 ghost use Rattle.sms_join.specs.SegmentUser.{IsSendable};
 ghost use Rattle.sms_party.specs.Sender.Value.{submission_in, text_put, CarriesOptional};
-ghost use Rattle.sms_party.specs.declared.outcome.Dropped.TheVariants.{Memory};
+ghost use Rattle.sms_message.specs.Message.Carrying.{Carries};
+ghost use Rattle.sms_message.specs.declared.message.Message.TheVariants.{Data};
+ghost use Rattle.sms_message.specs.declared.message.Relay.TheVariants.{Transfer};
+ghost use Rattle.sms_message.specs.declared.message.TransferUnit.TheVariants.{Submit as TheUnit};
+ghost use Rattle.sms_message.specs.declared.outcome.Dropped.TheVariants.{Memory};
+ghost use Rattle.sms_relay.specs.declared.side.Side.TheVariants.{FromPhone};
 
-use crate::message::Tag;
-use crate::message::packets::{address_of_centre, wrapped};
-use crate::outcome::Dropped;
 use sms_field::{Address, Validity};
 use sms_join::{SegmentView, Segments};
+use sms_message::packets::{address_of_centre, wrapped};
+use sms_message::{Dropped, Tag};
 use sms_relay::{Side, wrap_transfer};
 use sms_tpdu::{Submit, Width};
 use std::alloc::{AllocError, Global};
@@ -47,6 +51,25 @@ impl Model for TypedText {
 
     ghost invariant = { λ t. (t.width ≡ Eight → t.set_reference < 256)
         × (length t.segments ≤ 255) × All (IsSendable t.width) t.segments };
+}
+
+/// The packet of a submission.
+fn submission_packet(alloc: Global, tag: Tag, submission: &Submit) -> Result<Vec<u8>, Dropped>
+    requires { tag.value < 7 }
+    ensures carries { IfOk result (λ packet. Carries packet.items
+        (Data false tag (Transfer FromPhone (TheUnit submission.now)))) }
+    ensures err { IfErr result (λ e. e ≡ Memory) }
+{
+    let address = address_of_centre(alloc)?;
+    wrapped(wrap_transfer(
+        alloc,
+        false,
+        tag.value,
+        Side::FromPhone,
+        tag.reference,
+        Some(&address),
+        submission,
+    ))
 }
 
 impl TypedText {
@@ -91,16 +114,8 @@ impl TypedText {
             return Ok(None);
         };
         let submission = self.submission(alloc, place, &segment, reject)?;
-        let address = address_of_centre(alloc)?;
-        let packet = wrapped(wrap_transfer(
-            alloc,
-            false,
-            tag.value,
-            Side::FromPhone,
-            tag.reference,
-            Some(&address),
-            &submission,
-        ))?;
-        Ok(Some(packet))
+        let packet = submission_packet(alloc, tag, &submission);
+        drop(submission);
+        Ok(Some(packet?))
     }
 }

@@ -1,6 +1,6 @@
 //! Calls of a centre with the phones +1001, +1002 and +1003, and what it answers.
 
-use sms_party::{Dropped, Outcome};
+use sms_message::{Dropped, Outcome};
 
 /// A call.
 pub enum Call {

@@ -1,6 +1,6 @@
 //! Packets that come to a phone, and what it answers.
 
-use sms_party::{Dropped, Outcome};
+use sms_message::{Dropped, Outcome};
 
 /// A packet that comes at a moment, the answer, the packets that are put out, and the texts of the
 /// store after it.

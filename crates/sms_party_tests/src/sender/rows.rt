@@ -1,6 +1,6 @@
 //! Calls of a sender, and what it answers.
 
-use sms_party::{Dropped, Outcome};
+use sms_message::{Dropped, Outcome};
 
 /// A call of a sender.
 pub enum Call {

@@ -1,6 +1,6 @@
 -- Answers answer what they name.
 use Rattle.std.specs.Prelude.{◌≡◌, ℕ, suc, Option, Some}
-use Rattle.sms_party.specs.Message.{tag_of}
+use Rattle.sms_message.specs.Message.{tag_of}
 use Rattle.sms_world.specs.Machine.{Machine}
 use Rattle.sms_world.specs.Machine.Event.{Event}
 use Rattle.sms_world.specs.Orderly.Brought.{BringsAnswer}

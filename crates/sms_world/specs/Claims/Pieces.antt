@@ -8,16 +8,16 @@ use Rattle.sms_tpdu.specs.Submit.{Submission}
 use Rattle.sms_tpdu.specs.Deliver.{Delivery}
 use Rattle.sms_join.specs.UnitsOfText.{IsText}
 use Rattle.sms_join.specs.Cut.{IsCut}
-use Rattle.sms_party.specs.declared.message.TransferUnit.{TransferUnit}
-use Rattle.sms_party.specs.declared.message.TransferUnit.TheVariants.{Submit, Deliver, OtherUnit, BadUnit}
-use Rattle.sms_party.specs.declared.message.Relay.{Relay}
-use Rattle.sms_party.specs.declared.message.Relay.TheVariants.{Transfer, Answer, UnknownType, Unreadable}
-use Rattle.sms_party.specs.declared.message.Message.{Message}
-use Rattle.sms_party.specs.declared.message.Message.TheVariants.{NotCp, Note, Tiny, Data}
+use Rattle.sms_message.specs.declared.message.TransferUnit.{TransferUnit}
+use Rattle.sms_message.specs.declared.message.TransferUnit.TheVariants.{Submit, Deliver, OtherUnit, BadUnit}
+use Rattle.sms_message.specs.declared.message.Relay.{Relay}
+use Rattle.sms_message.specs.declared.message.Relay.TheVariants.{Transfer, Answer, UnknownType, Unreadable}
+use Rattle.sms_message.specs.declared.message.Message.{Message}
+use Rattle.sms_message.specs.declared.message.Message.TheVariants.{NotCp, Note, Tiny, Data}
 use Rattle.sms_field.specs.Times.{stamp_octets}
-use Rattle.sms_party.specs.Address.{phone_at, address_of}
-use Rattle.sms_party.specs.Message.{Origin}
-use Rattle.sms_party.specs.Centre.State.{Acceptance, CentreState}
+use Rattle.sms_message.specs.Address.{phone_at, address_of}
+use Rattle.sms_message.specs.Message.{Origin}
+use Rattle.sms_centre.specs.Centre.State.{Acceptance, CentreState}
 use Rattle.sms_party.specs.Sent.{nth, Place, Centre, Phone, Sent}
 use Rattle.sms_world.specs.Told.{Told}
 use Rattle.sms_party.specs.Sender.Texts.{Text, Sender}

@@ -3,8 +3,8 @@ use Rattle.std.specs.Prelude.{◌≡◌, ◌≢◌, ◌⊎◌, ℕ, ◌<◌, ◌
 use Rattle.sms_field.specs.AddressValue.{AddressValue}
 use Rattle.sms_tpdu.specs.Deliver.{Delivery}
 use Rattle.sms_join.specs.Arrivals.{is_listed, open_texts}
-use Rattle.sms_party.specs.declared.outcome.Outcome.TheVariants.{Refused, Finished, Kept, Repeat}
-use Rattle.sms_party.specs.Message.{Origin}
+use Rattle.sms_message.specs.declared.outcome.Outcome.TheVariants.{Refused, Finished, Kept, Repeat}
+use Rattle.sms_message.specs.Message.{Origin}
 use Rattle.sms_party.specs.Sent.{Sent}
 use Rattle.sms_world.specs.Told.{Told}
 use Rattle.sms_script.specs.declared.script.limits.Limits.{Limits}

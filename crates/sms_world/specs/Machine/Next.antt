@@ -3,20 +3,21 @@
 -- an event is for, and keeps what is put out. Lists of what was have the newest entry first; what
 -- is put out at one event has its first packet first.
 use Rattle.std.specs.Prelude.{ℕ, zero, suc, ◌+◌, true, false, if◌then◌else◌, nat_lt, List, [], ◌∷◌, length, Option, Some, None, Ok, Err}
-use Rattle.sms_party.specs.Message.{Origin}
-use Rattle.sms_party.specs.declared.message.Message.{Message}
-use Rattle.sms_party.specs.declared.message.Message.TheVariants.{NotCp, Note, Tiny, Data}
-use Rattle.sms_party.specs.declared.outcome.Outcome.TheVariants.{Noted, Ticked}
-use Rattle.sms_party.specs.declared.outcome.Dropped.TheVariants as dropped
+use Rattle.sms_message.specs.Message.{Origin}
+use Rattle.sms_message.specs.declared.message.Message.{Message}
+use Rattle.sms_message.specs.declared.message.Message.TheVariants.{NotCp, Note, Tiny, Data}
+use Rattle.sms_message.specs.declared.outcome.Outcome.TheVariants.{Noted, Ticked}
+use Rattle.sms_message.specs.declared.outcome.Dropped.TheVariants as dropped
 use Rattle.sms_field.specs.Times.{end_of_2099}
 use Rattle.sms_party.specs.Sent.{nth, Place, Centre, Phone, Sent, Sends, bare}
-use Rattle.sms_party.specs.Does.{Does}
+use Rattle.sms_message.specs.Does.{Does}
 use Rattle.sms_party.specs.Sender.Texts.{size_of, SenderState}
 use Rattle.sms_party.specs.Sender.Calls.{composes, times_out}
 use Rattle.sms_party.specs.Sender.Answers.{sender_receives}
-use Rattle.sms_party.specs.Centre.State.{Pushing, CentreState, changed}
-use Rattle.sms_party.specs.Centre.{centre_receives}
-use Rattle.sms_party.specs.Centre.Pushes.{centre_pushes}
+use Rattle.sms_centre.specs.Centre.State.{Pushing, CentreState}
+use Rattle.sms_message.specs.Changed.{changed}
+use Rattle.sms_centre.specs.Centre.{centre_receives}
+use Rattle.sms_centre.specs.Centre.Pushes.{centre_pushes}
 use Rattle.sms_party.specs.Receiver.{receiver_opened}
 use Rattle.sms_party.specs.Receiver.Aging.{ages}
 use Rattle.sms_party.specs.Receiver.State.{ReceiverLimits, limits_of, ReceiverState}

@@ -1,7 +1,7 @@
 -- What may come of an event, and runs: lists of events with what was answered to each. Runs have
 -- the newest event first.
 use Rattle.std.specs.Prelude.{◌≡◌, ◌⊎◌, Bool, true, false, nat_lt, List, [], ◌∷◌, length, is_some, Err}
-use Rattle.sms_party.specs.declared.outcome.Dropped.TheVariants as dropped
+use Rattle.sms_message.specs.declared.outcome.Dropped.TheVariants as dropped
 use Rattle.sms_party.specs.Sent.{Sent}
 use Rattle.sms_world.specs.declared.fault.WorldFault.TheVariants.{Party}
 use Rattle.sms_world.specs.Told.{Told}

@@ -6,12 +6,12 @@ use Rattle.sms_tpdu.specs.Submit.{Submission}
 use Rattle.sms_tpdu.specs.Deliver.{Delivery}
 use Rattle.sms_relay.specs.declared.side.Side.{Side}
 use Rattle.sms_relay.specs.declared.side.Side.TheVariants.{FromPhone, ToPhone}
-use Rattle.sms_party.specs.declared.message.TransferUnit.TheVariants.{Submit, Deliver}
-use Rattle.sms_party.specs.declared.message.Report.{Report}
-use Rattle.sms_party.specs.declared.message.Relay.TheVariants.{Transfer, Answer}
-use Rattle.sms_party.specs.declared.message.Message.TheVariants.{Data}
-use Rattle.sms_party.specs.declared.message.Tag.{Tag}
-use Rattle.sms_party.specs.Message.{Origin}
+use Rattle.sms_message.specs.declared.message.TransferUnit.TheVariants.{Submit, Deliver}
+use Rattle.sms_message.specs.declared.message.Report.{Report}
+use Rattle.sms_message.specs.declared.message.Relay.TheVariants.{Transfer, Answer}
+use Rattle.sms_message.specs.declared.message.Message.TheVariants.{Data}
+use Rattle.sms_message.specs.declared.message.Tag.{Tag}
+use Rattle.sms_message.specs.Message.{Origin}
 use Rattle.sms_party.specs.Sent.{Centre, Phone}
 use Rattle.sms_world.specs.Machine.{Machine}
 use Rattle.sms_world.specs.Machine.Event.{Event, Carry}

@@ -3,8 +3,8 @@ use Rattle.std.specs.Prelude.{◌≡◌, ◌≢◌, ◌⊎◌, ℕ, List, length
 use Rattle.sms_field.specs.AddressValue.{AddressValue}
 use Rattle.sms_tpdu.specs.Deliver.{Delivery}
 use Rattle.sms_tpdu.specs.declared.user_data.concat.Concat.{Concat}
-use Rattle.sms_party.specs.Address.{address_of}
-use Rattle.sms_party.specs.Message.{Origin}
+use Rattle.sms_message.specs.Address.{address_of}
+use Rattle.sms_message.specs.Message.{Origin}
 use Rattle.sms_party.specs.Sent.{nth}
 use Rattle.sms_party.specs.Sender.Texts.{Text}
 use Rattle.sms_tpdu.specs.UserData.ConcatenationFound.{concat_of_header}

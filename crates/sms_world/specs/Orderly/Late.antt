@@ -2,7 +2,7 @@
 use Rattle.std.specs.Prelude.{◌≡◌, ℕ, true, Some}
 use Rattle.sms_tpdu.specs.Deliver.{Delivery}
 use Rattle.sms_join.specs.Arrivals.{is_listed}
-use Rattle.sms_party.specs.Message.{Origin}
+use Rattle.sms_message.specs.Message.{Origin}
 use Rattle.sms_world.specs.Machine.{Machine}
 use Rattle.sms_world.specs.Machine.Event.{Event}
 use Rattle.sms_world.specs.Texts.Finished.{finished, IsAmongLast}

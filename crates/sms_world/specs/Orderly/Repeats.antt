@@ -2,8 +2,8 @@
 use Rattle.std.specs.Prelude.{◌≡◌, ℕ, ◌<◌, true, Some}
 use Rattle.std.specs.List.{Contains}
 use Rattle.sms_tpdu.specs.Submit.{Submission}
-use Rattle.sms_party.specs.Message.{Origin}
-use Rattle.sms_party.specs.Centre.State.{Acceptance}
+use Rattle.sms_message.specs.Message.{Origin}
+use Rattle.sms_centre.specs.Centre.State.{Acceptance}
 use Rattle.sms_world.specs.Machine.{Machine}
 use Rattle.sms_world.specs.Machine.Event.{Event}
 use Rattle.sms_world.specs.Orderly.Brought.{BringsSubmission}

@@ -7,9 +7,9 @@ use Rattle.sms_join.specs.declared.key.Key.{Key}
 use Rattle.sms_join.specs.declared.key.Key.TheVariants.{Single, Segmented}
 use Rattle.sms_join.specs.Arrivals.{Texts}
 use Rattle.sms_field.specs.Times.{stamp_octets}
-use Rattle.sms_party.specs.Address.{address_of}
-use Rattle.sms_party.specs.Message.{Origin}
-use Rattle.sms_party.specs.Centre.State.{Acceptance}
+use Rattle.sms_message.specs.Address.{address_of}
+use Rattle.sms_message.specs.Message.{Origin}
+use Rattle.sms_centre.specs.Centre.State.{Acceptance}
 use Rattle.sms_party.specs.Sent.{nth}
 use Rattle.sms_party.specs.Sender.Texts.{Text}
 use Rattle.sms_world.specs.Texts.{size_in, units_in}

@@ -1,6 +1,6 @@
 -- What is typed to a phone.
 use Rattle.std.specs.Prelude.{◌≡◌, ℕ, Some}
-use Rattle.sms_party.specs.Address.{phone_at}
+use Rattle.sms_message.specs.Address.{phone_at}
 use Rattle.sms_party.specs.Sent.{nth}
 use Rattle.sms_party.specs.Sender.Texts.{Text}
 use Rattle.sms_world.specs.Machine.{Machine}

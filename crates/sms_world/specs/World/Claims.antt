@@ -3,8 +3,8 @@ use Rattle.std.specs.Prelude.{◌≡◌, ◌≢◌, ℕ, ◌<◌, ◌≤◌, ◌
 use Rattle.std.specs.List.{Contains}
 use Rattle.sms_field.specs.AddressValue.{AddressValue}
 use Rattle.sms_tpdu.specs.Deliver.{Delivery}
-use Rattle.sms_party.specs.Message.{Origin}
-use Rattle.sms_party.specs.Centre.State.{Acceptance}
+use Rattle.sms_message.specs.Message.{Origin}
+use Rattle.sms_centre.specs.Centre.State.{Acceptance}
 use Rattle.sms_party.specs.Sender.Value.{status_among}
 use Rattle.sms_party.specs.declared.sender.Status.TheVariants.{Accepted}
 use Rattle.sms_script.specs.declared.script.limits.Limits.{Limits}

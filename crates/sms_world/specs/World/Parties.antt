@@ -3,17 +3,17 @@ use Rattle.std.specs.Prelude.{◌≡◌, ℕ, ◌≤◌, Bool, true, false, not,
 use Rattle.sms_field.specs.AddressValue.{AddressValue}
 use Rattle.sms_join.specs.declared.units.Units.{Units}
 use Rattle.sms_join.specs.Cut.{IsCut}
-use Rattle.sms_party.specs.Does.{packets_of}
-use Rattle.sms_party.specs.Message.{Origin}
-use Rattle.sms_party.specs.Message.Reading.{ReadsAs}
+use Rattle.sms_message.specs.Does.{packets_of}
+use Rattle.sms_message.specs.Message.{Origin}
+use Rattle.sms_message.specs.Message.Reading.{ReadsAs}
 use Rattle.sms_party.specs.Sent.{Place, Centre, Phone}
 use Rattle.sms_party.specs.Sender.Texts.{width_of}
 use Rattle.sms_party.specs.Sender.Calls.{composes, times_out}
-use Rattle.sms_party.specs.Centre.Pushes.{centre_pushes}
-use Rattle.sms_party.specs.declared.message.Message.{Message}
-use Rattle.sms_party.specs.declared.outcome.Step.{Step}
-use Rattle.sms_party.specs.declared.outcome.Dropped.{Dropped}
-use Rattle.sms_party.specs.declared.outcome.Dropped.TheVariants as dropped
+use Rattle.sms_centre.specs.Centre.Pushes.{centre_pushes}
+use Rattle.sms_message.specs.declared.message.Message.{Message}
+use Rattle.sms_message.specs.declared.outcome.Step.{Step}
+use Rattle.sms_message.specs.declared.outcome.Dropped.{Dropped}
+use Rattle.sms_message.specs.declared.outcome.Dropped.TheVariants as dropped
 use Rattle.sms_script.specs.Transcript.Lines.{PacketValue}
 use Rattle.sms_world.specs.declared.fault.WorldFault.TheVariants.{Party}
 use Rattle.sms_world.specs.Machine.{Machine}

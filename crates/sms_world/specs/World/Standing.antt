@@ -3,8 +3,8 @@ use Rattle.std.specs.Prelude.{◌≡◌, ℕ, ◌<◌, if◌then◌else◌, List
 use Rattle.std.specs.List.{AllByRecursion}
 use Rattle.sms_field.specs.Times.{end_of_2099}
 use Rattle.sms_party.specs.Sent.{Place, Centre, Phone, Sent}
-use Rattle.sms_party.specs.Message.Carrying.{Carries}
-use Rattle.sms_party.specs.Centre.Standing as centre
+use Rattle.sms_message.specs.Message.Carrying.{Carries}
+use Rattle.sms_centre.specs.Centre.Standing as centre
 use Rattle.sms_party.specs.Sender.Stands.{SenderStands}
 use Rattle.sms_party.specs.Receiver.Standing as receiver
 use Rattle.sms_party.specs.Phone.{PhoneValue}

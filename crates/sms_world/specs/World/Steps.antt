@@ -3,7 +3,7 @@ use Rattle.std.specs.Prelude.{◌≡◌, ℕ, List, [], ◌∷◌, ◌++◌, len
 use Rattle.std.specs.Str.{chars}
 use Rattle.sms_field.specs.AddressValue.{AddressValue}
 use Rattle.sms_party.specs.Sent.{Sent}
-use Rattle.sms_party.specs.Message.Carrying.{Carries}
+use Rattle.sms_message.specs.Message.Carrying.{Carries}
 use Rattle.sms_party.specs.Receiver.State.{Entry}
 use Rattle.sms_party.specs.Sender.Stands.{status_of}
 use Rattle.sms_party.specs.declared.sender.Status.{Status}

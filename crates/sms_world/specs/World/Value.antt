@@ -1,6 +1,6 @@
 -- What the code of the whole holds, as contracts see it.
 use Rattle.std.specs.Prelude.{ℕ, List}
-use Rattle.sms_party.specs.Centre.Value.{CentreValue}
+use Rattle.sms_centre.specs.Centre.Value.{CentreValue}
 use Rattle.sms_party.specs.Phone.{PhoneValue}
 use Rattle.sms_script.specs.declared.script.limits.Limits.{Limits}
 use Rattle.sms_script.specs.Transcript.Lines.{PacketValue}

@@ -5,7 +5,7 @@ ghost use Rattle.std.specs.Str.{chars};
 ghost use Rattle.std.specs.List.{AllByRecursion};
 ghost use Rattle.sms_text.specs.Octets.{IsOctets};
 ghost use Rattle.sms_field.specs.Times.{end_of_2099};
-ghost use Rattle.sms_party.specs.Address.{are_distinct};
+ghost use Rattle.sms_message.specs.Address.{are_distinct};
 ghost use Rattle.sms_party.specs.Sender.Texts.{width_of};
 ghost use Rattle.sms_party.specs.Sender.Value.{status_among};
 ghost use Rattle.sms_script.specs.Script.Limits.{AreLimits};
@@ -15,8 +15,10 @@ ghost use Rattle.sms_world.specs.World.Phones.{IsNewPhone, store_in, statuses_at
 ghost use Rattle.sms_world.specs.World.Standing.{PartiesStand};
 
 use crate::laws::laws_below;
+use sms_centre::Centre;
 use sms_field::Address;
-use sms_party::{Centre, Dropped, Entry, Phone, Status, Step};
+use sms_message::{Dropped, Step};
+use sms_party::{Entry, Phone, Status};
 use sms_script::Limits;
 use sms_tpdu::Width;
 use std::alloc::{AllocError, Global};
@@ -31,7 +33,7 @@ pub(crate) struct Parties {
 
 impl Model for Parties {
     ghost use Rattle.std.specs.Prelude.{◌≡◌, length};
-    ghost use Rattle.sms_party.specs.Centre.Value.{phones_of};
+    ghost use Rattle.sms_centre.specs.Centre.Value.{phones_of};
     ghost use Rattle.sms_world.specs.World.Value.{PartiesValue};
 
     ghost Value = { PartiesValue };

@@ -5,8 +5,8 @@ use Rattle.sms_join.specs.declared.offer.Offer.{Offer}
 use Rattle.sms_join.specs.declared.offer.OfferFault.{OfferFault}
 use Rattle.sms_join.specs.Piece.{Piece, piece_of}
 use Rattle.sms_join.specs.Offering.{Says}
-use Rattle.sms_party.specs.declared.outcome.Step.{Step}
-use Rattle.sms_party.specs.declared.outcome.Outcome.TheVariants as outcome
+use Rattle.sms_message.specs.declared.outcome.Step.{Step}
+use Rattle.sms_message.specs.declared.outcome.Outcome.TheVariants as outcome
 use Rattle.sms_party.specs.Receiver.State.{Entry}
 use Rattle.sms_party.specs.Receiver.Standing.{ReceiverValue, StandsFor}
 use Rattle.sms_party.proofs.Storing.{Room, same_value, is_over, is_repeated, is_kept, is_stored}

@@ -1,11 +1,11 @@
 use Rattle.std.proofs.Common.{sym, ap, subst, ◌∙◌, Err}
 use Rattle.sms_relay.specs.declared.side.Side.{Side}
-use Rattle.sms_party.specs.declared.message.Relay.{Relay}
-use Rattle.sms_party.specs.declared.message.Relay.TheVariants.{Transfer}
-use Rattle.sms_party.specs.declared.outcome.Dropped.TheVariants.{Unmatched}
+use Rattle.sms_message.specs.declared.message.Relay.{Relay}
+use Rattle.sms_message.specs.declared.message.Relay.TheVariants.{Transfer}
+use Rattle.sms_message.specs.declared.outcome.Dropped.TheVariants.{Unmatched}
 use Rattle.sms_party.specs.Receiver.{receiver_opened}
 use Rattle.sms_party.specs.Receiver.Standing.{ReceiverAnswers}
-use Rattle.sms_party.proofs.Storing.{puts_answer, nothing_comes}
+use Rattle.sms_party.proofs.Storing.{nothing_comes}
 use Rattle.sms_party.proofs.receiver.Receiver.take_request.Goals as goal
 
 pub returns-in-FromPhone-clause-steps : goal.returns-in-FromPhone-clause-steps
@@ -14,26 +14,11 @@ returns-in-FromPhone-clause-steps c = λ limits s origin stands.
     subst (λ (r : Relay). ReceiverAnswers limits s (receiver_opened limits s c.args.now c.args.tag r origin) (Err Unmatched) c.args.self.now) (sym (c.in-Transfer.is ∙ ap (λ (x : Side). Transfer x c.in-Transfer.unit) c.in-FromPhone.is))
     (nothing_comes limits c.args.self.now s stands)
 
-pub returns-in-Transfer-clause-steps : goal.returns-in-Transfer-clause-steps
+pub returns-in-ToPhone-clause-steps : goal.returns-in-ToPhone-clause-steps
 unfolding receiver_opened
-returns-in-Transfer-clause-steps c = λ limits s origin stands.
+returns-in-ToPhone-clause-steps c = λ limits s origin stands.
     subst (λ (r : Relay). ReceiverAnswers limits s (receiver_opened limits s c.args.now c.args.tag r origin) c.take_unit.result c.take_unit.new.self) (sym (c.in-Transfer.is ∙ ap (λ (x : Side). Transfer x c.in-Transfer.unit) c.in-ToPhone.is))
     (c.take_unit.ensures.steps limits s origin stands)
 
-pub returns-in-Answer-clause-steps : goal.returns-in-Answer-clause-steps
-unfolding receiver_opened
-returns-in-Answer-clause-steps c = λ limits s origin stands.
-    subst (λ (r : Relay). ReceiverAnswers limits s (receiver_opened limits s c.args.now c.args.tag r origin) (Err Unmatched) c.args.self.now) (sym c.in-Answer.is)
-    (nothing_comes limits c.args.self.now s stands)
-
-pub returns-in-UnknownType-clause-steps : goal.returns-in-UnknownType-clause-steps
-unfolding receiver_opened
-returns-in-UnknownType-clause-steps c = λ limits s origin stands.
-    subst (λ (r : Relay). ReceiverAnswers limits s (receiver_opened limits s c.args.now c.args.tag r origin) c.relay_refusal.result c.args.self.now) (sym c.in-UnknownType.is)
-    (puts_answer limits c.args.self.now s _ _ c.relay_refusal.result stands c.relay_refusal.ensures)
-
-pub returns-clause-steps : goal.returns-clause-steps
-unfolding receiver_opened
-returns-clause-steps c = λ limits s origin stands.
-    subst (λ (r : Relay). ReceiverAnswers limits s (receiver_opened limits s c.args.now c.args.tag r origin) c.relay_refusal-in-Unreadable.result c.args.self.now) (sym c.in-Unreadable.is)
-    (puts_answer limits c.args.self.now s _ _ c.relay_refusal-in-Unreadable.result stands c.relay_refusal-in-Unreadable.ensures)
+pub returns-in_default-clause-steps : goal.returns-in_default-clause-steps
+returns-in_default-clause-steps c = c.refuse-step.ensures

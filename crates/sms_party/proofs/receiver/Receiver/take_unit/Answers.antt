@@ -1,5 +1,5 @@
 use Rattle.std.proofs.Common.{sym, subst}
-use Rattle.sms_party.specs.declared.message.TransferUnit.{TransferUnit}
+use Rattle.sms_message.specs.declared.message.TransferUnit.{TransferUnit}
 use Rattle.sms_party.specs.Receiver.{receiver_takes}
 use Rattle.sms_party.specs.Receiver.Standing.{ReceiverAnswers}
 use Rattle.sms_party.proofs.Storing.{puts_answer}

@@ -1,6 +1,6 @@
 use Rattle.std.proofs.Common.{Some}
 use Rattle.sms_relay.specs.declared.side.Side.TheVariants.{FromPhone}
-use Rattle.sms_party.specs.Message.Answers.{deliver_error_of}
+use Rattle.sms_message.specs.Message.Answers.{deliver_error_of}
 use Rattle.sms_party.proofs.receiver.replying.refusal.Goals as goal
 
 pub returns : goal.returns

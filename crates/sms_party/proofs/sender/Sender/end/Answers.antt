@@ -2,9 +2,9 @@ use Rattle.std.proofs.Common.{ℕ, ◌++◌, List, [], ◌∷◌, Option, Vec, m
 use Rattle.std.specs.Global.{Global}
 use Rattle.std.specs.Option.{option_to_list}
 use Rattle.std.specs.List.{slice_get}
-use Rattle.sms_party.specs.declared.message.Message.{Message}
+use Rattle.sms_message.specs.declared.message.Message.{Message}
 use Rattle.sms_party.specs.declared.sender.Status.{Status}
-use Rattle.sms_party.specs.Does.{CarriesEach}
+use Rattle.sms_message.specs.Does.{CarriesEach}
 use Rattle.sms_party.specs.Sender.Value.{TextValue, SenderValue, text_put, counted, ended_with}
 use Rattle.sms_party.proofs.SenderParts.{carried, is_out, second_first}
 use Rattle.sms_party.proofs.sender.Sender.end.Goals as goal

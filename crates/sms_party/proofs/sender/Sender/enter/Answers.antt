@@ -1,7 +1,7 @@
 use Rattle.std.proofs.Common.{ℕ, ◌+◌, ◌%◌, ◌++◌, ◌==◌, List, [], ◌∷◌, Vec, length, ◌≡◌, sym, ap, ◌∙◌, Ok}
 use Rattle.std.specs.Global.{Global}
-use Rattle.sms_party.specs.declared.message.Message.{Message}
-use Rattle.sms_party.specs.declared.outcome.Outcome.TheVariants as outcome
+use Rattle.sms_message.specs.declared.message.Message.{Message}
+use Rattle.sms_message.specs.declared.outcome.Outcome.TheVariants as outcome
 use Rattle.sms_party.specs.Sender.Value.{TextValue, SenderValue, first_put, counted, entered, next_set, CarriesAll}
 use Rattle.sms_party.proofs.SenderParts.{are_out}
 use Rattle.sms_party.proofs.sender.Sender.enter.Goals as goal

@@ -2,9 +2,9 @@ use Rattle.std.proofs.Common.{ℕ, ◌+◌, List, Some, Vec, map, length, ◌≡
 use Rattle.std.specs.Global.{Global}
 use Rattle.std.specs.Option.{option_to_list}
 use Rattle.std.specs.List.{slice_get}
-use Rattle.sms_party.specs.declared.message.Message.{Message}
-use Rattle.sms_party.specs.declared.outcome.Outcome.TheVariants as outcome
-use Rattle.sms_party.specs.Does.{CarriesEach}
+use Rattle.sms_message.specs.declared.message.Message.{Message}
+use Rattle.sms_message.specs.declared.outcome.Outcome.TheVariants as outcome
+use Rattle.sms_message.specs.Does.{CarriesEach}
 use Rattle.sms_party.specs.Sender.Value.{SenderValue, text_put, counted, stepped}
 use Rattle.sms_party.proofs.SenderParts.{carried, is_out}
 use Rattle.sms_party.proofs.sender.Sender.go_on.Goals as goal

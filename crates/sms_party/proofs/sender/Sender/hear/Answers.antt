@@ -1,12 +1,12 @@
 use Rattle.std.proofs.Common.{ℕ, ◌+◌, ◌<◌, ◌≡◌, ◌≢◌, ◌==◌, true, false, [], ◌∷◌, length, drop, get_or, Option, refl, sym, ap, ◌∙◌, subst, arith}
 use Rattle.std.proofs.lemmas.Bool.Decides.{nat_tests}
-use Rattle.sms_party.specs.declared.message.Message.TheVariants.{Note}
-use Rattle.sms_party.specs.declared.message.Tag.{Tag}
-use Rattle.sms_party.specs.declared.outcome.Outcome.{Outcome}
-use Rattle.sms_party.specs.declared.outcome.Outcome.TheVariants as outcome
+use Rattle.sms_message.specs.declared.message.Message.TheVariants.{Note}
+use Rattle.sms_message.specs.declared.message.Tag.{Tag}
+use Rattle.sms_message.specs.declared.outcome.Outcome.{Outcome}
+use Rattle.sms_message.specs.declared.outcome.Outcome.TheVariants as outcome
 use Rattle.sms_party.specs.declared.sender.Status.TheVariants.{Accepted, Failed}
-use Rattle.sms_party.specs.Message.{same_tag}
-use Rattle.sms_party.specs.Does.{Does}
+use Rattle.sms_message.specs.Message.{same_tag}
+use Rattle.sms_message.specs.Does.{Does}
 use Rattle.sms_party.specs.Sender.Value.{TextValue, SenderValue, Did, puts_out, ended_with}
 use Rattle.sms_party.proofs.SenderSteps.{heard_failed, heard_more, heard_last}
 use Rattle.sms_party.proofs.sender.Sender.hear.Goals as goal

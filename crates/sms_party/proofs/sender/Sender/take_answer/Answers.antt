@@ -1,9 +1,9 @@
 use Rattle.std.proofs.Common.{sym, ap, subst, ◌∙◌, Err}
 use Rattle.sms_relay.specs.declared.side.Side.{Side}
-use Rattle.sms_party.specs.declared.message.Relay.{Relay}
-use Rattle.sms_party.specs.declared.message.Relay.TheVariants.{Answer}
-use Rattle.sms_party.specs.declared.outcome.Dropped.TheVariants.{Unmatched}
-use Rattle.sms_party.specs.Does.{Answered}
+use Rattle.sms_message.specs.declared.message.Relay.{Relay}
+use Rattle.sms_message.specs.declared.message.Relay.TheVariants.{Answer}
+use Rattle.sms_message.specs.declared.outcome.Dropped.TheVariants.{Unmatched}
+use Rattle.sms_message.specs.Does.{Answered}
 use Rattle.sms_party.specs.Sender.Answers.{sender_receives}
 use Rattle.sms_party.specs.Sender.Stands.{SenderStands, in_messages}
 use Rattle.sms_party.proofs.SenderSteps.{carried_over, heard, nothing_comes}

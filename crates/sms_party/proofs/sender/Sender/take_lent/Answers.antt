@@ -1,10 +1,10 @@
 use Rattle.std.proofs.Common.{refl, sym, ap, subst, ◌∙◌, Ok, Err}
-use Rattle.sms_party.specs.declared.message.Message.{Message}
-use Rattle.sms_party.specs.declared.message.Message.TheVariants.{Data}
-use Rattle.sms_party.specs.declared.outcome.Outcome.TheVariants.{Noted}
-use Rattle.sms_party.specs.declared.outcome.Step.{Step}
-use Rattle.sms_party.specs.declared.outcome.Dropped.TheVariants.{Unmatched, NotCp}
-use Rattle.sms_party.specs.Does.{Answered}
+use Rattle.sms_message.specs.declared.message.Message.{Message}
+use Rattle.sms_message.specs.declared.message.Message.TheVariants.{Data}
+use Rattle.sms_message.specs.declared.outcome.Outcome.TheVariants.{Noted}
+use Rattle.sms_message.specs.declared.outcome.Step.{Step}
+use Rattle.sms_message.specs.declared.outcome.Dropped.TheVariants.{Unmatched, NotCp}
+use Rattle.sms_message.specs.Does.{Answered}
 use Rattle.sms_party.specs.Sender.Putting.{sender_drops}
 use Rattle.sms_party.specs.Sender.Answers.{sender_takes}
 use Rattle.sms_party.specs.Sender.Stands.{SenderStands, in_messages}

@@ -1,8 +1,8 @@
 use Rattle.std.proofs.Common.{ℕ, ◌+◌, ◌≡◌, length, drop, [], Ok, refl, ap, ◌∙◌, subst, arith}
-use Rattle.sms_party.specs.declared.outcome.Outcome.TheVariants.{Idle, GaveUp}
-use Rattle.sms_party.specs.declared.outcome.Step.{Step}
+use Rattle.sms_message.specs.declared.outcome.Outcome.TheVariants.{Idle, GaveUp}
+use Rattle.sms_message.specs.declared.outcome.Step.{Step}
 use Rattle.sms_party.specs.declared.sender.Status.TheVariants.{Failed}
-use Rattle.sms_party.specs.Does.{Does}
+use Rattle.sms_message.specs.Does.{Does}
 use Rattle.sms_party.specs.Sender.Value.{SenderValue, Did, puts_out, ended_with}
 use Rattle.sms_party.proofs.SenderParts.{is_some_number, is_none, no_packets}
 use Rattle.sms_party.proofs.SenderSteps.{carried_over, late, late_none, late_again, late_end}

@@ -2,7 +2,7 @@ use Rattle.std.proofs.Common.{◌≡◌, suc, ◌<◌, ◌-◌, true, not, lengt
 use Rattle.std.proofs.lemmas.Option.{slice_get_read}
 use Rattle.std.specs.List.{slice_get}
 use Rattle.sms_text.specs.Octets.{IsOctets}
-use Rattle.sms_party.specs.declared.outcome.Dropped.TheVariants.{Memory}
+use Rattle.sms_message.specs.declared.outcome.Dropped.TheVariants.{Memory}
 use Rattle.sms_script.specs.Transcript.Lines.{PacketValue}
 use Rattle.sms_world.specs.Machine.{Machine}
 use Rattle.sms_world.specs.Machine.Event.{Carry}

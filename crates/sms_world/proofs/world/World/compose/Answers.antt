@@ -4,7 +4,7 @@ use Rattle.std.proofs.lemmas.Str.{scalars-chars}
 use Rattle.sms_world.specs.Machine.Event.{Compose}
 use Rattle.sms_world.proofs.Characters.{text_is}
 use Rattle.sms_world.proofs.Happening.{composed, not_composed, composed_nowhere, ends_badly, badly_a_world, well_a_world, ends_well, puts_more, seen_still}
-use Rattle.sms_party.specs.declared.outcome.Dropped.TheVariants.{Memory}
+use Rattle.sms_message.specs.declared.outcome.Dropped.TheVariants.{Memory}
 use Rattle.sms_world.specs.World.Value.{WorldValue}
 use Rattle.sms_world.proofs.world.World.compose.Goals as goal
 

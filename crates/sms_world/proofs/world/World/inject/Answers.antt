@@ -3,7 +3,7 @@ use Rattle.sms_field.specs.OctetLists.{octets_are}
 use Rattle.sms_world.specs.World.Parties.{place_at}
 use Rattle.sms_world.specs.Machine.Event.{Inject}
 use Rattle.sms_world.proofs.Happening.{injected, injected_nowhere, ends_badly, badly_a_world, room, well_a_world, ends_well, puts_more, seen_still}
-use Rattle.sms_party.specs.declared.outcome.Dropped.TheVariants.{Memory}
+use Rattle.sms_message.specs.declared.outcome.Dropped.TheVariants.{Memory}
 use Rattle.sms_world.specs.World.Value.{WorldValue}
 use Rattle.sms_world.proofs.world.World.inject.Goals as goal
 

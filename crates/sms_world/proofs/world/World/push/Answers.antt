@@ -1,7 +1,7 @@
 use Rattle.std.proofs.Common.{◌<◌, ◌≤◌, false, length, Ok, Err, subst}
 use Rattle.sms_world.specs.Machine.Event.{Push}
 use Rattle.sms_world.proofs.Happening.{handed, handed_nowhere, ends_badly, badly_a_world, well_a_world, ends_well, puts_more, seen_still}
-use Rattle.sms_party.specs.declared.outcome.Dropped.TheVariants.{Memory}
+use Rattle.sms_message.specs.declared.outcome.Dropped.TheVariants.{Memory}
 use Rattle.sms_world.specs.World.Value.{WorldValue}
 use Rattle.sms_world.proofs.world.World.push.Goals as goal
 

@@ -1,0 +1,20 @@
+pub mod Keys
+pub mod HeldMaps
+pub mod Keeping
+pub mod Lines
+pub mod Queues
+pub mod Pushing
+pub mod Replies
+pub mod Taking
+pub mod Hearing
+pub mod Accepting
+pub mod Receiving
+pub mod Stamps
+pub mod Recipients
+pub mod NewCentre
+mod Rows
+pub mod Few
+pub mod Drops
+pub mod Holdings
+pub mod SameAddresses
+pub mod DeliveryKeys

@@ -1,0 +1,69 @@
+//! Messages that wait for their delivery.
+
+ghost use Rattle.std.specs.Prelude.{◌≡◌, IfOk};
+ghost use Rattle.sms_centre.specs.Centre.Lines.{delivery_of};
+
+use crate::centre::stamping::stamp_of;
+use sms_field::Address;
+use sms_tpdu::{Deliver, Submit};
+use std::alloc::{AllocError, Global};
+use std::marker::Model;
+
+/// The latest push to a phone.
+#[derive(Drop)]
+pub struct Push {
+    /// The TI value of its transaction, 0 to 6.
+    pub value: u8,
+    /// Its RP-Message Reference.
+    pub reference: u8,
+    /// The moment of its TP-SCTS, in seconds since the beginning of 2000.
+    pub stamp: u64,
+    /// The end of the message's validity (TP-VP), in seconds since the beginning of 2000.
+    pub ends: u64,
+}
+
+/// A message that is to be delivered.
+#[derive(Drop)]
+pub(crate) struct WaitingMessage {
+    pub origin: Address,
+    pub submission: Submit,
+    /// Below the first moment that has no stamp.
+    pub stamp: u64,
+    pub ends: u64,
+}
+
+impl Model for WaitingMessage {
+    ghost use Rattle.std.specs.Prelude.{◌<◌};
+    ghost use Rattle.sms_field.specs.Times.{end_of_2099};
+    ghost use Rattle.sms_centre.specs.Centre.Value.{WaitingValue};
+
+    ghost Value = { WaitingValue };
+
+    ghost view = { λ m. record {
+      origin = m.origin;
+      submission = m.submission;
+      stamp = m.stamp;
+      ends = m.ends;
+    } };
+
+    ghost invariant = { λ m. m.stamp < end_of_2099 };
+}
+
+impl WaitingMessage {
+    /// The message on its way to its recipient; `more` says whether another one waits.
+    pub(crate) fn delivery(&self, alloc: Global, more: bool) -> Result<Deliver, AllocError>
+        ensures { IfOk result (λ d. d ≡ delivery_of self.now more) }
+    {
+        Ok(Deliver {
+            more,
+            looped: false,
+            report: false,
+            reply: self.submission.reply,
+            origin: self.origin.copy(alloc)?,
+            pid: self.submission.pid,
+            dcs: self.submission.dcs,
+            stamp: stamp_of(self.stamp),
+            user: self.submission.user.copy(alloc)?,
+        })
+    }
+}

@@ -1,0 +1,11 @@
+//! The service centre.
+#![tactic(auto)]
+
+mod centre;
+mod laws;
+
+pub use centre::{Centre, Check, Ending, HeldKey, Push};
+pub use laws::{
+    centre_drops_put_nothing_out, centre_puts_few_out, deliveries_have_own_keys,
+    recipients_are_addressed, stamps_rise,
+};

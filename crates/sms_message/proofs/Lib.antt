@@ -1,0 +1,5 @@
+pub mod Read
+pub mod Replies
+pub mod Carrying
+pub mod OneMessage
+pub mod EachMessage

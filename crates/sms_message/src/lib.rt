@@ -1,0 +1,18 @@
+//! Messages between a phone and the service centre: what a packet carries, how octets are read, and
+//! what a party answers and puts out.
+#![tactic(auto)]
+
+pub mod failure_cause;
+mod laws;
+mod message;
+mod outcome;
+pub mod packets;
+mod reading;
+pub mod rp_cause;
+
+pub use laws::{
+    carried_messages_are_read, octets_are_read_as_a_message, octets_are_read_as_one_message,
+};
+pub use message::{Message, Relay, Report, Tag, TransferUnit};
+pub use outcome::{Dropped, Outcome, Step};
+pub use reading::read_message;

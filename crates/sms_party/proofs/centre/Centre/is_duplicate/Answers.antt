@@ -1,5 +1,0 @@
-use Rattle.std.proofs.Common.{rules}
-use Rattle.sms_party.proofs.centre.Centre.is_duplicate.Goals as goal
-
-pub returns-then-submission : goal.returns-then-submission
-returns-then-submission c = search rules

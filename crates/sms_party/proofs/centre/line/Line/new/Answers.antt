@@ -1,5 +1,0 @@
-use Rattle.std.proofs.Common.{rules}
-use Rattle.sms_party.proofs.centre.line.Line.new.Goals as goal
-
-pub returns : goal.returns
-returns c = search rules

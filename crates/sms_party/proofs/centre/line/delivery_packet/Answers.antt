@@ -1,7 +1,0 @@
-use Rattle.sms_tpdu.specs.Deliver.{SpellsDeliver}
-use Rattle.sms_tpdu.specs.SizeLaws.{deliver_within}
-use Rattle.sms_party.proofs.Short.{not_long}
-use Rattle.sms_party.proofs.centre.line.delivery_packet.Goals as goal
-
-pub wrapped-requires : goal.wrapped-requires
-wrapped-requires c = λ e. let h = c.wrap_transfer.ensures.too_long e in not_long SpellsDeliver deliver_within _ h.0 h.1 h.2

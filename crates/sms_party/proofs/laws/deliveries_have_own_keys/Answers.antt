@@ -1,5 +1,0 @@
-use Rattle.sms_party.proofs.DeliveryKeys as keys
-use Rattle.sms_party.proofs.laws.deliveries_have_own_keys.Goals as goal
-
-pub returns : goal.returns
-returns c = keys.deliveries_have_own_keys c.moments_come_back.ensures.zone_0
