@@ -9,7 +9,7 @@ use Rattle.sms_world.specs.Told.{Told}
 use Rattle.sms_world.specs.Machine.{start}
 use Rattle.sms_world.specs.Machine.Step.{Run}
 use Rattle.sms_world.specs.World.Value.{WorldValue}
-use Rattle.sms_world.specs.World.Steps.{event_of, Steps, told_past, Runs}
+use Rattle.sms_world.specs.World.Steps.{event_of, Steps, told_past, Runs, GoesOn}
 
 -- one event more is the newest
 told_more : (events : List script.Event) (told : List Told) (e : script.Event) (t : Told) → length told ≡ length events → told_past (events ++ e ∷ []) (told ++ t ∷ []) ≡ (event_of e, t) ∷ told_past events told
@@ -42,3 +42,6 @@ runs_on limits phones events n e told t old new there size steps r =
     let past : (event_of e, t) ∷ told_past (take n events) told ≡ told_past (take (n + 1) events) (told ++ t ∷ []) =
     sym (told_more (take n events) told e t same) ∙ ap (λ l. told_past l (told ++ t ∷ [])) taken in
     (sizes, (s.1, subst (λ p. Run (start limits phones) p s.1) past (r.1.0, r.1.1, tt, (s.0, s.2)), s.3))
+
+pub goes_at_first : (events : List script.Event) (told : List Told) (world : WorldValue) → told ≡ [] → GoesOn (take 0 events) told world world
+goes_at_first events told world none = subst (λ t. GoesOn (take 0 events) t world world) (sym none) (λ limits phones stands. (refl, (start limits phones, refl, stands)))

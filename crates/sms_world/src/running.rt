@@ -6,7 +6,7 @@ ghost use Rattle.sms_script.specs.Script.Limits.{AreLimits};
 ghost use Rattle.sms_world.specs.Headline.Refused.{RefusedOnlyWhereFull};
 ghost use Rattle.sms_world.specs.World.Claims.{StoresAreWhole, AcceptsOnce};
 ghost use Rattle.sms_world.specs.World.Claims.{AcceptedWereAccepted, CopiesMayComeInTime};
-ghost use Rattle.sms_world.specs.World.Steps.{Runs};
+ghost use Rattle.sms_world.specs.World.Steps.{Runs, GoesOn};
 
 use crate::fault::WorldFault;
 use crate::laws::{claims_hold, deliveries_are_refused_only_where_full};
@@ -41,9 +41,27 @@ pub fn run(
     claims_hold();
     deliveries_are_refused_only_where_full();
     let mut world = World::new(alloc, limits, phones)?;
+    match let_happen(alloc, &mut world, events) {
+        Ok(answers) => Ok((world, answers)),
+        Err(error) => {
+            drop(world);
+            Err(error)
+        }
+    }
+}
+
+/// Lets these events happen in a world, one after another, and answers what each has answered.
+fn let_happen(
+    alloc: Global,
+    world: &mut World,
+    events: &[Event],
+) -> Result<Vec<Result<Outcome, WorldFault>>, AllocError>
+    ensures goes { IfOk result (λ answers. GoesOn events.now answers.items world.old world.new) }
+    ensures phones { length world.new.parties.phones ≡ length world.old.parties.phones }
+{
     let mut answers = Vec::with_capacity(alloc, events.len())?;
     for event in events {
         answers.push(world.step(event))?;
     }
-    Ok((world, answers))
+    Ok(answers)
 }

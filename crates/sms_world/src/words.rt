@@ -1,7 +1,9 @@
 //! The words of a transcript.
 
-ghost use Rattle.std.specs.Prelude.{◌≡◌, IfOk, Result};
+ghost use Rattle.std.specs.Prelude.{◌≡◌, IfOk, Result, codes, decimal};
 ghost use Rattle.std.specs.String.{string_bytes};
+ghost use Rattle.sms_message.specs.declared.outcome.Outcome.TheVariants.{Segment, Failed, Refused};
+ghost use Rattle.sms_script.specs.Transcript.Appended.{◌⊕◌};
 ghost use Rattle.sms_world.specs.Words.{failure_text, outcome_text, dropped_text, fault_text, told_text, status_text};
 
 use crate::fault::WorldFault;
@@ -19,41 +21,71 @@ fn failure_text(alloc: Global, failure: Option<u8>) -> Result<String, AllocError
     }
 }
 
+/// Words, and after them the number of a text.
+fn numbered_text(alloc: Global, words: &str, text: usize) -> Result<String, AllocError>
+    ensures { IfOk result (λ s. string_bytes s ≡ words.now ⊕ codes " " ⊕ decimal text) }
+{
+    format!(in alloc; "{words} {text}")
+}
+
+/// Which segment of a text was accepted, in words.
+fn segment_text(alloc: Global, text: usize, segment: usize) -> Result<String, AllocError>
+    ensures { IfOk result (λ s. string_bytes s ≡ outcome_text (Segment text segment)) }
+{
+    format!(in alloc; "segment {text} {segment}")
+}
+
+/// Which text an RP-ERROR has ended, and why, in words.
+fn failed_text(
+    alloc: Global,
+    text: usize,
+    cause: u8,
+    failure: Option<u8>,
+) -> Result<String, AllocError>
+    ensures { IfOk result (λ s. string_bytes s ≡ outcome_text (Failed text cause failure)) }
+{
+    let failure = failure_text(alloc, failure)?;
+    format!(in alloc; "failed {text} {cause} {failure}")
+}
+
+/// Why a party refused what came, in words.
+fn refused_text(alloc: Global, cause: u8, failure: Option<u8>) -> Result<String, AllocError>
+    ensures { IfOk result (λ s. string_bytes s ≡ outcome_text (Refused cause failure)) }
+{
+    let failure = failure_text(alloc, failure)?;
+    format!(in alloc; "refused {cause} {failure}")
+}
+
 /// What a party did, in words.
 fn outcome_text(alloc: Global, outcome: Outcome) -> Result<String, AllocError>
     ensures { IfOk result (λ s. string_bytes s ≡ outcome_text outcome) }
 {
-    match outcome {
-        Outcome::Typed { text } => format!(in alloc; "typed {text}"),
-        Outcome::Segment { text, segment } => format!(in alloc; "segment {text} {segment}"),
-        Outcome::Accepted { text } => format!(in alloc; "accepted {text}"),
+    let words = match outcome {
+        Outcome::Typed { text } => return numbered_text(alloc, "typed", text),
+        Outcome::Segment { text, segment } => return segment_text(alloc, text, segment),
+        Outcome::Accepted { text } => return numbered_text(alloc, "accepted", text),
         Outcome::Failed {
             text,
             cause,
             failure,
-        } => {
-            let failure = failure_text(alloc, failure)?;
-            format!(in alloc; "failed {text} {cause} {failure}")
-        }
-        Outcome::Repeated { text } => format!(in alloc; "repeated {text}"),
-        Outcome::GaveUp { text } => format!(in alloc; "gave up {text}"),
-        Outcome::Idle => "idle".to_string(alloc),
-        Outcome::Held => "held".to_string(alloc),
-        Outcome::Refused { cause, failure } => {
-            let failure = failure_text(alloc, failure)?;
-            format!(in alloc; "refused {cause} {failure}")
-        }
-        Outcome::Pushed => "pushed".to_string(alloc),
-        Outcome::NothingWaits => "nothing waits".to_string(alloc),
-        Outcome::Delivered => "delivered".to_string(alloc),
-        Outcome::Returned => "returned".to_string(alloc),
-        Outcome::Abandoned => "abandoned".to_string(alloc),
-        Outcome::Finished => "finished".to_string(alloc),
-        Outcome::Kept => "kept".to_string(alloc),
-        Outcome::Repeat => "repeat".to_string(alloc),
-        Outcome::Ticked => "ticked".to_string(alloc),
-        Outcome::Noted => "noted".to_string(alloc),
-    }
+        } => return failed_text(alloc, text, cause, failure),
+        Outcome::Repeated { text } => return numbered_text(alloc, "repeated", text),
+        Outcome::GaveUp { text } => return numbered_text(alloc, "gave up", text),
+        Outcome::Idle => "idle",
+        Outcome::Held => "held",
+        Outcome::Refused { cause, failure } => return refused_text(alloc, cause, failure),
+        Outcome::Pushed => "pushed",
+        Outcome::NothingWaits => "nothing waits",
+        Outcome::Delivered => "delivered",
+        Outcome::Returned => "returned",
+        Outcome::Abandoned => "abandoned",
+        Outcome::Finished => "finished",
+        Outcome::Kept => "kept",
+        Outcome::Repeat => "repeat",
+        Outcome::Ticked => "ticked",
+        Outcome::Noted => "noted",
+    };
+    words.to_string(alloc)
 }
 
 /// Why a party dropped what came, in words.

@@ -58,6 +58,12 @@ Runs limits phones events told world =
     (length told ≡ length events)
     × ((m : Machine) × Run (start limits phones) (told_past events told) m × StandsFor world m)
 
+-- Where the old world stands for the first state of these limits and phones, there is a run from it
+-- to the new one.
+abbrev pub GoesOn : List script.Event → List Told → WorldValue → WorldValue → Type 0
+GoesOn events told old new = (limits : Limits) → (phones : List AddressValue)
+    → StandsFor old (start limits phones) → Runs limits phones events told new
+
 -- The k-th packet carries the k-th message, if as many were put out, in each state that the world
 -- stands for.
 abbrev pub IsOctetsOf : Option Sent → Option (List ℕ) → Type 0

@@ -84,9 +84,10 @@ impl Parties {
         ensures stand { IfOk result (λ parties. PartiesStand parties (start limits phones.now)) }
         ensures count { IfOk result (λ parties. length parties.phones ≡ length phones.now) }
     {
+        let all = new_phones(alloc, limits, phones.len())?;
         Ok(Parties {
             centre: Centre::new(alloc, limits.held, phones)?,
-            phones: new_phones(alloc, limits, phones.len())?,
+            phones: all,
         })
     }
 

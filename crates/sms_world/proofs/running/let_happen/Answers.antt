@@ -1,0 +1,24 @@
+use Rattle.std.proofs.Common.{◌+◌, length, ap, subst, ◌∙◌, refl}
+use Rattle.std.proofs.lemmas.List.{length_push, take_all}
+use Rattle.std.proofs.lemmas.Option.{slice_get_read}
+use Rattle.sms_world.specs.World.Steps.{GoesOn}
+use Rattle.sms_world.proofs.OneAfterAnother.{runs_on, goes_at_first}
+use Rattle.sms_world.proofs.running.let_happen.Goals as goal
+
+pub loop-event-init : goal.loop-event-init
+loop-event-init c =
+    (ap length c.in_ok-answers.ensures.items, goes_at_first c.args.events.now c.in_ok-answers.answers.items c.args.world.now c.in_ok-answers.ensures.items, refl)
+
+pub loop-event-preserved : goal.loop-event-preserved
+loop-event-preserved c =
+    let inv = c.loop-event.invariant in
+    let n = c.loop-event.event-index in
+    let there = slice_get_read c.args.events.now (length c.args.events.now) n c.event-item.result refl c.loop-event-test.true c.event-item.is in (
+      rw c.in_ok-push.ensures.items (length_push c.loop-event.answers.items c.step.result ∙ ap (λ k. k + 1) inv.0),
+      rw c.in_ok-push.ensures.items (λ limits phones stands. runs_on limits phones c.args.events.now n c.event-item.result c.loop-event.answers.items c.step.result c.loop-event.world c.step.new.self there inv.0 c.step.ensures.steps (inv.1 limits phones stands)),
+      c.step.ensures.phones ∙ inv.2,
+    )
+
+pub returns-clause-goes : goal.returns-clause-goes
+returns-clause-goes c =
+    subst (λ es. GoesOn es c.loop-event.answers.items c.args.world.now c.loop-event.world) (take_all c.loop-event.event-index c.args.events.now c.loop-event-test.false) c.loop-event.invariant.1

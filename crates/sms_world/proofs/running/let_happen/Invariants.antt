@@ -1,0 +1,8 @@
+use Rattle.std.proofs.Common.{◌≡◌, length, take}
+use Rattle.sms_world.specs.World.Steps.{GoesOn}
+use Rattle.sms_world.proofs.running.let_happen.Given as goal
+
+abbrev pub invariant-loop-event : goal.invariant-loop-event
+invariant-loop-event l =
+    (length l.answers.items ≡ l.event-index) × GoesOn (take l.event-index l.events) l.answers.items l.fn.world l.world
+    × (length l.world.parties.phones ≡ length l.fn.world.parties.phones)
