@@ -1,6 +1,6 @@
 //! The sending phone.
 
-ghost use Rattle.std.specs.Prelude.{◌≡◌, ◌<◌, ◌≤◌, All, Some, IfOk, IfErr, OnErr, length, List, ◌++◌, option_to_list, slice_get};
+ghost use Rattle.std.specs.Prelude.{◌≡◌, ◌<◌, ◌≤◌, All, Some, IfOk, IfErr, OnErr, length, List, ◌∷◌, [], ◌++◌, option_to_list, slice_get};
 ghost use Rattle.std.specs.Str.{chars};
 ghost use Rattle.sms_join.specs.SegmentUser.{IsSendable};
 ghost use Rattle.sms_message.specs.Message.Reading.{HasTag};
@@ -151,6 +151,23 @@ fn packets_of(
     }
 }
 
+/// Adds a text to those that wait. If memory runs out, they are as before.
+fn add(pending: &mut VecDeque<TypedText>, text: TypedText) -> Result<(), AllocError>
+    ensures added { IfOk result (λ _. pending.new.items ≡ pending.old.items ++ text ∷ []) }
+    ensures refused { OnErr result (pending.new.items ≡ pending.old.items) }
+{
+    match pending.reserve(1) {
+        Ok(()) => {
+            pending.push_back_reserved(text);
+            Ok(())
+        }
+        Err(error) => {
+            drop(text);
+            Err(error)
+        }
+    }
+}
+
 impl Sender {
     /// A phone that has typed nothing. Its concatenation references have this width, and with
     /// `reject` each submission asks to reject duplicates, else only a repeated one.
@@ -235,14 +252,28 @@ impl Sender {
         ensures did { Did (enters self.old text) self.old result self.new }
         ensures refused { OnErr result (self.new ≡ self.old) }
     {
+        match self.first_packets(&text) {
+            Ok(packets) => self.append(text, packets),
+            Err(why) => {
+                drop(text);
+                Err(why)
+            }
+        }
+    }
+
+    /// Puts a text after those that wait, with the packets of its first segment.
+    fn append(&mut self, text: TypedText, packets: Vec<Vec<u8>>) -> Result<Step, Dropped>
+        requires { length text.segments ≤ 255 }
+        ensures did { CarriesAll packets (first_put self.old text)
+            → Did (enters self.old text) self.old result self.new }
+        ensures refused { OnErr result (self.new ≡ self.old) }
+    {
         let number = self.ended.len() + self.pending.len() + 1;
         let size = text.segments.len();
-        let packets = self.first_packets(&text)?;
         let is_out = !packets.is_empty();
-        self.pending.reserve(1)?;
+        add(&mut self.pending, text)?;
         self.message_reference = self.message_reference.wrapping_add(size as u8);
         self.set_reference = next_set(self.width, size, self.set_reference);
-        self.pending.push_back_reserved(text);
         self.count(is_out);
         let outcome = Outcome::Typed { text: number };
         Ok(Step { outcome, packets })
@@ -478,7 +509,7 @@ impl Sender {
         let is_out = submission.is_some();
         let packets = packets_of(self.alloc, note, submission)?;
         self.ended.reserve(1)?;
-        let _ended = self.pending.pop_front();
+        drop(self.pending.pop_front());
         self.ended.push_reserved(status);
         self.accepted = 0;
         self.repeats = 0;

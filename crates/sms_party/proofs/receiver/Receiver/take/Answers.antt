@@ -1,9 +1,9 @@
-use Rattle.std.proofs.Common.{◌≡◌, sym, ap, subst, ◌∙◌, Err}
+use Rattle.std.proofs.Common.{sym, ap, subst, ◌∙◌, Err}
 use Rattle.sms_message.specs.declared.outcome.Dropped.TheVariants.{Unmatched}
 use Rattle.sms_message.specs.declared.message.Message.{Message}
 use Rattle.sms_message.specs.declared.message.Message.TheVariants.{Data}
 use Rattle.sms_party.specs.Receiver.{receiver_receives}
-use Rattle.sms_party.specs.Receiver.Standing.{ReceiverAnswers, Steps}
+use Rattle.sms_party.specs.Receiver.Standing.{ReceiverAnswers}
 use Rattle.sms_party.proofs.Storing.{nothing_comes}
 use Rattle.sms_party.proofs.receiver.Receiver.take.Goals as goal
 
