@@ -165,9 +165,11 @@ pub fn read_message(alloc: Global, octets: &[u8]) -> Result<Message, Dropped>
     let flag = connection.flag;
     let value = connection.value;
     let CpBody::Transfer(user) = connection.body else {
+        drop(inner);
         return Ok(Message::Note { flag, value });
     };
     let [_, reference, ..] = user.as_slice() else {
+        drop(inner);
         return Ok(Message::Tiny { flag, value });
     };
     let tag = Tag {
