@@ -61,7 +61,7 @@ fn let_happen(
 {
     let mut answers = Vec::with_capacity(alloc, events.len())?;
     for event in events {
-        answers.push(world.step(event))?;
+        answers.push_reserved(world.step(event));
     }
     Ok(answers)
 }

@@ -59,14 +59,14 @@ fn new_phones(alloc: Global, limits: Limits, count: usize) -> Result<Vec<Phone>,
     let width = width_by(limits.wide);
     let mut phones = Vec::with_capacity(alloc, count)?;
     for _ in 0..count {
-        phones.push(Phone::new(
+        phones.push_reserved(Phone::new(
             alloc,
             limits.open_max,
             limits.remembered,
             limits.store,
             width,
             limits.reject,
-        )?)?;
+        )?);
     }
     Ok(phones)
 }

@@ -1,4 +1,5 @@
 use Rattle.std.proofs.Common.{◌≡◌, length, take}
+use Rattle.std.specs.Vec.{vec_len, vec_capacity}
 use Rattle.sms_world.specs.World.Steps.{GoesOn}
 use Rattle.sms_world.proofs.running.let_happen.Given as goal
 
@@ -6,3 +7,4 @@ abbrev pub invariant-loop-event : goal.invariant-loop-event
 invariant-loop-event l =
     (length l.answers.items ≡ l.event-index) × GoesOn (take l.event-index l.events) l.answers.items l.fn.world l.world
     × (length l.world.parties.phones ≡ length l.fn.world.parties.phones)
+    × (vec_len l.answers ≡ l.event-index) × (vec_capacity l.answers ≡ length l.events)
