@@ -350,7 +350,8 @@ impl Sender {
     /// Takes a message that is lent.
     fn take_lent(&mut self, message: &Message) -> Result<Step, Dropped>
         requires tag { HasTag message.now }
-        ensures steps { Steps (λ x phone. sender_takes x phone message.now) self.old result self.new }
+        ensures steps { Steps (λ x phone. sender_takes x phone message.now)
+            self.old result self.new }
         ensures refused { OnErr result (self.new ≡ self.old) }
     {
         match message {
