@@ -1,7 +1,8 @@
 //! Octets and words, and what the command answers to them.
 
 use sms_command::command;
-use std::alloc::Global;
+use std::alloc::{AllocError, Global};
+use std::fmt::Debug;
 use std::process::Abort;
 use std::test::Fail;
 
@@ -20,6 +21,11 @@ pub struct AfterCentre {
     pub answer: &'static str,
 }
 
+/// What is said of the row is so.
+pub fn holds(rt: &impl Abort, row: &impl Debug, so: bool) {
+    assert!(rt; so, "{row:?}");
+}
+
 /// The status and the whole output.
 pub fn answer_to(alloc: Global, words: &[&str]) -> Result<(u8, String), Fail> {
     let mut input = b"".as_slice();
@@ -33,6 +39,18 @@ pub fn says(answer: &str, part: &str) -> bool {
     answer.contains(part)
 }
 
+/// Whether words have a status, and this as their whole answer.
+pub fn answers(alloc: Global, words: &[&str], wanted: u8, lines: &str) -> Result<bool, Fail> {
+    let (status, answer) = answer_to(alloc, words)?;
+    Ok(status == wanted && answer.as_str() == lines)
+}
+
+/// Whether words have a status, and this part in their answer.
+pub fn answers_with(alloc: Global, words: &[&str], wanted: u8, part: &str) -> Result<bool, Fail> {
+    let (status, answer) = answer_to(alloc, words)?;
+    Ok(status == wanted && says(&answer, part))
+}
+
 /// Whether octets as a kind have a status and an answer.
 pub fn is_answered(
     alloc: Global,
@@ -41,8 +59,7 @@ pub fn is_answered(
     lines: &str,
     wanted: u8,
 ) -> Result<bool, Fail> {
-    let (status, answer) = answer_to(alloc, &["sms", "show", kind, octets])?;
-    Ok(status == wanted && answer.as_str() == lines)
+    answers(alloc, &["sms", "show", kind, octets], wanted, lines)
 }
 
 /// The octets of each row as a kind have a status, and its lines as their answer.
@@ -55,15 +72,15 @@ pub fn are_answered(
 ) -> Result<(), Fail> {
     for row in rows {
         let answered = is_answered(alloc, kind, row.octets, row.lines, status)?;
-        assert!(rt; answered, "{kind} {}", row.octets);
+        holds(rt, &(kind, row.octets), answered);
     }
     Ok(())
 }
 
 /// Whether octets that begin with a centre have the status and the answer of a row.
 fn is_answered_after_a_centre(alloc: Global, row: &AfterCentre) -> Result<bool, Fail> {
-    let (status, answer) = answer_to(alloc, &["sms", "show", "--sca", row.kind, row.octets])?;
-    Ok(status == row.status && answer.as_str() == row.answer)
+    let words = ["sms", "show", "--sca", row.kind, row.octets];
+    answers(alloc, &words, row.status, row.answer)
 }
 
 /// The octets of each row, which begin with a centre, have its status and its answer.
@@ -74,13 +91,18 @@ pub fn are_answered_after_a_centre(
 ) -> Result<(), Fail> {
     for row in rows {
         let answered = is_answered_after_a_centre(alloc, row)?;
-        assert!(rt; answered, "{} {}", row.kind, row.octets);
+        holds(rt, &(row.kind, row.octets), answered);
     }
     Ok(())
 }
 
+/// What is said of octets that are short at a place.
+fn short_at(alloc: Global, place: usize) -> Result<String, AllocError> {
+    format!(in alloc; "at {place}: short\n")
+}
+
 /// Whether a front of the octets of a unit is refused as short at its end.
 pub fn is_missed(alloc: Global, kind: &str, front: &str) -> Result<bool, Fail> {
-    let line = format!(in alloc; "at {}: short\n", front.len() / 2)?;
+    let line = short_at(alloc, front.len() / 2)?;
     is_answered(alloc, kind, front, &line, 1)
 }

@@ -2,6 +2,7 @@
 
 mod rows;
 
+use crate::found::holds;
 use crate::splits::expanded;
 use rows::{
     AT_THE_CENTRE, IN_SEGMENTS, INJECTED, PHONES, Played, STORED, UNANSWERED, WAY, WAY_TOLD,
@@ -52,22 +53,34 @@ fn put_line(events: &mut String, line: &str) -> Result<(), AllocError> {
     }
 }
 
+/// Adds the lines of a transcript, and a line feed.
+fn put_events(events: &mut String, transcript: &str) -> Result<(), AllocError> {
+    for line in transcript.lines() {
+        put_line(events, line)?;
+    }
+    events.push('\n')
+}
+
 /// The lines of a transcript with the numbers of packets at the end of their event's line, each
 /// between line feeds.
-fn events_in(alloc: Global, transcript: &str) -> Result<String, Fail> {
+fn events_in(alloc: Global, transcript: &str) -> Result<String, AllocError> {
     let mut events = String::new(alloc);
-    for line in transcript.lines() {
-        put_line(&mut events, line)?;
-    }
-    events.push('\n')?;
+    put_events(&mut events, transcript)?;
     Ok(events)
+}
+
+/// Whether a text stands there between line feeds.
+fn has_between(alloc: Global, lines: &str, text: &str) -> Result<bool, AllocError> {
+    let between = ["\n", text, "\n"].concat(alloc)?;
+    Ok(lines.contains(between.as_str()))
 }
 
 /// Whether lines stand there, from the beginning of one line to the end of another.
 fn has_lines(alloc: Global, lines: &str, wanted: &str) -> Result<bool, Fail> {
     let wanted = expanded(alloc, wanted)?;
-    let between = ["\n", &wanted, "\n"].concat(alloc)?;
-    Ok(lines.contains(between.as_str()))
+    let stand = has_between(alloc, lines, &wanted);
+    drop(wanted);
+    Ok(stand?)
 }
 
 /// Whether all these lines stand there.
@@ -83,24 +96,45 @@ fn have_lines(alloc: Global, lines: &str, wanted: &[&str]) -> Result<bool, Fail>
 /// The script of a row, after its phones.
 fn script_of(alloc: Global, row: &Played) -> Result<String, Fail> {
     let script = expanded(alloc, row.script)?;
-    Ok([PHONES, &script].concat(alloc)?)
+    let whole = [PHONES, &script].concat(alloc);
+    drop(script);
+    Ok(whole?)
+}
+
+/// The status and the whole output where the input is the script of a row.
+fn playing_of_row(alloc: Global, row: &Played) -> Result<(u8, String), Fail> {
+    let script = script_of(alloc, row)?;
+    let played = playing_of(alloc, &script);
+    drop(script);
+    played
+}
+
+/// Whether a transcript says all that a row wants of events.
+fn has_events(alloc: Global, transcript: &str, row: &Played) -> Result<bool, Fail> {
+    let events = events_in(alloc, transcript)?;
+    let told = have_lines(alloc, &events, row.says);
+    drop(events);
+    told
+}
+
+/// Whether a transcript says all that a row wants.
+fn has_all(alloc: Global, transcript: &str, row: &Played) -> Result<bool, Fail> {
+    Ok(has_events(alloc, transcript, row)? && have_lines(alloc, transcript, row.packets)?)
 }
 
 /// Whether the transcript of a row's script says all that the row wants.
 fn is_played(alloc: Global, row: &Played) -> Result<bool, Fail> {
-    let script = script_of(alloc, row)?;
-    let (status, transcript) = playing_of(alloc, &script)?;
-    let events = events_in(alloc, &transcript)?;
-    let told = have_lines(alloc, &events, row.says)?;
-    let sent = have_lines(alloc, &transcript, row.packets)?;
-    Ok(status == 0 && told && sent)
+    let (status, transcript) = playing_of_row(alloc, row)?;
+    let told = has_all(alloc, &transcript, row);
+    drop(transcript);
+    Ok(told? && status == 0)
 }
 
 /// The script of each row is played, and its transcript says all that the row wants.
 fn are_played(rt: &impl Abort, alloc: Global, rows: &[Played]) -> Result<(), Fail> {
     for row in rows {
         let played = is_played(alloc, row)?;
-        assert!(rt; played, "{}", row.script);
+        holds(rt, &row.script, played);
     }
     Ok(())
 }
@@ -140,7 +174,7 @@ fn is_whole(alloc: Global, row: &Whole) -> Result<bool, Fail> {
 fn plays_whole_scripts(rt: HostRuntime) -> Result<(), Fail> {
     for row in WHOLES.as_slice() {
         let played = is_whole(rt.alloc(), row)?;
-        assert!(rt; played, "{}", row.script);
+        holds(&rt, &row.script, played);
     }
     Ok(())
 }
@@ -170,35 +204,50 @@ impl Read for Breaks<'_> {
 /// How much of a transcript stands before the line that begins so.
 fn front_before<'a>(alloc: Global, transcript: &'a str, line: &str) -> Result<&'a str, Fail> {
     let begin = ["\n", line].concat(alloc)?;
-    match transcript.find(begin.as_str()) {
+    let found = transcript.find(begin.as_str());
+    drop(begin);
+    match found {
         Some(place) => Ok(transcript.get(..place + 1).ok_or("no front")?),
         None => Ok(""),
     }
 }
 
 /// How the line begins that is told after as many lines of the script.
-fn line_after(alloc: Global, lines: usize) -> Result<String, Fail> {
+fn line_after(alloc: Global, lines: usize) -> Result<String, AllocError> {
     match lines {
-        8 => Ok("sent".to_string(alloc)?),
-        _ => Ok(format!(in alloc; "{} ", lines.saturating_sub(1))?),
+        8 => "sent".to_string(alloc),
+        _ => format!(in alloc; "{} ", lines.saturating_sub(1)),
     }
 }
 
 /// What is told where a read fails after as many lines.
 fn told_before(alloc: Global, lines: usize) -> Result<String, Fail> {
     let next = line_after(alloc, lines)?;
-    let told = front_before(alloc, WAY_TOLD, &next)?;
-    Ok([told, "read failed\n"].concat(alloc)?)
+    let told = front_before(alloc, WAY_TOLD, &next);
+    drop(next);
+    Ok([told?, "read failed\n"].concat(alloc)?)
+}
+
+/// The status and the whole output where no more than a front is read.
+fn playing_of_front(alloc: Global, front: &str) -> Result<(u8, String), Fail> {
+    let mut input = Breaks {
+        octets: front.as_bytes(),
+    };
+    playing_from(alloc, &mut input)
+}
+
+/// Whether an output is what is told where a read fails after as many lines.
+fn is_told_before(alloc: Global, output: &str, lines: usize) -> Result<bool, Fail> {
+    let wanted = told_before(alloc, lines)?;
+    Ok(output == wanted.as_str())
 }
 
 /// Whether the lines of a front are told where no more is read.
 fn is_told(alloc: Global, front: &str) -> Result<bool, Fail> {
-    let mut input = Breaks {
-        octets: front.as_bytes(),
-    };
-    let (status, output) = playing_from(alloc, &mut input)?;
-    let wanted = told_before(alloc, front.matches('\n').count())?;
-    Ok(status == 3 && output == wanted)
+    let (status, output) = playing_of_front(alloc, front)?;
+    let told = is_told_before(alloc, &output, front.matches('\n').count());
+    drop(output);
+    Ok(told? && status == 3)
 }
 
 #[test]
@@ -206,7 +255,7 @@ fn tells_the_lines_before_a_read_that_fails(rt: HostRuntime) -> Result<(), Fail>
     for count in 0..=WAY.len() {
         let front = WAY.get(..count).ok_or("no front")?;
         let told = is_told(rt.alloc(), front)?;
-        assert!(rt; told, "{count}");
+        holds(&rt, &count, told);
     }
     Ok(())
 }
@@ -227,7 +276,7 @@ fn is_filled(alloc: Global, room: usize) -> bool {
 fn plays_until_the_output_is_full(rt: HostRuntime) -> Result<(), Fail> {
     for room in 0..WAY_TOLD.len() {
         let filled = is_filled(rt.alloc(), room);
-        assert!(rt; filled, "{room}");
+        holds(&rt, &room, filled);
     }
     Ok(())
 }

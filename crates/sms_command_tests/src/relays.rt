@@ -2,7 +2,7 @@
 
 mod rows;
 
-use crate::found::{AfterCentre, answer_to, are_answered, is_missed};
+use crate::found::{AfterCentre, answers, are_answered, holds, is_missed};
 use rows::{
     ACKNOWLEDGEMENTS, CP_AFTER_CENTRES, CP_DATA_OF_ANSWERS, CP_DATA_OF_TRANSFERS, CP_WITHOUT_DATA,
     DATA_FROM_PHONES, DATA_TO_PHONES, ERRORS, FAULTS_IN_ANSWERS, FAULTS_IN_TRANSFERS,
@@ -98,7 +98,7 @@ fn are_missed(rt: &impl Abort, alloc: Global, row: &WholeMessage) -> Result<(), 
     for place in 0..row.octets.len() / 2 {
         let front = row.octets.get(..2 * place).ok_or("no front")?;
         let missed = is_missed(alloc, row.kind, front)?;
-        assert_eq!(rt; missed, place != row.end, "{} {front}", row.kind);
+        holds(rt, &(row.kind, front), missed == (place != row.end));
     }
     Ok(())
 }
@@ -114,8 +114,8 @@ fn misses_each_octet_of_a_message(rt: HostRuntime) -> Result<(), Fail> {
 /// Whether octets that begin with a centre have the status and the answer of a row, the option
 /// last.
 fn is_answered_after_a_centre(alloc: Global, row: &AfterCentre) -> Result<bool, Fail> {
-    let (status, answer) = answer_to(alloc, &["sms", "show", row.kind, row.octets, "--sca"])?;
-    Ok(status == row.status && answer.as_str() == row.answer)
+    let words = ["sms", "show", row.kind, row.octets, "--sca"];
+    answers(alloc, &words, row.status, row.answer)
 }
 
 /// The octets of each row, which begin with a centre, have its status and its answer.
@@ -126,7 +126,7 @@ fn are_answered_after_a_centre(
 ) -> Result<(), Fail> {
     for row in rows {
         let answered = is_answered_after_a_centre(alloc, row)?;
-        assert!(rt; answered, "{} {}", row.kind, row.octets);
+        holds(rt, &(row.kind, row.octets), answered);
     }
     Ok(())
 }

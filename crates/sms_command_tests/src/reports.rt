@@ -2,7 +2,7 @@
 
 mod rows;
 
-use crate::found::{are_answered_after_a_centre, is_answered, is_missed};
+use crate::found::{are_answered_after_a_centre, holds, is_answered, is_missed};
 use rows::{
     CAUSES, DELIVER_ACK_LENGTHS, DELIVER_ACKS, DELIVER_COMBINATIONS, DELIVER_ERROR_LENGTHS,
     DELIVER_ERRORS, DELIVER_REPORTS_AFTER_CENTRES, Data, NO_DELIVER_REPORTS, NO_SUBMIT_REPORTS,
@@ -10,7 +10,7 @@ use rows::{
     SUBMIT_ERRORS, SUBMIT_REPORTS_AFTER_CENTRES, TOO_LONG_DELIVER_ACKS, TOO_LONG_DELIVER_ERRORS,
     TOO_LONG_SUBMIT_ACKS, TOO_LONG_SUBMIT_ERRORS, WHOLE_REPORTS, WholeReport,
 };
-use std::alloc::Global;
+use std::alloc::{AllocError, Global};
 use std::process::Abort;
 use std::test::Fail;
 
@@ -18,7 +18,7 @@ use std::test::Fail;
 fn are_answered(rt: &impl Abort, alloc: Global, rows: &[Report], status: u8) -> Result<(), Fail> {
     for row in rows {
         let answered = is_answered(alloc, row.kind, row.octets, row.answer, status)?;
-        assert!(rt; answered, "{} {}", row.kind, row.octets);
+        holds(rt, &(row.kind, row.octets), answered);
     }
     Ok(())
 }
@@ -89,29 +89,50 @@ fn refuses_too_long_data_in_deliver_errors(rt: HostRuntime) -> Result<(), Fail> 
 }
 
 /// The lines of a report, with that of its data, `-` where there are none.
-fn lines_with(alloc: Global, before: &str, data: &str) -> Result<String, Fail> {
+fn lines_with(alloc: Global, before: &str, data: &str) -> Result<String, AllocError> {
     let shown = if data.is_empty() { "-" } else { data };
-    Ok([before, "user: ", shown, "\n"].concat(alloc)?)
+    [before, "user: ", shown, "\n"].concat(alloc)
 }
 
 /// The octets of a report, with its length and its data.
-fn octets_with(alloc: Global, before: &str, length: &str, data: &str) -> Result<String, Fail> {
-    Ok([before, length, data].concat(alloc)?)
+fn octets_with(
+    alloc: Global,
+    before: &str,
+    length: &str,
+    data: &str,
+) -> Result<String, AllocError> {
+    [before, length, data].concat(alloc)
+}
+
+/// Whether the octets of a report with these data are shown with them.
+fn is_shown_with(alloc: Global, row: &Data, octets: &str, data: &str) -> Result<bool, Fail> {
+    let lines = lines_with(alloc, row.lines, data)?;
+    let shown = is_answered(alloc, row.kind, octets, &lines, 0);
+    drop(lines);
+    shown
+}
+
+/// Whether a report with these data is shown with them.
+fn has_these(alloc: Global, row: &Data, data: &str) -> Result<bool, Fail> {
+    let octets = octets_with(alloc, row.front, row.length, data)?;
+    let shown = is_shown_with(alloc, row, &octets, data);
+    drop(octets);
+    shown
 }
 
 /// Whether a report with data of a number of octets is shown with them.
 fn has_data(alloc: Global, row: &Data) -> Result<bool, Fail> {
     let data = "A5".repeat(alloc, row.count)?;
-    let octets = octets_with(alloc, row.front, row.length, &data)?;
-    let lines = lines_with(alloc, row.lines, &data)?;
-    is_answered(alloc, row.kind, &octets, &lines, 0)
+    let shown = has_these(alloc, row, &data);
+    drop(data);
+    shown
 }
 
 /// The reports of each row are shown with their data.
 fn have_data(rt: &impl Abort, alloc: Global, rows: &[Data]) -> Result<(), Fail> {
     for row in rows {
         let shown = has_data(alloc, row)?;
-        assert!(rt; shown, "{} {} {}", row.kind, row.front, row.length);
+        holds(rt, &(row.kind, row.front, row.length), shown);
     }
     Ok(())
 }
@@ -141,7 +162,7 @@ fn are_missed(rt: &impl Abort, alloc: Global, row: &WholeReport) -> Result<(), F
     for place in 0..row.octets.len() / 2 {
         let front = row.octets.get(..2 * place).ok_or("no front")?;
         let missed = is_missed(alloc, row.kind, front)?;
-        assert!(rt; missed, "{} {front}", row.kind);
+        holds(rt, &(row.kind, front), missed);
     }
     Ok(())
 }

@@ -2,12 +2,12 @@
 
 mod rows;
 
-use crate::found::{answer_to, says};
+use crate::found::{answer_to, answers, answers_with, holds};
 use rows::{
     Greatest, IN_ONE_PIECE, IN_PIECES, REFERENCES, Split, TOO_MANY, WIDE_IN_ONE_PIECE,
     WIDE_IN_PIECES,
 };
-use std::alloc::Global;
+use std::alloc::{AllocError, Global};
 use std::process::Abort;
 use std::test::Fail;
 
@@ -20,28 +20,49 @@ fn put_part(text: &mut String, part: &str) -> Result<(), Fail> {
     Ok(())
 }
 
+/// Adds the parts between bars.
+fn put_parts(text: &mut String, parts: &str) -> Result<(), Fail> {
+    for part in parts.split('|') {
+        put_part(text, part)?;
+    }
+    Ok(())
+}
+
 /// The text of parts between bars, each as many times as the number after its asterisk says, else
 /// once.
 pub fn expanded(alloc: Global, parts: &str) -> Result<String, Fail> {
     let mut text = String::new(alloc);
-    for part in parts.split('|') {
-        put_part(&mut text, part)?;
-    }
+    put_parts(&mut text, parts)?;
     Ok(text)
+}
+
+/// Whether an answer is what these parts say.
+pub fn is_expanded(alloc: Global, answer: &str, parts: &str) -> Result<bool, Fail> {
+    let text = expanded(alloc, parts)?;
+    Ok(answer == text.as_str())
+}
+
+/// The status and the answer for a text with a reference.
+fn splitting_of(alloc: Global, reference: &str, text: &str) -> Result<(u8, String), Fail> {
+    let text = expanded(alloc, text)?;
+    let answered = answer_to(alloc, &["sms", "split", "--ref", reference, "--", &text]);
+    drop(text);
+    answered
 }
 
 /// Whether a text is split into segments with a reference.
 fn is_split(alloc: Global, reference: &str, text: &str, lines: &str) -> Result<bool, Fail> {
-    let text = expanded(alloc, text)?;
-    let (status, answer) = answer_to(alloc, &["sms", "split", "--ref", reference, "--", &text])?;
-    Ok(status == 0 && answer == expanded(alloc, lines)?)
+    let (status, answer) = splitting_of(alloc, reference, text)?;
+    let split = is_expanded(alloc, &answer, lines);
+    drop(answer);
+    Ok(split? && status == 0)
 }
 
 /// The text of each row is split into its segments.
 fn are_split(rt: &impl Abort, alloc: Global, rows: &[Split]) -> Result<(), Fail> {
     for row in rows {
         let split = is_split(alloc, "0", row.text, row.lines)?;
-        assert!(rt; split, "{}", row.text);
+        holds(rt, &row.text, split);
     }
     Ok(())
 }
@@ -70,57 +91,99 @@ fn splits_wide_texts_in_pieces(rt: HostRuntime) -> Result<(), Fail> {
 fn splits_with_references(rt: HostRuntime) -> Result<(), Fail> {
     for row in REFERENCES.as_slice() {
         let split = is_split(rt.alloc(), row.reference, row.text, row.lines)?;
-        assert!(rt; split, "{}", row.text);
+        holds(&rt, &row.text, split);
     }
     Ok(())
 }
 
-/// The lines of 255 segments of one letter.
-fn lines_of_255(alloc: Global) -> Result<String, Fail> {
-    let rest = "E170381C0E87C3".repeat(alloc, 19)?;
-    let mut lines = String::new(alloc);
+/// The line of a segment of one letter, with the octets after the first.
+fn line_of(alloc: Global, place: i32, rest: &str) -> Result<String, AllocError> {
+    format!(in alloc; "{place}/255 gsm 160 05000300FF{place:02X}C2{rest}\n")
+}
+
+/// Adds the line of a segment of one letter.
+fn put_segment(
+    alloc: Global,
+    lines: &mut String,
+    place: i32,
+    rest: &str,
+) -> Result<(), AllocError> {
+    let line = line_of(alloc, place, rest)?;
+    let put = lines.push_str(&line);
+    drop(line);
+    put
+}
+
+/// Adds the lines of 255 segments of one letter.
+fn put_lines(alloc: Global, lines: &mut String, rest: &str) -> Result<(), AllocError> {
     for place in 1..256 {
-        let line = format!(in alloc; "{place}/255 gsm 160 05000300FF{place:02X}C2{rest}\n")?;
-        lines.push_str(&line)?;
+        put_segment(alloc, lines, place, rest)?;
     }
+    Ok(())
+}
+
+/// The lines of 255 segments of one letter, with the octets after the first.
+fn lines_with(alloc: Global, rest: &str) -> Result<String, AllocError> {
+    let mut lines = String::new(alloc);
+    put_lines(alloc, &mut lines, rest)?;
     Ok(lines)
+}
+
+/// The lines of 255 segments of one letter.
+fn lines_of_255(alloc: Global) -> Result<String, AllocError> {
+    let rest = "E170381C0E87C3".repeat(alloc, 19)?;
+    let lines = lines_with(alloc, &rest);
+    drop(rest);
+    lines
 }
 
 /// Whether a text has a status and an answer.
 fn is_cut(alloc: Global, text: &str, wanted: u8, lines: &str) -> Result<bool, Fail> {
-    let (status, answer) = answer_to(alloc, &["sms", "split", text])?;
-    Ok(status == wanted && answer.as_str() == lines)
+    answers(alloc, &["sms", "split", text], wanted, lines)
+}
+
+/// Whether a text is split into 255 segments of one letter.
+fn is_cut_into_255(alloc: Global, text: &str) -> Result<bool, Fail> {
+    let lines = lines_of_255(alloc)?;
+    let cut = is_cut(alloc, text, 0, &lines);
+    drop(lines);
+    cut
 }
 
 #[test]
 fn splits_into_255_segments(rt: HostRuntime) -> Result<(), Fail> {
     let text = "a".repeat(rt.alloc(), 39_015)?;
-    let lines = lines_of_255(rt.alloc())?;
-    let split = is_cut(rt.alloc(), &text, 0, &lines)?;
-    assert!(rt; split);
+    let split = is_cut_into_255(rt.alloc(), &text);
+    drop(text);
+    holds(&rt, &"255 segments", split?);
     Ok(())
 }
 
 /// Whether a text is split, and the line of its last segment begins so.
 fn has_last(alloc: Global, text: &str, last: &str) -> Result<bool, Fail> {
-    let (status, answer) = answer_to(alloc, &["sms", "split", text])?;
-    Ok(status == 0 && says(&answer, last))
+    answers_with(alloc, &["sms", "split", text], 0, last)
+}
+
+/// Whether a text has 255 segments, and has too many with one more character.
+fn has_no_room(alloc: Global, text: &mut String, row: &Greatest) -> Result<bool, Fail> {
+    let split = has_last(alloc, text, row.last)?;
+    text.push_str(row.character)?;
+    Ok(split && is_cut(alloc, text, 1, "too many segments\n")?)
 }
 
 /// Whether as many characters as a row tells have 255 segments, and one more has too many.
 fn is_greatest(alloc: Global, row: &Greatest) -> Result<bool, Fail> {
     let mut text = row.character.repeat(alloc, row.count)?;
-    let split = has_last(alloc, &text, row.last)?;
-    text.push_str(row.character)?;
-    let refused = is_cut(alloc, &text, 1, "too many segments\n")?;
-    Ok(split && refused)
+    let full = has_no_room(alloc, &mut text, row);
+    drop(text);
+    full
 }
 
 #[test]
 fn refuses_more_than_255_segments(rt: HostRuntime) -> Result<(), Fail> {
     for row in TOO_MANY.as_slice() {
         let greatest = is_greatest(rt.alloc(), row)?;
-        assert!(rt; greatest, "{}", row.character);
+        holds(&rt, &row.character, greatest);
     }
     Ok(())
 }

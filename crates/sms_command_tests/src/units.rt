@@ -3,7 +3,8 @@
 mod rows;
 
 use crate::found::{
-    Shown, answer_to, are_answered, are_answered_after_a_centre, is_answered, is_missed, says,
+    Shown, answer_to, answers_with, are_answered, are_answered_after_a_centre, holds, is_answered,
+    is_missed, says,
 };
 use rows::{
     AFTER_CENTRES, BREAKING, CODINGS, DELIVERY_FLAGS, ELEMENTS, ENCODE_WORDS, ENCODED_OPTIONS,
@@ -13,21 +14,20 @@ use rows::{
     TOO_FULL, TWO_PIECES, TooFull, TwoPieces, UCS2_TEXTS, VALIDITIES, WHOLE_WORDS,
 };
 use sms_command::command;
-use std::alloc::Global;
+use std::alloc::{AllocError, Global};
 use std::process::Abort;
 use std::test::Fail;
 
 /// Whether octets are shown as a unit with these lines.
 fn is_shown(alloc: Global, kind: &str, octets: &str, lines: &str) -> Result<bool, Fail> {
-    let (status, text) = answer_to(alloc, &["sms", "show", kind, octets])?;
-    Ok(status == 0 && says(&text, lines))
+    answers_with(alloc, &["sms", "show", kind, octets], 0, lines)
 }
 
 /// The octets of each row are shown as a unit with its lines, and perhaps others.
 fn are_shown(rt: &impl Abort, alloc: Global, kind: &str, rows: &[Shown]) -> Result<(), Fail> {
     for row in rows {
         let shown = is_shown(alloc, kind, row.octets, row.lines)?;
-        assert!(rt; shown, "{kind} {}", row.octets);
+        holds(rt, &(kind, row.octets), shown);
     }
     Ok(())
 }
@@ -85,7 +85,7 @@ fn shows_validities_of_submissions(rt: HostRuntime) -> Result<(), Fail> {
 #[test]
 fn shows_a_whole_delivery(rt: HostRuntime) -> Result<(), Fail> {
     let shown = is_answered(rt.alloc(), "deliver", HELLO, HELLO_SHOWN, 0)?;
-    assert!(rt; shown);
+    holds(&rt, &HELLO, shown);
     Ok(())
 }
 
@@ -109,22 +109,21 @@ fn misses_each_octet_of_a_delivery(rt: HostRuntime) -> Result<(), Fail> {
     for place in 0..28 {
         let front = HELLO.get(..2 * place).ok_or("no front")?;
         let missed = is_missed(rt.alloc(), "deliver", front)?;
-        assert!(rt; missed, "{front}");
+        holds(&rt, &front, missed);
     }
     Ok(())
 }
 
 /// Whether words have the status of a row, and its part in their answer.
 fn is_explained(alloc: Global, row: &Explained) -> Result<bool, Fail> {
-    let (status, text) = answer_to(alloc, row.words)?;
-    Ok(status == row.status && says(&text, row.part))
+    answers_with(alloc, row.words, row.status, row.part)
 }
 
 /// The words of each row have its status, and its part in their answer.
 fn are_explained(rt: &impl Abort, alloc: Global, rows: &[Explained]) -> Result<(), Fail> {
     for row in rows {
         let explained = is_explained(alloc, row)?;
-        assert!(rt; explained, "{:?}", row.words);
+        holds(rt, &row.words, explained);
     }
     Ok(())
 }
@@ -157,7 +156,7 @@ fn fails_where_the_output_is_full(rt: HostRuntime) -> Result<(), Fail> {
         let mut input = b"".as_slice();
         let mut output = &mut space[..room];
         let status = command(rt.alloc(), words, &mut input, &mut output);
-        assert_eq!(rt; status, 3, "{room}");
+        holds(&rt, &room, status == 3);
     }
     Ok(())
 }
@@ -169,7 +168,7 @@ fn words_of<'a>(
     options: &[&'a str],
     address: &'a str,
     text: &'a str,
-) -> Result<Vec<&'a str>, Fail> {
+) -> Result<Vec<&'a str>, AllocError> {
     let mut words = Vec::from_slice(alloc, &["sms", "encode", kind])?;
     words.extend_from_slice(options)?;
     words.extend_from_slice(&["--", address, text])?;
@@ -185,7 +184,9 @@ fn encoding_of(
     text: &str,
 ) -> Result<(u8, String), Fail> {
     let words = words_of(alloc, kind, options, address, text)?;
-    answer_to(alloc, words.as_slice())
+    let answered = answer_to(alloc, words.as_slice());
+    drop(words);
+    answered
 }
 
 /// Whether an answer is this line.
@@ -200,20 +201,29 @@ fn is_encoded(alloc: Global, row: &Encoded) -> Result<bool, Fail> {
 }
 
 /// Whether lines have one of this name with this value, and not as the first.
-fn has_line(alloc: Global, lines: &str, name: &str, value: &str) -> Result<bool, Fail> {
+fn has_line(alloc: Global, lines: &str, name: &str, value: &str) -> Result<bool, AllocError> {
     let line = ["\n", name, ": ", value, "\n"].concat(alloc)?;
     Ok(says(lines, &line))
 }
 
+/// Whether the lines of a kind of unit have this address and this text.
+fn have_both(
+    alloc: Global,
+    lines: &str,
+    kind: &str,
+    address: &str,
+    text: &str,
+) -> Result<bool, AllocError> {
+    let party = if kind == "submit" { "to" } else { "from" };
+    Ok(has_line(alloc, lines, party, address)? && has_line(alloc, lines, "text", text)?)
+}
+
 /// Whether the octets of a row are shown with this address and this text.
 fn comes_back(alloc: Global, row: &Encoded, address: &str, text: &str) -> Result<bool, Fail> {
-    let party = if row.kind == "submit" { "to" } else { "from" };
     let (status, lines) = answer_to(alloc, &["sms", "show", row.kind, row.octets])?;
-    Ok(
-        status == 0
-            && has_line(alloc, &lines, party, address)?
-            && has_line(alloc, &lines, "text", text)?,
-    )
+    let both = have_both(alloc, &lines, row.kind, address, text);
+    drop(lines);
+    Ok(both? && status == 0)
 }
 
 /// Whether a row of what cannot be encoded gives its status and its line.
@@ -227,7 +237,7 @@ fn are_encoded(rt: &impl Abort, alloc: Global, rows: &[Encoded]) -> Result<(), F
     for row in rows {
         let encoded = is_encoded(alloc, row)?;
         let shown = comes_back(alloc, row, row.address, row.text)?;
-        assert!(rt; encoded && shown, "{} {}", row.address, row.text);
+        holds(rt, &(row.address, row.text), encoded && shown);
     }
     Ok(())
 }
@@ -262,7 +272,7 @@ fn escapes_what_would_break_a_line(rt: HostRuntime) -> Result<(), Fail> {
     for row in BREAKING.as_slice() {
         let encoded = is_encoded(rt.alloc(), &row.unit)?;
         let shown = comes_back(rt.alloc(), &row.unit, row.address, row.text)?;
-        assert!(rt; encoded && shown, "{} {}", row.address, row.text);
+        holds(&rt, &(row.address, row.text), encoded && shown);
     }
     Ok(())
 }
@@ -271,7 +281,7 @@ fn escapes_what_would_break_a_line(rt: HostRuntime) -> Result<(), Fail> {
 fn are_refused(rt: &impl Abort, alloc: Global, rows: &[NotEncoded]) -> Result<(), Fail> {
     for row in rows {
         let refused = is_refused(alloc, row)?;
-        assert!(rt; refused, "{} {}", row.address, row.text);
+        holds(rt, &(row.address, row.text), refused);
     }
     Ok(())
 }
@@ -290,27 +300,52 @@ fn refuses_what_is_no_option(rt: HostRuntime) -> Result<(), Fail> {
 fn shown_data(alloc: Global, scheme: &str, length: &str, data: &str) -> Result<(u8, String), Fail> {
     let parts = ["440491101000", scheme, "00101000000000", length, data];
     let octets = parts.concat(alloc)?;
-    answer_to(alloc, &["sms", "show", "deliver", &octets])
+    let shown = answer_to(alloc, &["sms", "show", "deliver", &octets]);
+    drop(octets);
+    shown
+}
+
+/// Whether septets that are full are shown after their header as this text.
+fn shows_text(alloc: Global, data: &str, text: &str) -> Result<bool, Fail> {
+    let (status, lines) = shown_data(alloc, "00", "A0", data)?;
+    let shown = has_line(alloc, &lines, "text", text);
+    drop(lines);
+    Ok(shown? && status == 0)
+}
+
+/// Whether octets that are full are shown after their header as these octets.
+fn shows_octets(alloc: Global, data: &str, octets: &str) -> Result<bool, Fail> {
+    let (status, lines) = shown_data(alloc, "04", "8C", data)?;
+    let shown = has_line(alloc, &lines, "data", octets);
+    drop(lines);
+    Ok(shown? && status == 0)
 }
 
 /// Whether data that are full are shown after their header as the septets of a row.
 fn is_full_of_septets(alloc: Global, row: &Filled, data: &str) -> Result<bool, Fail> {
     let text = "à".repeat(alloc, row.septets)?;
-    let (status, lines) = shown_data(alloc, "00", "A0", data)?;
-    Ok(status == 0 && has_line(alloc, &lines, "text", &text)?)
+    shows_text(alloc, data, &text)
 }
 
 /// Whether data that are full are shown after their header as the octets of a row.
 fn is_full_of_octets(alloc: Global, row: &Filled, data: &str) -> Result<bool, Fail> {
     let octets = after_header(alloc, row)?;
-    let (status, lines) = shown_data(alloc, "04", "8C", data)?;
-    Ok(status == 0 && has_line(alloc, &lines, "data", &octets)?)
+    shows_octets(alloc, data, &octets)
+}
+
+/// Whether data that are full are shown after their header as UCS2.
+fn is_full_of_units(alloc: Global, data: &str) -> Result<bool, Fail> {
+    let (status, _) = shown_data(alloc, "08", "8C", data)?;
+    Ok(status == 0)
 }
 
 /// Whether data that are full are shown after their header under each alphabet.
 fn is_full(alloc: Global, row: &Filled, data: &str) -> Result<bool, Fail> {
-    let (units, _) = shown_data(alloc, "08", "8C", data)?;
-    Ok(units == 0 && is_full_of_septets(alloc, row, data)? && is_full_of_octets(alloc, row, data)?)
+    Ok(
+        is_full_of_units(alloc, data)?
+            && is_full_of_septets(alloc, row, data)?
+            && is_full_of_octets(alloc, row, data)?,
+    )
 }
 
 /// Whether data are refused after their header under a coding scheme, at a length above the
@@ -321,23 +356,34 @@ fn is_too_full(alloc: Global, scheme: &str, length: &str, data: &str) -> Result<
 }
 
 /// The data that fill what the header of a row leaves.
-fn after_header(alloc: Global, row: &Filled) -> Result<String, Fail> {
+fn after_header(alloc: Global, row: &Filled) -> Result<String, AllocError> {
     let ones = "FF".repeat(alloc, row.ones)?;
-    Ok([row.first, &ones].concat(alloc)?)
+    let data = [row.first, &ones].concat(alloc);
+    drop(ones);
+    data
 }
 
-/// The header of a row, and the data that fill what it leaves.
-fn filled(alloc: Global, row: &Filled) -> Result<String, Fail> {
+/// The header of a row, with the data that fill what it leaves.
+fn filled(alloc: Global, row: &Filled) -> Result<String, AllocError> {
     let data = after_header(alloc, row)?;
-    Ok([row.header, &data].concat(alloc)?)
+    let whole = [row.header, &data].concat(alloc);
+    drop(data);
+    whole
+}
+
+/// Whether the header of a row is shown with what fills what it leaves.
+fn is_filled(alloc: Global, row: &Filled) -> Result<bool, Fail> {
+    let data = filled(alloc, row)?;
+    let shown = is_full(alloc, row, &data);
+    drop(data);
+    shown
 }
 
 #[test]
 fn shows_what_fits_after_a_header(rt: HostRuntime) -> Result<(), Fail> {
     for row in HEADERS.as_slice() {
-        let data = filled(rt.alloc(), row)?;
-        let shown = is_full(rt.alloc(), row, &data)?;
-        assert!(rt; shown, "{}", row.header);
+        let shown = is_filled(rt.alloc(), row)?;
+        holds(&rt, &row.header, shown);
     }
     Ok(())
 }
@@ -351,54 +397,90 @@ fn are_too_full(
 ) -> Result<(), Fail> {
     for full in lengths {
         let refused = is_too_full(alloc, full.scheme, full.length, data)?;
-        assert!(rt; refused, "{} {data}", full.scheme);
+        holds(rt, &(full.scheme, data), refused);
     }
     Ok(())
+}
+
+/// What fills what the header of a row leaves is refused at each length above the greatest.
+fn refuse_more_than(
+    rt: &impl Abort,
+    alloc: Global,
+    row: &Filled,
+    lengths: &[TooFull],
+) -> Result<(), Fail> {
+    let data = filled(alloc, row)?;
+    let refused = are_too_full(rt, alloc, &data, lengths);
+    drop(data);
+    refused
 }
 
 #[test]
 fn refuses_what_does_not_fit_after_a_header(rt: HostRuntime) -> Result<(), Fail> {
     for row in HEADERS.as_slice() {
-        let data = filled(rt.alloc(), row)?;
-        are_too_full(&rt, rt.alloc(), &data, TOO_FULL.as_slice())?;
+        refuse_more_than(&rt, rt.alloc(), row, TOO_FULL.as_slice())?;
     }
     Ok(())
 }
 
 /// The octets of a row.
-fn long_octets(alloc: Global, row: &LongText) -> Result<String, Fail> {
+fn long_octets(alloc: Global, row: &LongText) -> Result<String, AllocError> {
     let middle = row.part.repeat(alloc, row.times)?;
-    Ok([row.first, &middle, row.last].concat(alloc)?)
+    let octets = [row.first, &middle, row.last].concat(alloc);
+    drop(middle);
+    octets
+}
+
+/// Whether an answer is the octets of a row.
+fn has_long_octets(alloc: Global, answer: &str, row: &LongText) -> Result<bool, AllocError> {
+    let octets = long_octets(alloc, row)?;
+    Ok(is_line(answer, &octets))
+}
+
+/// The status and the answer to `encode` for a text of one character.
+fn encoding_of_long(alloc: Global, row: &LongText) -> Result<(u8, String), Fail> {
+    let text = row.character.repeat(alloc, row.count)?;
+    let encoding = encoding_of(alloc, "submit", &[], "", &text);
+    drop(text);
+    encoding
 }
 
 /// Whether a text of one character is encoded as the octets of a row.
 fn is_long(alloc: Global, row: &LongText) -> Result<bool, Fail> {
-    let text = row.character.repeat(alloc, row.count)?;
-    let (status, answer) = encoding_of(alloc, "submit", &[], "", &text)?;
-    Ok(status == 0 && is_line(&answer, &long_octets(alloc, row)?))
+    let (status, answer) = encoding_of_long(alloc, row)?;
+    let encoded = has_long_octets(alloc, &answer, row);
+    drop(answer);
+    Ok(encoded? && status == 0)
 }
 
 #[test]
 fn encodes_what_fits_one_piece(rt: HostRuntime) -> Result<(), Fail> {
     for row in LONG_TEXTS.as_slice() {
         let encoded = is_long(rt.alloc(), row)?;
-        assert!(rt; encoded, "{} {}", row.character, row.count);
+        holds(&rt, &(row.character, row.count), encoded);
     }
     Ok(())
+}
+
+/// Whether a text is refused as one of two pieces.
+fn has_two_pieces(alloc: Global, kind: &str, text: &str) -> Result<bool, Fail> {
+    let (status, answer) = encoding_of(alloc, kind, &[], "+1002", text)?;
+    Ok(status == 1 && is_line(&answer, "text too long"))
 }
 
 /// Whether a text of one character is refused as one of two pieces.
 fn is_too_long(alloc: Global, row: &TwoPieces) -> Result<bool, Fail> {
     let text = row.character.repeat(alloc, row.count)?;
-    let (status, answer) = encoding_of(alloc, row.kind, &[], "+1002", &text)?;
-    Ok(status == 1 && is_line(&answer, "text too long"))
+    let refused = has_two_pieces(alloc, row.kind, &text);
+    drop(text);
+    refused
 }
 
 #[test]
 fn refuses_a_text_of_two_pieces(rt: HostRuntime) -> Result<(), Fail> {
     for row in TWO_PIECES.as_slice() {
         let refused = is_too_long(rt.alloc(), row)?;
-        assert!(rt; refused, "{} {} {}", row.kind, row.character, row.count);
+        holds(&rt, &(row.kind, row.character, row.count), refused);
     }
     Ok(())
 }

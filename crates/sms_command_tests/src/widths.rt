@@ -1,7 +1,7 @@
 //! Texts split under references of two octets, and texts and references that are too large.
 
-use crate::found::answer_to;
-use crate::splits::expanded;
+use crate::found::{answer_to, holds};
+use crate::splits::{expanded, is_expanded};
 use std::alloc::Global;
 use std::test::Fail;
 
@@ -73,7 +73,21 @@ static UNCUT_ROWS: [UncutRow; 3] = [
     },
 ];
 
-/// The status and the whole output, for a text under a reference.
+/// The status and the whole output, for a text.
+fn splitting_of(
+    alloc: Global,
+    is_wide: bool,
+    reference: &str,
+    text: &str,
+) -> Result<(u8, String), Fail> {
+    if is_wide {
+        answer_to(alloc, &["sms", "split", "--wide", "--ref", reference, text])
+    } else {
+        answer_to(alloc, &["sms", "split", "--ref", reference, text])
+    }
+}
+
+/// The status and the whole output, for a text of parts under a reference.
 fn split_of(
     alloc: Global,
     is_wide: bool,
@@ -81,28 +95,24 @@ fn split_of(
     text: &str,
 ) -> Result<(u8, String), Fail> {
     let text = expanded(alloc, text)?;
-    if is_wide {
-        answer_to(
-            alloc,
-            &["sms", "split", "--wide", "--ref", reference, &text],
-        )
-    } else {
-        answer_to(alloc, &["sms", "split", "--ref", reference, &text])
-    }
+    let answered = splitting_of(alloc, is_wide, reference, &text);
+    drop(text);
+    answered
 }
 
 /// Whether a text is split into the segments of a row.
 fn is_split(alloc: Global, row: &WideRow) -> Result<bool, Fail> {
     let (status, answer) = split_of(alloc, true, row.reference, row.text)?;
-    let lines = expanded(alloc, row.lines)?;
-    Ok(status == 0 && answer == lines)
+    let split = is_expanded(alloc, &answer, row.lines);
+    drop(answer);
+    Ok(split? && status == 0)
 }
 
 #[test]
 fn splits_under_wide_references(rt: HostRuntime) -> Result<(), Fail> {
     for row in WIDE_ROWS.as_slice() {
         let split = is_split(rt.alloc(), row)?;
-        assert!(rt; split, "{} {}", row.text, row.reference);
+        holds(&rt, &(row.text, row.reference), split);
     }
     Ok(())
 }
@@ -117,7 +127,7 @@ fn is_refused(alloc: Global, row: &UncutRow) -> Result<bool, Fail> {
 fn refuses_references_and_texts_too_large(rt: HostRuntime) -> Result<(), Fail> {
     for row in UNCUT_ROWS.as_slice() {
         let refused = is_refused(rt.alloc(), row)?;
-        assert!(rt; refused, "{} {}", row.text, row.reference);
+        holds(&rt, &(row.text, row.reference), refused);
     }
     Ok(())
 }
