@@ -2,12 +2,12 @@
 
 mod rows;
 
-use crate::found::{answer_to, answers, answers_with, holds};
+use crate::found::{answer_to, answers, holds, says};
 use rows::{
     Greatest, IN_ONE_PIECE, IN_PIECES, REFERENCES, Split, TOO_MANY, WIDE_IN_ONE_PIECE,
     WIDE_IN_PIECES,
 };
-use std::alloc::{AllocError, Global};
+use std::alloc::Global;
 use std::process::Abort;
 use std::test::Fail;
 
@@ -96,72 +96,15 @@ fn splits_with_references(rt: HostRuntime) -> Result<(), Fail> {
     Ok(())
 }
 
-/// The line of a segment of one letter, with the octets after the first.
-fn line_of(alloc: Global, place: i32, rest: &str) -> Result<String, AllocError> {
-    format!(in alloc; "{place}/255 gsm 160 05000300FF{place:02X}C2{rest}\n")
-}
-
-/// Adds the line of a segment of one letter.
-fn put_segment(
-    alloc: Global,
-    lines: &mut String,
-    place: i32,
-    rest: &str,
-) -> Result<(), AllocError> {
-    let line = line_of(alloc, place, rest)?;
-    let put = lines.push_str(&line);
-    drop(line);
-    put
-}
-
-/// Adds the lines of 255 segments of one letter.
-fn put_lines(alloc: Global, lines: &mut String, rest: &str) -> Result<(), AllocError> {
-    for place in 1..256 {
-        put_segment(alloc, lines, place, rest)?;
-    }
-    Ok(())
-}
-
-/// The lines of 255 segments of one letter, with the octets after the first.
-fn lines_with(alloc: Global, rest: &str) -> Result<String, AllocError> {
-    let mut lines = String::new(alloc);
-    put_lines(alloc, &mut lines, rest)?;
-    Ok(lines)
-}
-
-/// The lines of 255 segments of one letter.
-fn lines_of_255(alloc: Global) -> Result<String, AllocError> {
-    let rest = "E170381C0E87C3".repeat(alloc, 19)?;
-    let lines = lines_with(alloc, &rest);
-    drop(rest);
-    lines
-}
-
 /// Whether a text has a status and an answer.
 fn is_cut(alloc: Global, text: &str, wanted: u8, lines: &str) -> Result<bool, Fail> {
     answers(alloc, &["sms", "split", text], wanted, lines)
 }
 
-/// Whether a text is split into 255 segments of one letter.
-fn is_cut_into_255(alloc: Global, text: &str) -> Result<bool, Fail> {
-    let lines = lines_of_255(alloc)?;
-    let cut = is_cut(alloc, text, 0, &lines);
-    drop(lines);
-    cut
-}
-
-#[test]
-fn splits_into_255_segments(rt: HostRuntime) -> Result<(), Fail> {
-    let text = "a".repeat(rt.alloc(), 39_015)?;
-    let split = is_cut_into_255(rt.alloc(), &text);
-    drop(text);
-    holds(&rt, &"255 segments", split?);
-    Ok(())
-}
-
-/// Whether a text is split, and the line of its last segment begins so.
+/// Whether a text is split into 255 segments, and the line of the last one begins so.
 fn has_last(alloc: Global, text: &str, last: &str) -> Result<bool, Fail> {
-    answers_with(alloc, &["sms", "split", text], 0, last)
+    let (status, answer) = answer_to(alloc, &["sms", "split", text])?;
+    Ok(status == 0 && answer.lines().count() == 255 && says(&answer, last))
 }
 
 /// Whether a text has 255 segments, and has too many with one more character.

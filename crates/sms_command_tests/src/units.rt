@@ -6,12 +6,12 @@ use crate::found::{
     Shown, answer_to, answers_with, are_answered, are_answered_after_a_centre, holds, is_answered,
     is_missed, says,
 };
+use crate::splits::{expanded, is_expanded};
 use rows::{
-    AFTER_CENTRES, BREAKING, CODINGS, DELIVERY_FLAGS, ELEMENTS, ENCODE_WORDS, ENCODED_OPTIONS,
-    ENCODED_TEXTS, Encoded, Explained, Filled, HEADERS, HELLO, HELLO_SHOWN, LONG_TEXTS, LongText,
-    NAMES, NO_ADDRESSES, NO_DELIVERIES, NO_OPTIONS, NO_SUBMISSIONS, NotEncoded, ORIGINS, PLACES,
-    SHOW_WORDS, SPLIT_WORDS, STAMPS, SUBMISSIONS, TELEPHONES, TELEPHONES_OF_EACH_LENGTH, TEXTS,
-    TOO_FULL, TWO_PIECES, TooFull, TwoPieces, UCS2_TEXTS, VALIDITIES, WHOLE_WORDS,
+    ADDRESSES, AFTER_CENTRES, BREAKING, DELIVERIES, DELIVERY_FLAGS, ENCODE_WORDS, ENCODED_OPTIONS,
+    ENCODED_TEXTS, Encoded, Explained, HELLO, HELLO_SHOWN, LONG_TEXTS, LongText, NO_ADDRESSES,
+    NO_DELIVERIES, NO_OPTIONS, NO_SUBMISSIONS, NotEncoded, ORIGINS, PLACES, SHOW_WORDS,
+    SPLIT_WORDS, STAMPS, SUBMISSIONS, TEXTS, VALIDITIES, WHOLE_SUBMISSIONS, WHOLE_WORDS,
 };
 use sms_command::command;
 use std::alloc::{AllocError, Global};
@@ -43,11 +43,6 @@ fn shows_origins_of_deliveries(rt: HostRuntime) -> Result<(), Fail> {
 }
 
 #[test]
-fn shows_coding_schemes_of_deliveries(rt: HostRuntime) -> Result<(), Fail> {
-    are_shown(&rt, rt.alloc(), "deliver", CODINGS.as_slice())
-}
-
-#[test]
 fn shows_stamps_of_deliveries(rt: HostRuntime) -> Result<(), Fail> {
     are_shown(&rt, rt.alloc(), "deliver", STAMPS.as_slice())
 }
@@ -58,18 +53,8 @@ fn shows_texts_of_deliveries(rt: HostRuntime) -> Result<(), Fail> {
 }
 
 #[test]
-fn shows_ucs2_texts_of_deliveries(rt: HostRuntime) -> Result<(), Fail> {
-    are_shown(&rt, rt.alloc(), "deliver", UCS2_TEXTS.as_slice())
-}
-
-#[test]
-fn shows_places_of_deliveries(rt: HostRuntime) -> Result<(), Fail> {
+fn shows_headers_of_deliveries(rt: HostRuntime) -> Result<(), Fail> {
     are_shown(&rt, rt.alloc(), "deliver", PLACES.as_slice())
-}
-
-#[test]
-fn shows_elements_of_deliveries(rt: HostRuntime) -> Result<(), Fail> {
-    are_shown(&rt, rt.alloc(), "deliver", ELEMENTS.as_slice())
 }
 
 #[test]
@@ -83,10 +68,20 @@ fn shows_validities_of_submissions(rt: HostRuntime) -> Result<(), Fail> {
 }
 
 #[test]
-fn shows_a_whole_delivery(rt: HostRuntime) -> Result<(), Fail> {
+fn shows_hellohello(rt: HostRuntime) -> Result<(), Fail> {
     let shown = is_answered(rt.alloc(), "deliver", HELLO, HELLO_SHOWN, 0)?;
     holds(&rt, &HELLO, shown);
     Ok(())
+}
+
+#[test]
+fn shows_whole_deliveries(rt: HostRuntime) -> Result<(), Fail> {
+    are_answered(&rt, rt.alloc(), "deliver", DELIVERIES.as_slice(), 0)
+}
+
+#[test]
+fn shows_whole_submissions(rt: HostRuntime) -> Result<(), Fail> {
+    are_answered(&rt, rt.alloc(), "submit", WHOLE_SUBMISSIONS.as_slice(), 0)
 }
 
 #[test]
@@ -243,18 +238,8 @@ fn are_encoded(rt: &impl Abort, alloc: Global, rows: &[Encoded]) -> Result<(), F
 }
 
 #[test]
-fn encodes_telephone_numbers(rt: HostRuntime) -> Result<(), Fail> {
-    are_encoded(&rt, rt.alloc(), TELEPHONES.as_slice())
-}
-
-#[test]
-fn encodes_telephone_numbers_of_each_length(rt: HostRuntime) -> Result<(), Fail> {
-    are_encoded(&rt, rt.alloc(), TELEPHONES_OF_EACH_LENGTH.as_slice())
-}
-
-#[test]
-fn encodes_names(rt: HostRuntime) -> Result<(), Fail> {
-    are_encoded(&rt, rt.alloc(), NAMES.as_slice())
+fn encodes_addresses(rt: HostRuntime) -> Result<(), Fail> {
+    are_encoded(&rt, rt.alloc(), ADDRESSES.as_slice())
 }
 
 #[test]
@@ -296,191 +281,27 @@ fn refuses_what_is_no_option(rt: HostRuntime) -> Result<(), Fail> {
     are_refused(&rt, rt.alloc(), NO_OPTIONS.as_slice())
 }
 
-/// The status and the answer to a delivery with a header, by its coding scheme, length and data.
-fn shown_data(alloc: Global, scheme: &str, length: &str, data: &str) -> Result<(u8, String), Fail> {
-    let parts = ["440491101000", scheme, "00101000000000", length, data];
-    let octets = parts.concat(alloc)?;
-    let shown = answer_to(alloc, &["sms", "show", "deliver", &octets]);
-    drop(octets);
-    shown
-}
-
-/// Whether septets that are full are shown after their header as this text.
-fn shows_text(alloc: Global, data: &str, text: &str) -> Result<bool, Fail> {
-    let (status, lines) = shown_data(alloc, "00", "A0", data)?;
-    let shown = has_line(alloc, &lines, "text", text);
-    drop(lines);
-    Ok(shown? && status == 0)
-}
-
-/// Whether octets that are full are shown after their header as these octets.
-fn shows_octets(alloc: Global, data: &str, octets: &str) -> Result<bool, Fail> {
-    let (status, lines) = shown_data(alloc, "04", "8C", data)?;
-    let shown = has_line(alloc, &lines, "data", octets);
-    drop(lines);
-    Ok(shown? && status == 0)
-}
-
-/// Whether data that are full are shown after their header as the septets of a row.
-fn is_full_of_septets(alloc: Global, row: &Filled, data: &str) -> Result<bool, Fail> {
-    let text = "à".repeat(alloc, row.septets)?;
-    shows_text(alloc, data, &text)
-}
-
-/// Whether data that are full are shown after their header as the octets of a row.
-fn is_full_of_octets(alloc: Global, row: &Filled, data: &str) -> Result<bool, Fail> {
-    let octets = after_header(alloc, row)?;
-    shows_octets(alloc, data, &octets)
-}
-
-/// Whether data that are full are shown after their header as UCS2.
-fn is_full_of_units(alloc: Global, data: &str) -> Result<bool, Fail> {
-    let (status, _) = shown_data(alloc, "08", "8C", data)?;
-    Ok(status == 0)
-}
-
-/// Whether data that are full are shown after their header under each alphabet.
-fn is_full(alloc: Global, row: &Filled, data: &str) -> Result<bool, Fail> {
-    Ok(
-        is_full_of_units(alloc, data)?
-            && is_full_of_septets(alloc, row, data)?
-            && is_full_of_octets(alloc, row, data)?,
-    )
-}
-
-/// Whether data are refused after their header under a coding scheme, at a length above the
-/// greatest.
-fn is_too_full(alloc: Global, scheme: &str, length: &str, data: &str) -> Result<bool, Fail> {
-    let (status, answer) = shown_data(alloc, scheme, length, data)?;
-    Ok(status == 1 && answer.as_str() == "at 14: data too long\n")
-}
-
-/// The data that fill what the header of a row leaves.
-fn after_header(alloc: Global, row: &Filled) -> Result<String, AllocError> {
-    let ones = "FF".repeat(alloc, row.ones)?;
-    let data = [row.first, &ones].concat(alloc);
-    drop(ones);
-    data
-}
-
-/// The header of a row, with the data that fill what it leaves.
-fn filled(alloc: Global, row: &Filled) -> Result<String, AllocError> {
-    let data = after_header(alloc, row)?;
-    let whole = [row.header, &data].concat(alloc);
-    drop(data);
-    whole
-}
-
-/// Whether the header of a row is shown with what fills what it leaves.
-fn is_filled(alloc: Global, row: &Filled) -> Result<bool, Fail> {
-    let data = filled(alloc, row)?;
-    let shown = is_full(alloc, row, &data);
-    drop(data);
-    shown
-}
-
-#[test]
-fn shows_what_fits_after_a_header(rt: HostRuntime) -> Result<(), Fail> {
-    for row in HEADERS.as_slice() {
-        let shown = is_filled(rt.alloc(), row)?;
-        holds(&rt, &row.header, shown);
-    }
-    Ok(())
-}
-
-/// Data that fill what a header leaves are refused at each length above the greatest.
-fn are_too_full(
-    rt: &impl Abort,
-    alloc: Global,
-    data: &str,
-    lengths: &[TooFull],
-) -> Result<(), Fail> {
-    for full in lengths {
-        let refused = is_too_full(alloc, full.scheme, full.length, data)?;
-        holds(rt, &(full.scheme, data), refused);
-    }
-    Ok(())
-}
-
-/// What fills what the header of a row leaves is refused at each length above the greatest.
-fn refuse_more_than(
-    rt: &impl Abort,
-    alloc: Global,
-    row: &Filled,
-    lengths: &[TooFull],
-) -> Result<(), Fail> {
-    let data = filled(alloc, row)?;
-    let refused = are_too_full(rt, alloc, &data, lengths);
-    drop(data);
-    refused
-}
-
-#[test]
-fn refuses_what_does_not_fit_after_a_header(rt: HostRuntime) -> Result<(), Fail> {
-    for row in HEADERS.as_slice() {
-        refuse_more_than(&rt, rt.alloc(), row, TOO_FULL.as_slice())?;
-    }
-    Ok(())
-}
-
-/// The octets of a row.
-fn long_octets(alloc: Global, row: &LongText) -> Result<String, AllocError> {
-    let middle = row.part.repeat(alloc, row.times)?;
-    let octets = [row.first, &middle, row.last].concat(alloc);
-    drop(middle);
-    octets
-}
-
-/// Whether an answer is the octets of a row.
-fn has_long_octets(alloc: Global, answer: &str, row: &LongText) -> Result<bool, AllocError> {
-    let octets = long_octets(alloc, row)?;
-    Ok(is_line(answer, &octets))
-}
-
-/// The status and the answer to `encode` for a text of one character.
+/// The status and the answer to `encode` for a text of parts.
 fn encoding_of_long(alloc: Global, row: &LongText) -> Result<(u8, String), Fail> {
-    let text = row.character.repeat(alloc, row.count)?;
-    let encoding = encoding_of(alloc, "submit", &[], "", &text);
+    let text = expanded(alloc, row.text)?;
+    let encoding = encoding_of(alloc, row.kind, &[], "", &text);
     drop(text);
     encoding
 }
 
-/// Whether a text of one character is encoded as the octets of a row.
+/// Whether a text of parts has the status and the answer of a row.
 fn is_long(alloc: Global, row: &LongText) -> Result<bool, Fail> {
     let (status, answer) = encoding_of_long(alloc, row)?;
-    let encoded = has_long_octets(alloc, &answer, row);
+    let told = is_expanded(alloc, &answer, row.answer);
     drop(answer);
-    Ok(encoded? && status == 0)
+    Ok(told? && status == row.status)
 }
 
 #[test]
 fn encodes_what_fits_one_piece(rt: HostRuntime) -> Result<(), Fail> {
     for row in LONG_TEXTS.as_slice() {
-        let encoded = is_long(rt.alloc(), row)?;
-        holds(&rt, &(row.character, row.count), encoded);
-    }
-    Ok(())
-}
-
-/// Whether a text is refused as one of two pieces.
-fn has_two_pieces(alloc: Global, kind: &str, text: &str) -> Result<bool, Fail> {
-    let (status, answer) = encoding_of(alloc, kind, &[], "+1002", text)?;
-    Ok(status == 1 && is_line(&answer, "text too long"))
-}
-
-/// Whether a text of one character is refused as one of two pieces.
-fn is_too_long(alloc: Global, row: &TwoPieces) -> Result<bool, Fail> {
-    let text = row.character.repeat(alloc, row.count)?;
-    let refused = has_two_pieces(alloc, row.kind, &text);
-    drop(text);
-    refused
-}
-
-#[test]
-fn refuses_a_text_of_two_pieces(rt: HostRuntime) -> Result<(), Fail> {
-    for row in TWO_PIECES.as_slice() {
-        let refused = is_too_long(rt.alloc(), row)?;
-        holds(&rt, &(row.kind, row.character, row.count), refused);
+        let told = is_long(rt.alloc(), row)?;
+        holds(&rt, &(row.kind, row.text), told);
     }
     Ok(())
 }
