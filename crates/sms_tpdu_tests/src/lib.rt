@@ -4,6 +4,8 @@
 #[cfg(test)]
 mod again;
 #[cfg(test)]
+mod alike;
+#[cfg(test)]
 mod deliver;
 #[cfg(test)]
 mod found;
@@ -13,6 +15,8 @@ mod growths;
 mod header;
 #[cfg(test)]
 mod report;
+#[cfg(test)]
+mod status_report;
 #[cfg(test)]
 mod submit;
 #[cfg(test)]
