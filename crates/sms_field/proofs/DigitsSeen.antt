@@ -1,10 +1,12 @@
 -- Digits seen in their octets.
-use Rattle.std.proofs.Common.{◌≡◌, ◌≢◌, ℕ, zero, suc, ◌+◌, ◌-◌, ◌*◌, ◌/◌, ◌%◌, ◌<◌, ◌≤◌, Bool, true, false, cond, ltb, eqb, List, [], ◌∷◌, ◌++◌, length, take, drop, get_or, Ok, Err, refl, sym, ap, subst, ◌∙◌, arith}
-use Rattle.std.specs.Prelude.{◌&&◌}
-use Rattle.std.proofs.lemmas.List.{get_or-take}
+use Rattle.std.proofs.Common.{◌≡◌, ◌≢◌, ℕ, zero, suc, ◌+◌, ◌-◌, ◌*◌, ◌/◌, ◌%◌, ◌<◌, ◌≤◌, Bool, true, false, cond, ltb, eqb, List, [], ◌∷◌, ◌++◌, length, take, drop, get_or, Ok, Err, refl, sym, ap, subst, ◌∙◌, arith, inl, inr, length-append}
+use Rattle.std.specs.Prelude.{◌&&◌, ◌⊎◌}
+use Rattle.std.specs.List.{AllByRecursion}
+use Rattle.std.proofs.lemmas.List.{get_or-take, get_or_at, get_or_append_left}
 use Rattle.sms_field.specs.Field.{Outcome, found, refused, found_if}
 use Rattle.sms_field.specs.declared.fault.FieldFault.{FieldFault}
 use Rattle.sms_field.specs.AddressFaults.{bad_digit}
+use Rattle.sms_field.specs.Digits.{AreDigits}
 use Rattle.sms_field.specs.DigitOctets.{digits}
 use Rattle.std.specs.Prelude.{◌==◌}
 use Rattle.std.proofs.lemmas.Bool.{eqb-true}
@@ -129,6 +131,40 @@ digits_next n digit octets values e is = let size : n + 1 ≡ suc n = omega arit
 pub digits_none : (octets : List ℕ) → [] ≡ digits_in 0 octets
 unfolding digits_in
 digits_none octets = refl
+
+-- ---- as many as are counted, each in its place
+
+pub length-digits_in : (n : ℕ) (octets : List ℕ) → length (digits_in n octets) ≡ n
+unfolding digits_in
+length-digits_in zero octets = refl
+length-digits_in (suc n) octets = omega (arith, length-digits_in n octets, length-append (digits_in n octets) (digit_in octets n ∷ []))
+
+last_or_before : (i n : ℕ) → i < suc n → (i ≡ n) ⊎ (i < n)
+last_or_before i n lt = grind arith
+
+pub digits_in_at : (n i : ℕ) (octets : List ℕ) → i < n → get_or (digits_in n octets) i 0 ≡ digit_in octets i
+unfolding digits_in
+digits_in_at zero i octets lt = absurd (omega (arith, lt))
+digits_in_at (suc n) i octets lt =
+    let size = length-digits_in n octets in
+    elim (last_or_before i n lt) [
+      | inl last ↦ get_or_at (digits_in n octets) (digit_in octets n) [] 0 i (size ∙ sym last) ∙ ap (digit_in octets) (sym last)
+      | inr before ↦ get_or_append_left (digits_in n octets) (digit_in octets n ∷ []) 0 i (omega (arith, size, before)) ∙ digits_in_at n i octets before
+    ]
+
+pub low_at : (i place : ℕ) (octets : List ℕ) → i % 2 ≡ 0 → place ≡ i / 2 → get_or octets place 0 % 16 ≡ digit_in octets i
+low_at i place octets even half = rw (even, half) refl
+
+pub high_at : (i place : ℕ) (octets : List ℕ) → i % 2 ≢ 0 → place ≡ i / 2 → get_or octets place 0 / 16 ≡ digit_in octets i
+high_at i place octets odd half = let one : i % 2 ≡ 1 = omega (arith, odd) in rw (one, half) refl
+
+each_below : (values : List ℕ) (i : ℕ) → AllByRecursion (λ d. d < 15) values → get_or values i 0 < 15
+each_below [] i each = omega arith
+each_below (d ∷ values) zero each = each.0
+each_below (d ∷ values) (suc i) each = each_below values i each.1
+
+pub digit_below : (n i digit : ℕ) (octets : List ℕ) → AreDigits (digits_in n octets) → i < n → digit ≡ digit_in octets i → digit < 15
+digit_below n i digit octets are lt is = let below = each_below (digits_in n octets) i are.each in omega (arith, below, is, digits_in_at n i octets lt)
 
 -- the digits that were read go with their type of number
 pub digits_go : (kind count at : ℕ) (input octets : List ℕ) (after : ℕ) (rest : List ℕ) → kind ≢ 5 → count ≤ 20 → (digits count).read at input ≡ found (digits_in count octets) after rest → AreSymbolsOf kind (symbols_in (kind == alphanumeric) count octets)

@@ -1,6 +1,7 @@
 -- An address seen in its octets (3GPP TS 23.040, 9.1.2.5).
 use Rattle.std.specs.Prelude.{◌≡◌, ℕ, zero, suc, ◌+◌, ◌*◌, ◌/◌, ◌%◌, ◌≤◌, Bool, true, false, List, [], ◌∷◌, ◌++◌, length, slice_index, ◌==◌, if◌then◌else◌}
 use Rattle.sms_text.specs.Bits.{unpacked}
+use Rattle.sms_field.specs.Digits.{AreDigits}
 use Rattle.sms_field.specs.AddressValue.{AddressValue, HasSpelling, alphanumeric}
 use Rattle.sms_field.specs.declared.symbols.Symbols.{Symbols}
 use Rattle.sms_field.specs.declared.symbols.Symbols.TheVariants.{Digits, Name}
@@ -28,6 +29,16 @@ symbols_seen kind count octets = symbols_in (kind == alphanumeric) count octets
 abbrev pub address_in : ℕ → ℕ → ℕ → List ℕ → AddressValue
 address_in kind plan count octets =
     record { kind = kind; plan = plan; symbols = symbols_in (kind == alphanumeric) count octets }
+
+-- up to 20 digits, in as many octets as they need
+pub record AreDigitsIn (count : ℕ) (octets : List ℕ) : Type 0 where
+  pub whole : length octets ≡ (count + 1) / 2
+  pub digits : AreDigits (digits_in count octets)
+
+-- up to 11 septets, in octets that have room for them
+pub record IsNameIn (count : ℕ) (octets : List ℕ) : Type 0 where
+  pub few : count ≤ 11
+  pub enough : 7 * count ≤ 8 * length octets
 
 pub record IsAddressIn (kind plan count : ℕ) (octets : List ℕ) : Type 0 where
   pub few : count ≤ 20

@@ -14,6 +14,7 @@ pub mod Reading
 pub mod ReadingLaws
 pub mod RefusalLaws
 pub mod WholeAnswer
+pub mod Lies
 pub mod Spot
 pub mod Answer
 pub mod AnswerLaws
@@ -28,6 +29,7 @@ pub mod Name
 pub mod AddressValue
 pub mod Address
 pub mod AddressSeen
+pub mod SymbolsSeen
 pub mod AddressText
 pub mod NameSpelling
 pub mod AddressLaws
@@ -54,6 +56,7 @@ pub mod ReadValueLaws
 pub mod SameAddress
 pub mod SameAddressLaws
 pub mod AddressLengthLaws
+pub mod ReadLengthLaws
 pub mod OneRefusal
 pub mod OneRefusalLaws
 pub mod ReadAddressLaws

@@ -7,6 +7,8 @@ ghost use Rattle.sms_field.specs.AddressSeen.{digits_in, symbols_seen};
 ghost use Rattle.sms_field.specs.Answer.{Sees, SeesAs};
 ghost use Rattle.sms_field.specs.Reading.{Reads};
 ghost use Rattle.sms_field.specs.WholeAnswer.{IsFaultOf, SeesExactly};
+ghost use Rattle.sms_field.specs.Lies.{TakesOctets};
+ghost use Rattle.sms_field.specs.SymbolsSeen.{seen_symbols};
 ghost use Rattle.sms_field.specs.declared.fault.FieldFault.TheVariants.{Short};
 ghost use Rattle.sms_field.specs.DigitOctets.{digits};
 
@@ -17,6 +19,7 @@ use crate::fault::{AddressFault, FieldFault};
 use crate::name::Name;
 use crate::refusal::Fault;
 use crate::symbols::Symbols;
+use crate::symbols_view::{DigitsView, NameView, SymbolsView};
 use sms_text::unpack;
 use std::alloc::{AllocError, Global};
 use std::marker::Model;
@@ -111,6 +114,17 @@ impl<'a> AddressView<'a> {
         Ok((address, cursor.place()))
     }
 
+    /// How many octets the address at the front of these takes, with its length octet, of which it
+    /// is 2 and one for each two semi-octets. Not looked at is whether it can be read.
+    pub fn length_in(input: &[u8]) -> usize
+        ensures { TakesOctets address input.now result }
+    {
+        match input {
+            [count, ..] => 2 + usize::from(count.div_ceil(2)),
+            [] => 0,
+        }
+    }
+
     /// Sees an address at a cursor.
     #[tactic(auto, unfolding(crate::specs::Address::address))]
     pub fn read_at(input: &mut Cursor<'a>) -> Result<AddressView<'a>, Fault<FieldFault>>
@@ -144,6 +158,17 @@ impl<'a> AddressView<'a> {
         ensures { result ≡ self.now.plan }
     {
         self.plan
+    }
+
+    /// Address-Value, where it lies: digits, or a name where the type of number is 5.
+    pub fn symbols(&self) -> SymbolsView<'a>
+        ensures { seen_symbols result ≡ self.now.symbols }
+    {
+        if self.type_of_number == ALPHANUMERIC {
+            SymbolsView::Name(NameView::new(4 * self.count / 7, self.octets))
+        } else {
+            SymbolsView::Digits(DigitsView::new(self.count, self.octets))
+        }
     }
 
     /// The address itself.

@@ -5,6 +5,7 @@ ghost use Rattle.sms_field.specs.Field.{octet_by};
 ghost use Rattle.sms_field.specs.Answer.{Sees, SeesAs};
 ghost use Rattle.sms_field.specs.Reading.{Reads};
 ghost use Rattle.sms_field.specs.WholeAnswer.{IsFaultOf, SeesExactly};
+ghost use Rattle.sms_field.specs.Lies.{TakesOctets};
 ghost use Rattle.sms_field.specs.RelayAddress.{last_digits, relay_digits, relay_address};
 ghost use Rattle.sms_field.specs.Digits.{AreDigits};
 ghost use Rattle.sms_field.specs.RelayAddressSeen.{last_digits_in, relay_count, relay_digits_in, relay_address_in};
@@ -16,6 +17,7 @@ use crate::digits::{Digits, both_digits_of};
 use crate::fault::{AddressFault, FieldFault};
 use crate::refusal::Fault;
 use crate::relay_address::RpAddress;
+use crate::symbols_view::DigitsView;
 use std::alloc::{AllocError, Global};
 use std::marker::Model;
 
@@ -120,6 +122,17 @@ impl<'a> RpAddressView<'a> {
         Ok((address, cursor.place()))
     }
 
+    /// How many octets the address, or none, at the front of these takes: its length octet and as
+    /// many as that says. Not looked at is whether it can be read.
+    pub fn length_in(input: &[u8]) -> usize
+        ensures { TakesOctets relay_address input.now result }
+    {
+        match input {
+            [count, ..] => 1 + usize::from(*count),
+            [] => 0,
+        }
+    }
+
     /// Sees an address, or none, at a cursor.
     #[tactic(auto, unfolding(crate::specs::RelayAddress::relay_address, crate::specs::RelayAddress::relay_part))]
     pub fn read_at(input: &mut Cursor<'a>) -> Result<Option<RpAddressView<'a>>, Fault<FieldFault>>
@@ -146,6 +159,13 @@ impl<'a> RpAddressView<'a> {
         ensures { result ≡ self.now.plan }
     {
         self.plan
+    }
+
+    /// Number digits, where they lie.
+    pub fn digits(&self) -> DigitsView<'a>
+        ensures { result ≡ self.now.digits }
+    {
+        DigitsView::new(self.count, self.octets)
     }
 
     /// The address itself.

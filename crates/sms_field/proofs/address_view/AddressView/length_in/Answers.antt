@@ -1,0 +1,6 @@
+use Rattle.std.proofs.Common.{arith}
+use Rattle.sms_field.specs.ReadLengthLaws.{takes_address}
+use Rattle.sms_field.proofs.address_view.AddressView.length_in.Goals as goal
+
+pub returns-in-len1-up : goal.returns-in-len1-up
+returns-in-len1-up c = takes_address c.args.input.now _ (omega (arith, c.from.ensures, c.div_ceil.ensures))
