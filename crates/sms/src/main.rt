@@ -1,7 +1,7 @@
 //! The command line of the short message tools.
 #![tactic(auto)]
 
-use sms_command::command;
+use sms_command::{command, finish};
 use std::env;
 use std::io::{self, BufReader, BufWriter, ErrorKind, Write};
 use std::process::ExitCode;
@@ -9,8 +9,8 @@ use std::process::ExitCode;
 /// The status where the words are wrong.
 const WRONG_WORDS: u8 = 2;
 
-/// The status where memory or a device fails.
-const NO_DEVICE: u8 = 3;
+/// The status where memory runs out.
+const NO_MEMORY: u8 = 3;
 
 fn run(rt: &HostRuntime) -> io::Result<u8> {
     let alloc = rt.alloc();
@@ -18,16 +18,14 @@ fn run(rt: &HostRuntime) -> io::Result<u8> {
     let mut input = BufReader::new(alloc, rt.reader())?;
     let mut output = BufWriter::new(alloc, io::writer(rt))?;
     let status = command(alloc, words.as_slice(), &mut input, &mut output);
-    output.flush()?;
-    Ok(status)
+    Ok(finish(status, &mut output, &mut io::writer(rt)))
 }
 
-/// The line and the status of what fails outside the command.
+/// The line and the status of what fails before the command: a word, or memory.
 fn failure(kind: ErrorKind) -> (&'static str, u8) {
     match kind {
         ErrorKind::InvalidData => ("words are not utf-8", WRONG_WORDS),
-        ErrorKind::OutOfMemory => ("out of memory", NO_DEVICE),
-        _ => ("write failed", NO_DEVICE),
+        _ => ("out of memory", NO_MEMORY),
     }
 }
 

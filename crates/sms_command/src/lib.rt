@@ -4,6 +4,7 @@
 
 mod cli;
 mod encode;
+mod ending;
 mod fault;
 mod lines;
 mod play;
@@ -15,3 +16,4 @@ mod split;
 mod words;
 
 pub use cli::command;
+pub use ending::finish;

@@ -2,6 +2,8 @@
 #![tactic(auto)]
 
 #[cfg(test)]
+mod ending;
+#[cfg(test)]
 mod found;
 #[cfg(test)]
 mod plays;

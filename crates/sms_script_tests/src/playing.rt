@@ -82,10 +82,11 @@ impl Read for Drips<'_> {
     }
 }
 
-/// Gives one octet for ever.
+/// Gives two octets for ever, in turn.
 #[derive(Drop)]
 struct Endless {
-    octet: u8,
+    next: u8,
+    after: u8,
 }
 
 impl Read for Endless {
@@ -93,8 +94,21 @@ impl Read for Endless {
         if buffer.is_empty() {
             return Ok(0);
         }
-        buffer[0] = self.octet;
+        buffer[0] = self.next;
+        self.next = self.after;
+        self.after = buffer[0];
         Ok(1)
+    }
+}
+
+/// Takes one octet, which leads a text.
+fn take_first(taken: &mut Vec<u8>, octets: &[u8]) -> std::io::Result<usize> {
+    let Some(first) = octets.first() else {
+        return Ok(0);
+    };
+    match taken.push(*first) {
+        Ok(()) => Ok(1),
+        Err(_) => Err(std::io::Error::from(ErrorKind::OutOfMemory)),
     }
 }
 
@@ -107,13 +121,36 @@ struct Narrow {
 
 impl Write for Narrow {
     fn write(&mut self, octets: &[u8]) -> std::io::Result<usize> {
-        if octets.is_empty() || self.taken.len() >= self.room {
+        if self.taken.len() >= self.room {
             return Ok(0);
         }
-        match self.taken.push(octets[0]) {
-            Ok(()) => Ok(1),
-            Err(_) => Err(std::io::Error::from(ErrorKind::OutOfMemory)),
+        take_first(&mut self.taken, octets)
+    }
+
+    fn flush(&mut self) -> std::io::Result<()> {
+        Ok(())
+    }
+}
+
+/// Takes one octet at each call but one, at which it fails.
+#[derive(Drop)]
+struct Failing {
+    taken: Vec<u8>,
+    /// How many calls come before that one, if it still is to come.
+    before: Option<usize>,
+}
+
+impl Write for Failing {
+    fn write(&mut self, octets: &[u8]) -> std::io::Result<usize> {
+        match self.before {
+            Some(0) => {
+                self.before = None;
+                return Err(std::io::Error::from(ErrorKind::Other));
+            }
+            Some(calls) => self.before = Some(calls - 1),
+            None => {}
         }
+        take_first(&mut self.taken, octets)
     }
 
     fn flush(&mut self) -> std::io::Result<()> {
@@ -279,12 +316,19 @@ fn more_lines_than_may_be(rt: HostRuntime) -> Result<(), Fail> {
     Ok(())
 }
 
+/// How playing two octets for ever ends.
+fn result_without_end(alloc: Global, next: u8, after: u8) -> Result<(), PlayFault> {
+    result_of(alloc, Endless { next, after })
+}
+
 #[test]
 fn lines_and_letters_without_end(rt: HostRuntime) {
-    let found = result_of(rt.alloc(), Endless { octet: b'\n' });
-    ends_at(&rt, found, 100_001, ScriptFault::TooManyLines);
-    let found = result_of(rt.alloc(), Endless { octet: b'a' });
-    ends_at(&rt, found, 1, ScriptFault::LineTooLong);
+    let empty = result_without_end(rt.alloc(), b'\n', b'\n');
+    ends_at(&rt, empty, 100_001, ScriptFault::TooManyLines);
+    let comments = result_without_end(rt.alloc(), b'#', b'\n');
+    ends_at(&rt, comments, 100_001, ScriptFault::TooManyLines);
+    let letters = result_without_end(rt.alloc(), b'a', b'a');
+    ends_at(&rt, letters, 1, ScriptFault::LineTooLong);
 }
 
 /// What is wanted where the whole script is read an octet at a time, and as many reads work.
@@ -356,6 +400,36 @@ fn wanted_of(room: usize) -> Wanted<'static> {
 fn writes_that_take_nothing(rt: HostRuntime) {
     for room in 0..=TRANSCRIPT.len() {
         is(&rt, room, &narrowed(rt.alloc(), room), wanted_of(room));
+    }
+}
+
+/// Plays the whole script into a sink that fails after as many calls, and tells whether the sink
+/// failed.
+fn failing_after(alloc: Global, calls: usize) -> Outcome {
+    let mut source = Watched::new(WHOLE);
+    let mut sink = Watched::new(Failing {
+        taken: Vec::new(alloc),
+        before: Some(calls),
+    });
+    let result = play::<Silent, Watched<&[u8]>, Watched<Failing>>(alloc, &mut source, &mut sink);
+    let failed = sink.failed();
+    Outcome {
+        result,
+        written: sink.into_inner().taken,
+        failed,
+    }
+}
+
+/// After the call that fails there is no other.
+#[test]
+fn writes_that_fail(rt: HostRuntime) {
+    for calls in 0..=TRANSCRIPT.len() {
+        is(
+            &rt,
+            calls,
+            &failing_after(rt.alloc(), calls),
+            wanted_of(calls),
+        );
     }
 }
 
