@@ -8,7 +8,7 @@ use crate::printed::{
 use crate::reports::{show_deliver_ack, show_deliver_error, show_submit_ack, show_submit_error};
 use crate::words::UnitKind;
 use sms_field::{AddressView, Alphabet, FieldFault, RpAddressView, alphabet_of};
-use sms_text::{text_of_gsm, text_of_ucs2, units_of_octets};
+use sms_text::{text_of_gsm, text_of_ucs2_octets};
 use sms_tpdu::{Body, DeliverView, Header, SubmitView, UserDataView};
 use std::alloc::Global;
 use std::io::Write;
@@ -36,8 +36,7 @@ fn put_body<W: Write>(
             lines.put("text", Escaped(&text));
         }
         Body::Octets(octets) if alphabet == Alphabet::Ucs2 => {
-            let units = units_of_octets(alloc, octets.as_slice())?;
-            let text = text_of_ucs2(alloc, &units)?;
+            let text = text_of_ucs2_octets(alloc, octets.as_slice())?;
             lines.put("text", Escaped(&text));
         }
         Body::Octets(octets) => lines.put("data", Hexadecimal(octets.as_slice())),

@@ -3,7 +3,7 @@
 ghost use Rattle.sms_text.specs.Bits.{AreSeptets};
 
 use crate::found::{is, is_below, septets_of};
-use sms_text::{gsm_of, text_of_gsm};
+use sms_text::{gsm_of, septets_in, text_from_gsm, text_of_gsm};
 use std::alloc::Global;
 use std::process::Abort;
 use std::test::Fail;
@@ -64,12 +64,14 @@ const EXTENDED: [Extended; 10] = [
     },
 ];
 
-/// The septets stand for the text.
+/// The septets stand for the text, lent and given away.
 fn reads(rt: &impl Abort, alloc: Global, septets: &[u8], text: &str) -> Result<(), Fail>
     requires { AreSeptets septets.now }
 {
     let read = text_of_gsm(alloc, septets)?;
     is(rt, septets, read.as_str(), text);
+    let made = text_from_gsm(alloc, Vec::from_slice(alloc, septets)?)?;
+    is(rt, septets, made.as_str(), text);
     Ok(())
 }
 
@@ -143,4 +145,30 @@ fn escapes(rt: HostRuntime) -> Result<(), Fail> {
     reads(&rt, alloc, &[27, 27, 20], " Λ")?;
     reads(&rt, alloc, &[27, 27, 27, 20], " ^")?;
     refuses(&rt, alloc, "hellы", "hellы")
+}
+
+/// More letters than a block has, with and without one that is not its own code.
+#[test]
+fn long_texts(rt: HostRuntime) -> Result<(), Fail> {
+    let alloc = rt.alloc();
+    reads(
+        &rt,
+        alloc,
+        b"Pack my box with five dozen jugs",
+        "Pack my box with five dozen jugs",
+    )?;
+    reads(
+        &rt,
+        alloc,
+        b"Pack my box with \x02 five dozen jugs",
+        "Pack my box with $ five dozen jugs",
+    )?;
+    is(
+        &rt,
+        "in ASCII",
+        septets_in("Pack my box"),
+        Some(b"Pack my box".as_slice()),
+    );
+    is(&rt, "a currency", septets_in("$5"), None);
+    Ok(())
 }

@@ -10,7 +10,7 @@ use rows::{
     PACKED, PACKED_AFTER_1, PACKED_AFTER_2, PACKED_AFTER_3, PACKED_AFTER_4, PACKED_AFTER_5,
     PACKED_AFTER_6, Packed,
 };
-use sms_text::{pack, pack_into, unpack};
+use sms_text::{pack, pack_into, text_of_packed, unpack};
 use std::alloc::Global;
 use std::process::Abort;
 use std::test::Fail;
@@ -61,9 +61,17 @@ fn unpacks(
     Ok(())
 }
 
+/// The text comes back from octets whose other bits are set.
+fn text_comes_back(rt: &impl Abort, alloc: Global, row: &Packed, count: usize) -> Result<(), Fail> {
+    let text = text_of_packed(alloc, row.set, fill_of(rt, row), count)?;
+    is(rt, (row.fill, row.text), text.as_deref(), Some(row.text));
+    Ok(())
+}
+
 /// The septets come back from octets whose other bits are set, and not from fewer.
 fn come_back(rt: &impl Abort, alloc: Global, row: &Packed, septets: &[u8]) -> Result<(), Fail> {
     unpacks(rt, alloc, row, row.set, septets.len(), Some(septets))?;
+    text_comes_back(rt, alloc, row, septets.len())?;
     match row.set {
         [fewer @ .., _] => unpacks(rt, alloc, row, fewer, septets.len(), None),
         [] => Ok(()),

@@ -1,7 +1,7 @@
 //! Texts in units of 16 bits, and their octets.
 
 use crate::found::is;
-use sms_text::{octets_of_units, text_of_ucs2, ucs2_of, units_of_octets};
+use sms_text::{octets_of_units, text_of_ucs2, text_of_ucs2_octets, ucs2_of, units_of_octets};
 use std::alloc::Global;
 use std::process::Abort;
 use std::test::Fail;
@@ -32,21 +32,24 @@ const HALVES: [Half; 4] = [
     },
 ];
 
-/// Three octets, and the unit of the first two.
+/// Three octets, the unit of the first two, and its text.
 #[derive(Clone, Copy)]
 struct Odd {
     octets: [u8; 3],
     unit: u16,
+    text: &'static str,
 }
 
 const ODD: [Odd; 2] = [
     Odd {
         octets: [0x00, 0x41, 0x04],
         unit: 0x41,
+        text: "A",
     },
     Odd {
         octets: [0x04, 0x16, 0xFF],
         unit: 0x416,
+        text: "Ж",
     },
 ];
 
@@ -77,6 +80,13 @@ fn puts(
     Ok(())
 }
 
+/// The octets stand for the text.
+fn reads_octets(rt: &impl Abort, alloc: Global, octets: &[u8], text: &str) -> Result<(), Fail> {
+    let read = text_of_ucs2_octets(alloc, octets)?;
+    is(rt, octets, read.as_str(), text);
+    Ok(())
+}
+
 /// The octets spell these units.
 fn takes(rt: &impl Abort, alloc: Global, octets: &[u8], units: &[u16]) -> Result<(), Fail> {
     let taken = units_of_octets(alloc, octets)?;
@@ -95,6 +105,7 @@ fn spells(
     writes(rt, alloc, text, units)?;
     puts(rt, alloc, text, units, octets)?;
     takes(rt, alloc, octets, units)?;
+    reads_octets(rt, alloc, octets, text)?;
     reads(rt, alloc, units, text)
 }
 
@@ -105,7 +116,7 @@ struct Ucs2 {
     octets: &'static [u8],
 }
 
-static UCS2: [Ucs2; 3] = [
+static UCS2: [Ucs2; 4] = [
     Ucs2 {
         text: "",
         units: &[],
@@ -115,6 +126,11 @@ static UCS2: [Ucs2; 3] = [
         text: "AЖ",
         units: &[0x41, 0x416],
         octets: &[0x00, 0x41, 0x04, 0x16],
+    },
+    Ucs2 {
+        text: "é€",
+        units: &[0xE9, 0x20AC],
+        octets: &[0x00, 0xE9, 0x20, 0xAC],
     },
     Ucs2 {
         text: "😀",
@@ -141,8 +157,9 @@ fn halves(rt: HostRuntime) -> Result<(), Fail> {
 
 #[test]
 fn odd_octets(rt: HostRuntime) -> Result<(), Fail> {
-    for Odd { octets, unit } in ODD {
+    for Odd { octets, unit, text } in ODD {
         takes(&rt, rt.alloc(), &octets, &[unit])?;
+        reads_octets(&rt, rt.alloc(), &octets, text)?;
     }
     Ok(())
 }

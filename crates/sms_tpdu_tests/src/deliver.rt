@@ -2,6 +2,7 @@
 
 use crate::again::rewritten;
 use crate::found::{are, holds, same};
+use sms_field::alphabet_of;
 use sms_tpdu::{Body, Concat, Deliver, Header, Refusal, Unit, UnitFault, UserData, Width};
 use std::alloc::Global;
 use std::process::Abort;
@@ -29,13 +30,14 @@ const NO_ROOM_FOR_A_HEADER: [u8; 15] = [
     0x44, 0x04, 0x91, 0x01, 0x10, 0x00, 0x00, 0x00, 0x10, 0x10, 0x00, 0x00, 0x00, 0x00, 0x01,
 ];
 
-/// A delivery, its header if it has one, the place of a segment that the header tells, and its
-/// body.
+/// A delivery, its header if it has one, the place of a segment that the header tells, its
+/// body and its text.
 struct Delivery {
     octets: &'static [u8],
     header: Option<&'static [u8]>,
     concat: Option<Concat>,
     body: &'static [u8],
+    text: &'static str,
 }
 
 static DELIVERIES: [Delivery; 6] = [
@@ -48,6 +50,7 @@ static DELIVERIES: [Delivery; 6] = [
         header: Some(&[0x00, 0x03, 0x0A, 0x02, 0x03]),
         concat: None,
         body: b"hi",
+        text: "hi",
     },
     // the element is cut
     Delivery {
@@ -58,6 +61,7 @@ static DELIVERIES: [Delivery; 6] = [
         header: Some(&[0x00, 0x03, 0x0A, 0x02]),
         concat: None,
         body: b"hi",
+        text: "hi",
     },
     // an empty header fills the data
     Delivery {
@@ -68,6 +72,7 @@ static DELIVERIES: [Delivery; 6] = [
         header: Some(&[]),
         concat: None,
         body: b"",
+        text: "",
     },
     // a reference of sixteen bits
     Delivery {
@@ -83,6 +88,7 @@ static DELIVERIES: [Delivery; 6] = [
             sequence: 1,
         }),
         body: b"hi",
+        text: "hi",
     },
     // of two elements the last counts
     Delivery {
@@ -101,6 +107,7 @@ static DELIVERIES: [Delivery; 6] = [
             sequence: 2,
         }),
         body: b"hi",
+        text: "hi",
     },
     // one letter in UCS-2
     Delivery {
@@ -111,6 +118,7 @@ static DELIVERIES: [Delivery; 6] = [
         header: None,
         concat: None,
         body: &[0x04, 0x36],
+        text: "ж",
     },
 ];
 
@@ -151,6 +159,13 @@ fn is_read(alloc: Global, row: &Delivery) -> Result<bool, Fail> {
     )
 }
 
+/// The text of the delivery, which is given away.
+fn text_of(alloc: Global, octets: &[u8]) -> Result<Option<String>, Fail> {
+    let (deliver, _) = Deliver::read(alloc, octets)?;
+    let alphabet = alphabet_of(deliver.dcs);
+    Ok(deliver.user.body.into_text(alloc, alphabet)?)
+}
+
 /// What is written of the delivery that is read, and read again.
 fn written(alloc: Global, octets: &[u8]) -> Result<Vec<u8>, Refusal<UnitFault>> {
     let (deliver, _) = Deliver::read(alloc, octets)?;
@@ -162,6 +177,8 @@ fn reads_and_writes_deliveries(rt: HostRuntime) -> Result<(), Fail> {
     for row in DELIVERIES.as_slice() {
         let read = is_read(rt.alloc(), row)?;
         holds(&rt, &row.octets, read);
+        let text = text_of(rt.alloc(), row.octets)?;
+        same(&rt, &row.octets, &text.as_deref(), &Some(row.text));
         let written = written(rt.alloc(), row.octets)?;
         are(&rt, &row.octets, &written, row.octets);
     }

@@ -2,9 +2,9 @@
 
 use crate::again::rewritten;
 use crate::deliver::octets_in;
-use crate::found::{are, holds};
+use crate::found::{are, holds, same};
 use sms_field::{Stamp, Symbols, Validity};
-use sms_tpdu::{Refusal, Submit, Unit, UnitFault};
+use sms_tpdu::{Refusal, Submit, SubmitView, Unit, UnitFault};
 use std::alloc::Global;
 use std::test::Fail;
 
@@ -28,6 +28,7 @@ struct Row {
     plan: u8,
     digits: &'static [u8],
     septets: &'static [u8],
+    text: &'static str,
 }
 
 static ROWS: [Row; 6] = [
@@ -45,6 +46,7 @@ static ROWS: [Row; 6] = [
         plan: 1,
         digits: &[4, 6, 7, 0, 8, 2, 5, 1, 3, 5, 8],
         septets: b"hellohello",
+        text: "hellohello",
     },
     // an escape, and the code of the euro in the extension table
     Row {
@@ -60,6 +62,7 @@ static ROWS: [Row; 6] = [
         plan: 1,
         digits: &[1, 0, 0, 2],
         septets: &[0x1B, 0x65],
+        text: "€",
     },
     // a repeat is to be rejected
     Row {
@@ -73,6 +76,7 @@ static ROWS: [Row; 6] = [
         plan: 1,
         digits: &[1, 0, 0, 2],
         septets: b"a",
+        text: "a",
     },
     // a telephone number with an odd number of digits; the first letter of the alphabet has the code 0
     Row {
@@ -86,6 +90,7 @@ static ROWS: [Row; 6] = [
         plan: 1,
         digits: &[1, 2, 3],
         septets: &[0x00],
+        text: "@",
     },
     // the enhanced format, a report wanted
     Row {
@@ -101,6 +106,7 @@ static ROWS: [Row; 6] = [
         plan: 1,
         digits: &[1, 2],
         septets: &[],
+        text: "",
     },
     // a stamp, a reply by the same service centre
     Row {
@@ -117,6 +123,7 @@ static ROWS: [Row; 6] = [
         plan: 1,
         digits: &[1, 2],
         septets: &[],
+        text: "",
     },
 ];
 
@@ -153,6 +160,12 @@ fn is_read(alloc: Global, row: &Row) -> Result<bool, Fail> {
     Ok(used == row.octets.len() && has_fields(&submit, row))
 }
 
+/// The text of the submission where it lies.
+fn text_of(alloc: Global, octets: &[u8]) -> Result<Option<String>, Fail> {
+    let (view, _) = SubmitView::read(octets)?;
+    Ok(view.text(alloc)?)
+}
+
 /// What is written of the submission that is read, and read again.
 fn written(alloc: Global, octets: &[u8]) -> Result<Vec<u8>, Refusal<UnitFault>> {
     let (submit, _) = Submit::read(alloc, octets)?;
@@ -164,6 +177,8 @@ fn reads_and_writes_submissions(rt: HostRuntime) -> Result<(), Fail> {
     for row in ROWS.as_slice() {
         let read = is_read(rt.alloc(), row)?;
         holds(&rt, &row.octets, read);
+        let text = text_of(rt.alloc(), row.octets)?;
+        same(&rt, &row.octets, &text.as_deref(), &Some(row.text));
         let written = written(rt.alloc(), row.octets)?;
         are(&rt, &row.octets, &written, row.octets);
     }

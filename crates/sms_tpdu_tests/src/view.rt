@@ -71,6 +71,8 @@ fn a_delivery_where_it_lies(rt: HostRuntime) -> Result<(), Fail> {
     let (view, used) = DeliverView::read(&INPUT)?;
     same(&rt, &"octets", &used, &23);
     is_seen(&rt, &view);
+    let text = view.text(rt.alloc())?;
+    same(&rt, &"text", &text.as_deref(), &Some("hi"));
     let deliver = view.to_value(rt.alloc())?;
     is_valued(&rt, &deliver);
     Ok(())

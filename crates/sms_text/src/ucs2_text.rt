@@ -1,0 +1,62 @@
+//! The text of octets in UCS-2, with no list of units.
+
+ghost use Rattle.std.specs.Prelude.{◌≡◌, ◌≤◌, ◌+◌, ◌*◌, ◌/◌, length, take, IfOk, IfSome};
+ghost use Rattle.std.specs.Str.{chars, encode_utf8_all, IsUtf8};
+ghost use Rattle.std.specs.String.{string_bytes};
+ghost use Rattle.std.specs.Char.Utf16.{utf16_lossy_chars};
+ghost use Rattle.sms_text.specs.Utf16.{units_high_first};
+
+use crate::spelled::unit_word;
+use crate::ucs2::{text_of_ucs2, unit, units_of_octets};
+use crate::written::{put_word, text_of_utf8};
+use std::alloc::{AllocError, Global};
+
+/// Writes the text of octets from the front on, and returns where it ends; none where there is a
+/// half of a pair.
+#[inline(never)]
+fn put_ucs2(out: &mut [u8], octets: &[u8]) -> Option<usize>
+    requires { 3 * (length octets.now / 2) + 4 ≤ length out.old }
+    ensures within { IfSome result (λ end. end ≤ length out.new) }
+    ensures text { IfSome result (λ end. IsUtf8 (take end out.new)) }
+    ensures spelled { IfSome result (λ end. take end out.new
+        ≡ encode_utf8_all (utf16_lossy_chars (units_high_first octets.now))) }
+{
+    let mut rest = octets;
+    let mut at = 0;
+    while let [high, low, others @ ..] = rest {
+        let Some(word) = unit_word(unit(*high, *low)) else {
+            return None;
+        };
+        at = put_word(out, at, word);
+        rest = others;
+    }
+    Some(at)
+}
+
+/// The text of octets without halves of pairs.
+fn text_of_whole(alloc: Global, octets: &[u8]) -> Result<Option<String>, AllocError>
+    ensures { IfOk result (λ found. IfSome found (λ text.
+        chars (string_bytes text) ≡ utf16_lossy_chars (units_high_first octets.now))) }
+{
+    let room = octets.len() / 2 * 3 + 4;
+    let mut text = Vec::with_capacity(alloc, room)?;
+    text.resize(room, 0)?;
+    let Some(end) = put_ucs2(&mut text, octets) else {
+        return Ok(None);
+    };
+    text.truncate(end);
+    Ok(Some(text_of_utf8(text)))
+}
+
+/// The text of octets in UCS-2, the high octet of each unit first; an odd last octet is dropped, and
+/// an unpaired half is U+FFFD (3GPP TS 23.038, 6.2.3).
+pub fn text_of_ucs2_octets(alloc: Global, octets: &[u8]) -> Result<String, AllocError>
+    ensures { IfOk result (λ text.
+        chars (string_bytes text) ≡ utf16_lossy_chars (units_high_first octets.now)) }
+{
+    if let Some(text) = text_of_whole(alloc, octets)? {
+        return Ok(text);
+    }
+    let units = units_of_octets(alloc, octets)?;
+    text_of_ucs2(alloc, &units)
+}
