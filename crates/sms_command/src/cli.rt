@@ -31,14 +31,14 @@ fn octets_of(alloc: Global, word: &str) -> Result<Vec<u8>, Fault> {
 /// The lines of what octets are shown as.
 fn put_kind<W: Write>(
     alloc: Global,
-    kind: Kind,
+    shown: &Shown<'_>,
     octets: &[u8],
     lines: &mut Lines<W>,
 ) -> Result<(), Fault> {
-    match kind {
+    match shown.kind {
         Kind::Unit(kind) => show_unit(alloc, kind, octets, lines),
-        Kind::Rp => show_rp(alloc, octets, lines),
-        Kind::Cp => show_cp(alloc, octets, lines),
+        Kind::Rp => show_rp(alloc, shown.any, octets, lines),
+        Kind::Cp => show_cp(alloc, shown.any, octets, lines),
     }
 }
 
@@ -54,12 +54,15 @@ fn put_shown<W: Write>(
     } else {
         octets
     };
-    put_kind(alloc, shown.kind, unit, lines)
+    put_kind(alloc, shown, unit, lines)
 }
 
 /// Writes what octets are shown as. Where they are at fault, the lines before the fault stand; a
 /// write that fails counts first.
 fn show<W: Write>(alloc: Global, shown: Shown<'_>, output: &mut W) -> Result<(), Fault> {
+    if shown.has_wrong_option() {
+        return Err(Fault::WrongOption);
+    }
     let octets = octets_of(alloc, shown.octets)?;
     let mut lines = Lines::new(output);
     let answered = put_shown(alloc, &shown, &octets, &mut lines);

@@ -2,6 +2,7 @@
 //! split, scripts that are played.
 #![tactic(auto)]
 
+mod any;
 mod cli;
 mod encode;
 mod ending;
@@ -13,6 +14,8 @@ mod relay;
 mod reports;
 mod show;
 mod split;
+mod status_reports;
+mod status_words;
 mod words;
 
 pub use cli::command;

@@ -1,5 +1,6 @@
 //! The fields of relay and connection messages, one a line, and those of the unit inside.
 
+use crate::any::{is_memory_available, kind_told, show_memory_available};
 use crate::fault::Fault;
 use crate::lines::Lines;
 use crate::printed::{Octet, TransactionText};
@@ -81,13 +82,33 @@ fn put_front<W: Write>(
     Ok(())
 }
 
-/// Writes the fields of an RP message, and those of the unit that it carries.
-pub fn show_rp<W: Write>(alloc: Global, octets: &[u8], lines: &mut Lines<W>) -> Result<(), Fault> {
+/// The kind as which the unit of a relay message is read: the one that its first octet tells where
+/// any may be inside, and else the one that the message implies.
+fn kind_of(message: &RpView<'_>, any: bool, unit: &[u8]) -> UnitKind {
+    let implied = kind_inside(message);
+    if any {
+        kind_told(message.side, unit, implied)
+    } else {
+        implied
+    }
+}
+
+/// Writes the fields of an RP message, and those of the unit that it carries; where any message may
+/// stand there, of an RP-SMMA and of any unit too.
+pub fn show_rp<W: Write>(
+    alloc: Global,
+    any: bool,
+    octets: &[u8],
+    lines: &mut Lines<W>,
+) -> Result<(), Fault> {
+    if any && is_memory_available(octets) {
+        return show_memory_available(octets, lines);
+    }
     let (message, used) = RpView::read(octets)?;
     put_front(alloc, lines, &message)?;
     lines.put_rest(octets.len() - used);
     match unit_inside(&message.body) {
-        Some(unit) => show_unit(alloc, kind_inside(&message), unit, lines),
+        Some(unit) => show_unit(alloc, kind_of(&message, any, unit), unit, lines),
         None => Ok(()),
     }
 }
@@ -115,12 +136,17 @@ fn put_connection<W: Write>(lines: &mut Lines<W>, message: &CpView<'_>) {
 }
 
 /// Writes the fields of a CP message, and those of the RP message that it carries.
-pub fn show_cp<W: Write>(alloc: Global, octets: &[u8], lines: &mut Lines<W>) -> Result<(), Fault> {
+pub fn show_cp<W: Write>(
+    alloc: Global,
+    any: bool,
+    octets: &[u8],
+    lines: &mut Lines<W>,
+) -> Result<(), Fault> {
     let (message, used) = CpView::read(octets)?;
     put_connection(lines, &message);
     lines.put_rest(octets.len() - used);
     match &message.body {
-        CpBodyView::Transfer(relayed) => show_rp(alloc, relayed.as_slice(), lines),
+        CpBodyView::Transfer(relayed) => show_rp(alloc, any, relayed.as_slice(), lines),
         CpBodyView::Ack | CpBodyView::Fail(_) => Ok(()),
     }
 }

@@ -7,7 +7,7 @@ use sms_tpdu::{DeliverAckView, DeliverErrorView, ReportDataView, SubmitAckView, 
 use std::io::Write;
 
 /// The lines of what a report need not have.
-fn put_parts<W: Write>(
+pub fn put_parts<W: Write>(
     lines: &mut Lines<W>,
     pid: Option<u8>,
     dcs: Option<u8>,

@@ -6,6 +6,7 @@ use crate::printed::{
     Answer, ConcatText, Escaped, Hexadecimal, Numbering, Octet, StampText, ValidityText,
 };
 use crate::reports::{show_deliver_ack, show_deliver_error, show_submit_ack, show_submit_error};
+use crate::status_reports::{show_command, show_status_report};
 use crate::words::UnitKind;
 use sms_field::{AddressView, Alphabet, FieldFault, RpAddressView, alphabet_of};
 use sms_text::{text_of_gsm, text_of_ucs2_octets};
@@ -60,7 +61,7 @@ fn put_user<W: Write>(
 }
 
 /// The lines of an address, by the name of its party.
-fn put_party<W: Write>(
+pub fn put_party<W: Write>(
     alloc: Global,
     lines: &mut Lines<W>,
     name: &str,
@@ -164,5 +165,7 @@ pub fn show_unit<W: Write>(
         UnitKind::SubmitError => show_submit_error(octets, lines),
         UnitKind::DeliverAck => show_deliver_ack(octets, lines),
         UnitKind::DeliverError => show_deliver_error(octets, lines),
+        UnitKind::StatusReport => show_status_report(alloc, octets, lines),
+        UnitKind::Command => show_command(alloc, octets, lines),
     }
 }

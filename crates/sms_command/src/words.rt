@@ -32,6 +32,8 @@ pub enum UnitKind {
     SubmitError,
     DeliverAck,
     DeliverError,
+    StatusReport,
+    Command,
 }
 
 /// What octets are shown as: a transfer unit, or a message of the relay or the connection.
@@ -58,6 +60,18 @@ pub struct Shown<'a> {
     pub octets: &'a str,
     /// Whether the address of a service centre comes first.
     pub has_centre: bool,
+    /// Whether a message of the relay may be any of the standard's.
+    pub any: bool,
+}
+
+impl Shown<'_> {
+    /// Whether an option was given that the kind does not have.
+    pub fn has_wrong_option(&self) -> bool {
+        match self.kind {
+            Kind::Unit(_) => self.any,
+            Kind::Rp | Kind::Cp => false,
+        }
+    }
 }
 
 /// A unit whose octets are asked for, with the options of every kind. What is `None` was not given.
@@ -148,6 +162,8 @@ static SUBCOMMANDS: [Subcommand; 4] = [
                     "submit-error",
                     "deliver-ack",
                     "deliver-error",
+                    "status-report",
+                    "command",
                     "rp",
                     "cp",
                 ]),
@@ -162,6 +178,11 @@ static SUBCOMMANDS: [Subcommand; 4] = [
                 name: "sca",
                 form: Form::Flag,
                 help: "The address of a service centre comes first",
+            },
+            Word {
+                name: "any",
+                form: Form::Flag,
+                help: "rp, cp: the unit inside is of the kind that its first octet tells",
             },
         ],
         example: None,
@@ -290,6 +311,8 @@ fn kind_of(word: &str) -> Option<Kind> {
         "submit-error" => Some(Kind::Unit(UnitKind::SubmitError)),
         "deliver-ack" => Some(Kind::Unit(UnitKind::DeliverAck)),
         "deliver-error" => Some(Kind::Unit(UnitKind::DeliverError)),
+        "status-report" => Some(Kind::Unit(UnitKind::StatusReport)),
+        "command" => Some(Kind::Unit(UnitKind::Command)),
         "rp" => Some(Kind::Rp),
         "cp" => Some(Kind::Cp),
         _ => None,
@@ -311,6 +334,7 @@ fn shown_of<'a>(found: &ArgMatches<'a>) -> Option<Request<'a>> {
         kind: kind_of(found.get_str("KIND")?)?,
         octets: found.get_str("HEX").unwrap_or(""),
         has_centre: found.get_flag("sca"),
+        any: found.get_flag("any"),
     }))
 }
 

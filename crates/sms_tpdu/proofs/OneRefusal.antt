@@ -28,6 +28,8 @@ use Rattle.sms_tpdu.specs.IfMoreLaws.{one_reason_if_more}
 use Rattle.sms_tpdu.specs.Report.Indicated.{indicated_parts, no_parts, optional_parts}
 use Rattle.sms_tpdu.specs.StatusReport.{status_report, report_of}
 use Rattle.sms_tpdu.specs.StatusReport.Flags.{status_report_flags}
+use Rattle.sms_tpdu.specs.Command.{command}
+use Rattle.sms_tpdu.specs.Command.Flags.{command_flags}
 use Rattle.sms_tpdu.specs.declared.report.indicator.Indicator.{Indicator}
 use Rattle.sms_tpdu.specs.declared.submit.validity.ValidityFormat.{ValidityFormat}
 use Rattle.sms_tpdu.specs.declared.submit.validity.ValidityFormat.TheVariants.{Absent, Relative, Enhanced, Absolute}
@@ -201,6 +203,18 @@ one_reason_status_report =
     one_reason_chain _ _ (one_way_octet Short) (one_reason_octet Short) (λ status.
     one_reason_mapped (report_of flags reference recipient stamp discharged status) optional_parts one_reason_optional_parts))))))
 
+one_reason_command : HasOneReason command
+unfolding command
+one_reason_command =
+    one_reason_chain _ _ (one_way_by Short command_flags) (one_reason_by Short command_flags) (λ flags.
+    one_reason_chain _ _ (one_way_octet Short) (one_reason_octet Short) (λ reference.
+    one_reason_chain _ _ (one_way_octet Short) (one_reason_octet Short) (λ pid.
+    one_reason_chain _ _ (one_way_octet Short) (one_reason_octet Short) (λ kind.
+    one_reason_chain _ _ (one_way_octet Short) (one_reason_octet Short) (λ message.
+    one_reason_chain _ _ one_way_address one_reason_named_address (λ target.
+    one_reason_chain _ _ (one_way_by Short (up_to 157 DataTooLong)) (one_reason_by Short (up_to 157 DataTooLong)) (λ count.
+    one_reason_chain _ _ (one_way_octets Short count) (one_reason_octets Short count) (λ octets. λ f o w b p q. absurd p))))))))
+
 one_reason_header : HasOneReason header
 unfolding header
 one_reason_header = one_reason_chain _ _ (one_way_by Short (up_to 139 HeaderTooLong)) (one_reason_by Short (up_to 139 HeaderTooLong)) (λ size. one_reason_octets Short size)
@@ -227,6 +241,9 @@ deliver_error_refused_once = one_refusal Short deliver_error is_short one_reason
 
 pub status_report_refused_once : IsRefusedOnce Short status_report
 status_report_refused_once = one_refusal Short status_report is_short one_reason_status_report
+
+pub command_refused_once : IsRefusedOnce Short command
+command_refused_once = one_refusal Short command is_short one_reason_command
 
 pub header_refused_once : IsRefusedOnce Short header
 header_refused_once = one_refusal Short header is_short one_reason_header

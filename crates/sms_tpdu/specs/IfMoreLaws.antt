@@ -1,12 +1,12 @@
 -- A part that is there where another octet follows is lawful where the part is, which is no part
 -- of no octets; and what is known of the part is known of it.
-use Rattle.std.proofs.Common.{◌≡◌, inl, inr, ℕ, List, [], ◌∷◌, ◌++◌, refl, sym, subst, ◌∙◌, ap, arith}
+use Rattle.std.proofs.Common.{◌≡◌, inl, inr, ℕ, List, [], ◌∷◌, ◌++◌, refl, sym, subst, ◌∙◌, arith}
 use Rattle.sms_text.specs.Octets.{IsOctets}
 use Rattle.sms_field.specs.Field.{Outcome, found, refused, Field, HasReading, CanContinue, IsReading, IsAnswer, IsLawful}
 use Rattle.sms_field.specs.OneRefusal.{HasOneReason}
 use Rattle.sms_field.specs.Reasons.{Never}
 use Rattle.sms_field.specs.ReadValues.{Has}
-use Rattle.sms_tpdu.specs.IfMore.{IsEnd, read_if_more, if_more}
+use Rattle.sms_tpdu.specs.IfMore.{read_if_more, if_more}
 
 -- there is an octet in front
 nonempty : (x : ℕ) (xs octets rest : List ℕ) → x ∷ xs ≡ octets ++ rest → octets ≡ [] → rest ≡ [] → ⊥

@@ -26,6 +26,8 @@ use Rattle.sms_tpdu.specs.Report.SubmitError.{submit_error}
 use Rattle.sms_tpdu.specs.Report.DeliverAck.{deliver_ack}
 use Rattle.sms_tpdu.specs.Report.DeliverError.{deliver_error}
 use Rattle.sms_tpdu.specs.Report.Indicated.{indicated_parts, optional_parts}
+use Rattle.sms_tpdu.specs.Command.{command}
+use Rattle.sms_tpdu.specs.Command.Flags.{command_flags}
 use Rattle.sms_tpdu.specs.StatusReport.{status_report}
 use Rattle.sms_tpdu.specs.StatusReport.Flags.{status_report_flags}
 use Rattle.sms_tpdu.specs.declared.report.indicator.Indicator.{Indicator}
@@ -166,3 +168,15 @@ status_report_tells =
     never_chain _ _ _ (λ f o h. h) (λ stamp.
     never_chain _ _ _ (λ f o h. h) (λ discharged.
     never_chain _ _ _ (λ f o h. h) (λ status. never_optional_parts))))))
+
+pub command_tells : TellsOtherTypes command command_flags
+unfolding command
+command_tells =
+    tells_by command_flags _ (λ flags.
+    never_chain _ _ _ (λ f o h. h) (λ reference.
+    never_chain _ _ _ (λ f o h. h) (λ pid.
+    never_chain _ _ _ (λ f o h. h) (λ kind.
+    never_chain _ _ _ (λ f o h. h) (λ message.
+    never_chain _ _ _ (never_map_reason _ unit_fault address field_apart) (λ target.
+    never_chain _ _ _ (never_by _ Short _ (λ o e. up_to_apart DataTooLong WrongType _ o (λ s. cc) e)) (λ count.
+    never_chain _ _ _ (λ f o h. h) (λ octets. λ f o h. h))))))))

@@ -11,7 +11,7 @@ use Rattle.sms_field.specs.declared.coding.Alphabet.{Alphabet}
 use Rattle.sms_field.specs.declared.coding.Alphabet.TheVariants.{Gsm7, EightBit, Ucs2, Compressed}
 use Rattle.sms_field.specs.declared.validity.Validity.{Validity}
 use Rattle.sms_field.specs.declared.validity.Validity.TheVariants as period
-use Rattle.sms_tpdu.specs.Sizes.{greatest_size, greatest_status_size, IsWithin}
+use Rattle.sms_tpdu.specs.Sizes.{greatest_size, greatest_status_size, greatest_command_size, IsWithin}
 use Rattle.sms_tpdu.specs.UserData.Lengths.{fill_bits}
 use Rattle.sms_tpdu.specs.UserData.{header_octets, BodyFits, FitsAlphabet, SpellsBody, SpellsUserData}
 use Rattle.sms_tpdu.specs.Submit.ValidityPeriod.{validity_octets, IsInRange}
@@ -28,6 +28,7 @@ use Rattle.sms_tpdu.specs.Report.DeliverError.{DeliverErrorValue, SpellsDeliverE
 use Rattle.sms_tpdu.specs.Report.DeliverError as delivery_error
 use Rattle.sms_tpdu.specs.Report.Indicated.{is_any, optional_parts_octets}
 use Rattle.sms_tpdu.specs.Report.ParameterIndicator.{indicator_octet}
+use Rattle.sms_tpdu.specs.Command.{SpellsCommand}
 use Rattle.sms_tpdu.specs.StatusReport.{SpellsStatusReport}
 use Rattle.sms_tpdu.specs.StatusReport as status_report
 use Rattle.sms_tpdu.specs.declared.report.ReportData.{ReportData}
@@ -129,3 +130,9 @@ status_report_within r octets p =
     let parts = optional_parts_within those fits.parts in
     let after : List ℕ = r.status ∷ optional_parts_octets those in
     omega (arith, a, parts, fits.stamp.0, fits.discharged.0, ap length p.1, length-append (address_octets r.recipient) (r.stamp ++ (r.discharged ++ after)), length-append r.stamp (r.discharged ++ after), length-append r.discharged after)
+
+pub command_within : IsWithin greatest_command_size SpellsCommand
+command_within c octets p =
+    let fits = p.0 in
+    let a = address_few c.target fits.target in
+    omega (arith, a, fits.few, ap length p.1, length-append (address_octets c.target) (length c.octets ∷ c.octets))

@@ -9,6 +9,10 @@ greatest_size = 172
 abbrev pub greatest_status_size : ℕ
 greatest_status_size = 192
 
+-- an SMS-COMMAND has at most 157 octets of data
+abbrev pub greatest_command_size : ℕ
+greatest_command_size = 175
+
 -- what is written has at most this number of octets
 abbrev pub IsWithin : {V : Type 0} → ℕ → (V → List ℕ → Type 0) → Type 0
 IsWithin {V} limit spells =

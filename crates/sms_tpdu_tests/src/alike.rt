@@ -1,7 +1,7 @@
 //! A value and its view, of octets that are cut or of which one is changed.
 
 use crate::found::holds;
-use sms_tpdu::{Refusal, StatusReportView, Unit, UnitFault, View, see};
+use sms_tpdu::{CommandView, Refusal, StatusReportView, Unit, UnitFault, View, see};
 use std::alloc::{AllocError, Global};
 use std::process::Abort;
 
@@ -69,12 +69,14 @@ fn agree<'a, U: Unit<Why = UnitFault>, V: View<'a, Owned = U>>(
 #[derive(Clone, Copy, Debug)]
 pub enum Kind {
     StatusReport,
+    Command,
 }
 
 /// Whether a unit of a kind and its view are read alike.
 fn agree_as(alloc: Global, kind: Kind, octets: &[u8]) -> bool {
     match kind {
         Kind::StatusReport => agree::<_, StatusReportView>(alloc, octets),
+        Kind::Command => agree::<_, CommandView>(alloc, octets),
     }
 }
 

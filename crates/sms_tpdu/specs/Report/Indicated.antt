@@ -1,6 +1,6 @@
 -- The indicator of a report and the parts that it says are there, or nothing at all (3GPP TS
 -- 23.040, 9.2.2.3: TP-PI stands where one of these parts follows, and else need not).
-use Rattle.std.specs.Prelude.{◌≡◌, ℕ, Bool, true, false, ◌||◌, List, [], ◌∷◌, None, if◌then◌else◌}
+use Rattle.std.specs.Prelude.{◌≡◌, ℕ, Bool, false, ◌||◌, List, [], ◌∷◌, None, if◌then◌else◌}
 use Rattle.sms_field.specs.Field.{Field, ◌>>=◌}
 use Rattle.sms_tpdu.specs.IfMore.{if_more}
 use Rattle.sms_tpdu.specs.Report.ParameterIndicator.{indicator, indicator_octet}

@@ -10,12 +10,13 @@ use Rattle.sms_field.specs.declared.fault.FieldFault.TheVariants as fields
 use Rattle.sms_field.specs.ChainLaws.{chain_lawful}
 use Rattle.sms_field.specs.MappedLaws.{mapped_lawful}
 use Rattle.sms_field.specs.OctetLists.{octets-append}
-use Rattle.sms_field.specs.SingleLaws.{octet_self, octet_lawful, octet_by_self, octet_by_lawful, octets_of_self, octets_of_lawful, map_reason_lawful}
+use Rattle.sms_field.specs.SingleLaws.{octet_self, octet_lawful, octet_by_self, octet_by_lawful, octets_of_self, octets_of_lawful, map_reason_lawful, apart_then}
 use Rattle.sms_field.specs.AddressLaws.{address_self, address_lawful}
 use Rattle.sms_field.specs.AddressSpelling.{address_again, address_are_octets}
 use Rattle.sms_tpdu.specs.UnitLaws.{AreUnitLaws}
 use Rattle.sms_tpdu.specs.Fault.{unit_fault}
 use Rattle.sms_tpdu.specs.FaultLaws.{fault_apart}
+use Rattle.sms_tpdu.specs.Deliver.Laws.{twice}
 use Rattle.sms_tpdu.specs.Report.Indicated.{optional_parts, optional_parts_octets}
 use Rattle.sms_tpdu.specs.Report.IndicatedLaws.{optional_parts_lawful, optional_parts_again, optional_parts_are_octets}
 use Rattle.sms_tpdu.specs.StatusReport.Flags.{status_report_flags, status_report_octet}
@@ -23,17 +24,10 @@ use Rattle.sms_tpdu.specs.StatusReport.{StatusReportValue, IsStatusReport, statu
 use Rattle.sms_tpdu.specs.declared.status_report.flags.StatusReportFlags.{StatusReportFlags}
 use Rattle.sms_tpdu.specs.declared.fault.UnitFault.TheVariants.{Short, WrongType}
 
-flags_apart_from : (a : Bool) (f : StatusReportFlags) → cond a (Err WrongType) (Ok f) ≡ Err Short → ⊥
-flags_apart_from true f e = cc
-flags_apart_from false f e = cc
-
-flags_apart : (o : ℕ) → status_report_flags o ≡ Err Short → ⊥
-flags_apart o e = flags_apart_from (bit 0 o || not (bit 1 o)) _ e
-
 status_report_lawful : IsLawful Short status_report
 unfolding status_report
 status_report_lawful =
-    chain_lawful _ _ Short (octet_by_self Short status_report_flags) (octet_by_lawful Short status_report_flags (2, lit< tt, _, refl) flags_apart) (λ flags _ _ _.
+    chain_lawful _ _ Short (octet_by_self Short status_report_flags) (octet_by_lawful Short status_report_flags (2, lit< tt, _, refl) (λ o. apart_then Short _ _ WrongType (λ e. cc))) (λ flags _ _ _.
     chain_lawful _ _ Short (octet_self Short) (octet_lawful Short) (λ reference _ _ _.
     chain_lawful _ _ Short address_self (map_reason_lawful fields.Short unit_fault fault_apart address address_lawful) (λ recipient _ _ _.
     chain_lawful _ _ Short (octets_of_self Short 7) (octets_of_lawful Short 7) (λ stamp _ _ _.
@@ -45,10 +39,6 @@ status_report_lawful =
 
 flags_bits : (f : StatusReportFlags) → AreBits false true (not f.more) f.looped false f.qualifier f.header false (status_report_octet f)
 flags_bits f = summed_bits false true (not f.more) f.looped false f.qualifier f.header false (status_report_octet f) (omega arith)
-
-twice : (b : Bool) → not (not b) ≡ b
-twice true = refl
-twice false = refl
 
 flags_again : (f : StatusReportFlags) → status_report_flags (status_report_octet f) ≡ Ok f
 flags_again f =
