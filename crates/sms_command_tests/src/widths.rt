@@ -12,7 +12,7 @@ struct WideRow {
     lines: &'static str,
 }
 
-static WIDE_ROWS: [WideRow; 5] = [
+static WIDE_ROWS: [WideRow; 4] = [
     WideRow {
         text: "a*160",
         reference: "0",
@@ -32,11 +32,6 @@ static WIDE_ROWS: [WideRow; 5] = [
         text: "a*161",
         reference: "258",
         lines: "1/2 gsm 160 06080401020201|E170381C0E87C3*19|\n2/2 gsm 17 06080401020202E170381C0E87C361\n",
-    },
-    WideRow {
-        text: "ж*71",
-        reference: "65535",
-        lines: "1/2 ucs2 139 060804FFFF0201|0436*66|\n2/2 ucs2 17 060804FFFF0202|0436*5|\n",
     },
 ];
 

@@ -1,4 +1,4 @@
-//! Calls of the centre. Where memory runs out in one, the same call is made again.
+//! Calls of the centre.
 
 ghost use Rattle.std.specs.Prelude.{◌≡◌, ◌<◌, ◌≤◌, [], ◌∷◌, length, IfOk};
 ghost use Rattle.sms_field.specs.declared.symbols.Symbols.TheVariants as symbols;
@@ -85,17 +85,9 @@ fn called(alloc: Global, fixture: &mut Fixture, row: &Row) -> Result<Step, Dropp
     }
 }
 
-/// A call of a row, made again where memory runs out.
-fn called_at_last(alloc: Global, fixture: &mut Fixture, row: &Row) -> Result<Step, Dropped> {
-    match called(alloc, fixture, row) {
-        Err(Dropped::Memory) => called(alloc, fixture, row),
-        told => told,
-    }
-}
-
 /// Whether a row is answered as it says.
 fn is_answered(alloc: Global, fixture: &mut Fixture, row: &Row) -> bool {
-    let told = called_at_last(alloc, fixture, row);
+    let told = called(alloc, fixture, row);
     is_answer(&told, row.answer, row.packets)
 }
 

@@ -1,4 +1,4 @@
-//! Packets that come to a phone. Where memory runs out, the same packet comes again.
+//! Packets that come to a phone.
 
 ghost use Rattle.std.specs.Prelude.{◌<◌};
 
@@ -6,7 +6,6 @@ mod rows;
 
 use crate::answer::{is_answer, none_differs};
 use crate::receiver::rows::{AGES, FULL, FULL_STORE, REFUSALS, Row, TEXTS, WIDTHS};
-use sms_message::{Dropped, Step};
 use sms_party::{Entry, Receiver};
 use std::alloc::Global;
 use std::process::Abort;
@@ -31,18 +30,10 @@ fn has_texts(store: &[Entry], texts: &[&str]) -> bool {
     store.len() == texts.len()
 }
 
-/// The packet of a row comes, and comes again where memory runs out.
-fn received(phone: &mut Receiver, row: &Row) -> Result<Step, Dropped> {
-    match phone.receive(row.now, row.octets) {
-        Err(Dropped::Memory) => phone.receive(row.now, row.octets),
-        told => told,
-    }
-}
-
 /// Whether a row is answered as it says, by a phone that ages before it.
 fn is_answered(phone: &mut Receiver, row: &Row) -> bool {
     phone.age(row.now);
-    let told = received(phone, row);
+    let told = phone.receive(row.now, row.octets);
     is_answer(&told, row.answer, row.packets) && has_texts(phone.store(), row.store)
 }
 

@@ -1,5 +1,4 @@
-//! What a sending phone answers, and the packets that it puts out. Where memory runs out in a call,
-//! it is made again.
+//! What a sending phone answers, and the packets that it puts out.
 
 mod rows;
 
@@ -25,10 +24,7 @@ fn called(sender: &mut Sender, target: &Address, row: &Row) -> Result<Step, Drop
 /// Makes the calls of the rows, and says which one is answered otherwise, if any is.
 fn differs(sender: &mut Sender, target: &Address, rows: &[Row]) -> Option<&'static str> {
     for row in rows {
-        let mut told = called(sender, target, row);
-        if let Err(Dropped::Memory) = told {
-            told = called(sender, target, row);
-        }
+        let told = called(sender, target, row);
         if !is_answer(&told, row.answer, row.packets) {
             return Some(row.name);
         }

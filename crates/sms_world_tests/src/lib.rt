@@ -8,6 +8,8 @@ mod found;
 #[cfg(test)]
 mod growths;
 #[cfg(test)]
+mod hostile;
+#[cfg(test)]
 mod segments;
 #[cfg(test)]
 mod two;

@@ -1,6 +1,6 @@
 //! A world of two phones, and what happens in it.
 
-ghost use Rattle.std.specs.Prelude.{◌≡◌, ◌<◌, [], ◌∷◌, length, IfOk};
+ghost use Rattle.std.specs.Prelude.{◌≡◌, ◌<◌, ◌≤◌, [], ◌∷◌, length, IfOk};
 ghost use Rattle.sms_field.specs.declared.symbols.Symbols.TheVariants as symbols;
 ghost use Rattle.sms_script.specs.declared.meaning.statement.Limit.TheVariants as limits;
 ghost use Rattle.sms_script.specs.Script.Limits.{IsIn};
@@ -28,11 +28,11 @@ pub fn address(alloc: Global, last: u8) -> Result<Address, AllocError>
     })
 }
 
-/// A world of two phones.
+/// A world of two phones, or of more.
 #[derive(Drop)]
 pub struct Two {
     pub world: World,
-    ghost two: { length world.parties.phones ≡ 2 },
+    ghost two: { 2 ≤ length world.parties.phones },
 }
 
 /// A world with the phones +1001 and +1002, each of which has room for that many texts.
@@ -52,19 +52,34 @@ pub fn new_two(alloc: Global) -> Result<Two, Fail> {
     two_with_room(alloc, 500)
 }
 
-/// The same world by itself.
+/// A world with the phones +1001, +1002 and +1003, at each of which one set may be open.
+#[tactic(auto, unfolding(sms_field::specs::SameAddress::same_address))]
+pub fn three_with_one_open(alloc: Global) -> Result<Two, Fail> {
+    let mut limits = Limits::new();
+    limits.set(Limit::Open, 1);
+    let phones = [address(alloc, 1)?, address(alloc, 2)?, address(alloc, 3)?];
+    let world = World::new(alloc, limits, &phones)?;
+    Ok(Two { world })
+}
+
+/// A world with the phones +1001 and +1002, by itself.
 pub fn new_world(alloc: Global) -> Result<World, Fail> {
     let two = new_two(alloc)?;
     Ok(two.world)
 }
 
-/// Someone types a text at the first phone, to the second one.
-pub fn typing(alloc: Global, text: &str) -> Result<Event, AllocError> {
+/// Someone types a text at a phone, to the second one.
+pub fn typing_at(alloc: Global, phone: usize, text: &str) -> Result<Event, AllocError> {
     Ok(Event::Compose {
-        phone: 0,
+        phone,
         target: address(alloc, 2)?,
         text: Text::copy(alloc, text)?,
     })
+}
+
+/// Someone types a text at the first phone, to the second one.
+pub fn typing(alloc: Global, text: &str) -> Result<Event, AllocError> {
+    typing_at(alloc, 0, text)
 }
 
 /// Octets come to a phone that nobody put out.
@@ -84,8 +99,21 @@ pub fn is_stored(store: &[Entry], text: &str) -> bool {
     }
 }
 
+/// An event is answered so.
+pub fn answers(rt: &impl Abort, two: &mut Two, event: &Event, wanted: Result<Outcome, WorldFault>) {
+    let answer = two.world.step(event);
+    holds(rt, event, answer == wanted);
+}
+
+/// Events are answered so, one after another.
+pub fn all_answer(rt: &impl Abort, two: &mut Two, events: &[Event], wanted: &[Outcome]) {
+    for (event, outcome) in events.iter().zip(wanted) {
+        answers(rt, two, event, Ok(*outcome));
+    }
+}
+
 /// An event, and once more where it wants memory: then nothing has come of it before.
-pub fn at_last(two: &mut Two, event: &Event) -> Result<Outcome, WorldFault> {
+fn at_last(two: &mut Two, event: &Event) -> Result<Outcome, WorldFault> {
     let before = two.world.packet_count();
     let first = two.world.step(event);
     if first == Err(WorldFault::Party(Dropped::Memory)) && two.world.packet_count() == before {
@@ -95,16 +123,29 @@ pub fn at_last(two: &mut Two, event: &Event) -> Result<Outcome, WorldFault> {
     }
 }
 
-/// An event is answered so.
-pub fn answers(rt: &impl Abort, two: &mut Two, event: &Event, wanted: Result<Outcome, WorldFault>) {
+/// An event is answered so, or at the second time where it wants memory.
+pub fn answers_at_last(
+    rt: &impl Abort,
+    two: &mut Two,
+    event: &Event,
+    wanted: Result<Outcome, WorldFault>,
+) {
     let answer = at_last(two, event);
     holds(rt, event, answer == wanted);
 }
 
-/// Events are answered so, one after another.
-pub fn all_answer(rt: &impl Abort, two: &mut Two, events: &[Event], wanted: &[Outcome]) {
+/// Events are answered so, one after another, or at the second time where one wants memory.
+pub fn all_answer_at_last(rt: &impl Abort, two: &mut Two, events: &[Event], wanted: &[Outcome]) {
     for (event, outcome) in events.iter().zip(wanted) {
-        answers(rt, two, event, Ok(*outcome));
+        answers_at_last(rt, two, event, Ok(*outcome));
+    }
+}
+
+/// Whether a store has these two texts, in this order.
+pub fn are_stored(store: &[Entry], first: &str, second: &str) -> bool {
+    match store {
+        [one, other] => one.text.as_str() == first && other.text.as_str() == second,
+        _ => false,
     }
 }
 

@@ -1,7 +1,7 @@
 //! A text of one segment on its way.
 
 use crate::found::{holds, same};
-use crate::two::{Two, address, all_answer, has_stored, new_two, typing};
+use crate::two::{Two, address, all_answer_at_last, has_stored, new_two, typing};
 use sms_message::Outcome;
 use sms_party::Status;
 use sms_world::{Event, Limits, World, WorldFault, run};
@@ -10,7 +10,7 @@ use std::process::Abort;
 use std::test::Fail;
 
 /// The events by which a text of one segment goes its way.
-fn whole_way(alloc: Global) -> Result<[Event; 6], AllocError> {
+pub fn whole_way(alloc: Global) -> Result<[Event; 6], AllocError> {
     let typed = typing(alloc, "hi")?;
     Ok([
         typed,
@@ -23,7 +23,7 @@ fn whole_way(alloc: Global) -> Result<[Event; 6], AllocError> {
 }
 
 /// What these events answer.
-const ANSWERS: [Outcome; 6] = [
+pub const ANSWERS: [Outcome; 6] = [
     Outcome::Typed { text: 1 },
     Outcome::Held,
     Outcome::Pushed,
@@ -34,12 +34,12 @@ const ANSWERS: [Outcome; 6] = [
 
 /// A packet of that way.
 #[derive(Clone, Copy)]
-struct Sent {
-    number: u64,
-    octets: &'static [u8],
+pub struct Sent {
+    pub number: u64,
+    pub octets: &'static [u8],
 }
 
-static SENT: [Sent; 8] = [
+pub static SENT: [Sent; 8] = [
     Sent {
         number: 1,
         octets: b"\x09\x01\x13\x00\x00\x00\x03\x91\x01\x00\x0B\x01\x00\x04\x91\x01\x20\x00\x00\x02\xE8\x34",
@@ -74,8 +74,18 @@ static SENT: [Sent; 8] = [
     },
 ];
 
+/// Whether these packets were put out.
+pub fn are_put_out(world: &World, packets: &[Sent]) -> bool {
+    for sent in packets {
+        if world.packet(sent.number) != Some(sent.octets) {
+            return false;
+        }
+    }
+    true
+}
+
 /// These packets were put out.
-fn were_put_out(rt: &impl Abort, world: &World, packets: &[Sent]) {
+pub fn were_put_out(rt: &impl Abort, world: &World, packets: &[Sent]) {
     for sent in packets {
         let put_out = world.packet(sent.number) == Some(sent.octets);
         holds(rt, &sent.number, put_out);
@@ -98,7 +108,7 @@ fn are_answers(rt: &impl Abort, answers: &[Result<Outcome, WorldFault>], wanted:
 }
 
 /// The first phone has typed a text that was accepted, and has stored none.
-fn first_phone_stands(rt: &impl Abort, two: &Two) {
+pub fn first_phone_stands(rt: &impl Abort, two: &Two) {
     let status = two.world.status(0, 1);
     same(rt, &"the text", &status, &Some(Status::Accepted));
     same(rt, &"the store", &two.world.store(0).len(), &0);
@@ -148,7 +158,7 @@ fn a_text_goes_its_way(rt: HostRuntime) -> Result<(), Fail> {
 /// The text goes its whole way.
 fn goes(rt: &impl Abort, alloc: Global, two: &mut Two) -> Result<(), AllocError> {
     let events = whole_way(alloc)?;
-    all_answer(rt, two, &events, &ANSWERS);
+    all_answer_at_last(rt, two, &events, &ANSWERS);
     drop(events);
     were_put_out(rt, &two.world, &SENT);
     has_stored(rt, two, "hi");

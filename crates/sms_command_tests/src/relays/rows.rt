@@ -3,7 +3,7 @@
 use crate::found::{AfterCentre, Shown};
 
 /// RP-DATA from phones and to phones, and the answer.
-pub static RP_DATA: [Shown; 7] = [
+pub static RP_DATA: [Shown; 6] = [
     Shown {
         octets: "000000039101000B010004910120000002E834",
         lines: "rp: data from phone\nreference: 00\naddress: +1000\ntype: submit\nreject: no\nreport: no\nreply: no\nreference: 00\nto: +1002\nnumber: 1 1\npid: 00\ndcs: 00\nvalidity: none\nlength: 2\ntext: hi\n",
@@ -11,10 +11,6 @@ pub static RP_DATA: [Shown; 7] = [
     Shown {
         octets: "007F00000B010004910120000002E834",
         lines: "rp: data from phone\nreference: 7F\naddress: none\ntype: submit\nreject: no\nreport: no\nreply: no\nreference: 00\nto: +1002\nnumber: 1 1\npid: 00\ndcs: 00\nvalidity: none\nlength: 2\ntext: hi\n",
-    },
-    Shown {
-        octets: "00010004A8BADCFE0B010004910120000002E834",
-        lines: "rp: data from phone\nreference: 01\naddress: *#abc\ntype: submit\nreject: no\nreport: no\nreply: no\nreference: 00\nto: +1002\nnumber: 1 1\npid: 00\ndcs: 00\nvalidity: none\nlength: 2\ntext: hi\n",
     },
     Shown {
         octets: "000000039101000C010004910120000002E83401020304",
@@ -87,15 +83,7 @@ pub static RP_ANSWERS: [Shown; 12] = [
 ];
 
 /// Octets that are no RP message, and the answer.
-pub static NO_RP_MESSAGES: [Shown; 8] = [
-    Shown {
-        octets: "",
-        lines: "at 0: short\n",
-    },
-    Shown {
-        octets: "0",
-        lines: "bad hex\n",
-    },
+pub static NO_RP_MESSAGES: [Shown; 6] = [
     Shown {
         octets: "06",
         lines: "at 0: unknown type\n",
@@ -271,7 +259,7 @@ pub static NO_CP_MESSAGES: [Shown; 6] = [
 ];
 
 /// CP-DATA whose RP message is none, and the answer.
-pub static FAULTS_OF_RP_IN_CP: [Shown; 6] = [
+pub static FAULTS_OF_RP_IN_CP: [Shown; 5] = [
     Shown {
         octets: "090100FF",
         lines: "cp: data\ntransaction: 0 0\nrest: 1\nat 0: short\n",
@@ -291,10 +279,6 @@ pub static FAULTS_OF_RP_IN_CP: [Shown; 6] = [
     Shown {
         octets: "090103040003",
         lines: "cp: data\ntransaction: 0 0\nat 2: bad cause\n",
-    },
-    Shown {
-        octets: "090112000000039101000B010004910120000002E834",
-        lines: "cp: data\ntransaction: 0 0\nrest: 1\nat 18: short\n",
     },
 ];
 
@@ -327,7 +311,7 @@ pub static FAULTS_OF_UNITS_IN_CP: [Shown; 6] = [
 ];
 
 /// Messages after the address of a service centre, the status and the answer.
-pub static AFTER_CENTRES: [AfterCentre; 10] = [
+pub static AFTER_CENTRES: [AfterCentre; 7] = [
     AfterCentre {
         kind: "rp",
         octets: "00000000039101000B010004910120000002E834",
@@ -342,21 +326,9 @@ pub static AFTER_CENTRES: [AfterCentre; 10] = [
     },
     AfterCentre {
         kind: "rp",
-        octets: "00000001",
-        status: 1,
-        answer: "centre: none\nat 2: bad address\n",
-    },
-    AfterCentre {
-        kind: "rp",
         octets: "000000000391010000",
         status: 1,
         answer: "centre: none\nrp: data from phone\nreference: 00\naddress: +1000\nat 0: short\n",
-    },
-    AfterCentre {
-        kind: "rp",
-        octets: "0C000000039101000B010004910120000002E834",
-        status: 1,
-        answer: "at 0: bad address\n",
     },
     AfterCentre {
         kind: "cp",
@@ -369,12 +341,6 @@ pub static AFTER_CENTRES: [AfterCentre; 10] = [
         octets: "0191091011FF",
         status: 0,
         answer: "centre: +\ncp: error\ntransaction: 0 0\ncause: 17\nrest: 1\n",
-    },
-    AfterCentre {
-        kind: "cp",
-        octets: "0079",
-        status: 1,
-        answer: "centre: none\nat 0: bad transaction\n",
     },
     AfterCentre {
         kind: "cp",

@@ -100,7 +100,7 @@ pub static DELIVER_REPORTS: [Report; 7] = [
 ];
 
 /// Octets that are no report, and the answer.
-pub static NO_REPORTS: [Report; 9] = [
+pub static NO_REPORTS: [Report; 6] = [
     Report {
         kind: "submit-ack",
         octets: "00",
@@ -122,29 +122,14 @@ pub static NO_REPORTS: [Report; 9] = [
         answer: "at 0: wrong type\n",
     },
     Report {
-        kind: "submit-error",
-        octets: "01D30499309251619580B6",
-        answer: "at 10: data too long\n",
-    },
-    Report {
         kind: "deliver-ack",
         octets: "01",
         answer: "at 0: wrong type\n",
     },
     Report {
-        kind: "deliver-ack",
-        octets: "0004B6",
-        answer: "at 2: data too long\n",
-    },
-    Report {
         kind: "deliver-error",
         octets: "01",
         answer: "at 0: wrong type\n",
-    },
-    Report {
-        kind: "deliver-error",
-        octets: "00D304B6",
-        answer: "at 3: data too long\n",
     },
 ];
 

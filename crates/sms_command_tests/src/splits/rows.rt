@@ -70,11 +70,7 @@ pub static IN_PIECES: [Split; 4] = [
 ];
 
 /// Texts in UCS-2 in one piece, and the answer.
-pub static WIDE_IN_ONE_PIECE: [Split; 3] = [
-    Split {
-        text: "😀",
-        lines: "1/1 ucs2 4 D83DDE00\n",
-    },
+pub static WIDE_IN_ONE_PIECE: [Split; 2] = [
     Split {
         text: "\u{1b}",
         lines: "1/1 ucs2 2 001B\n",

@@ -1,0 +1,240 @@
+//! Octets of the worked examples, cut at every length and with every octet replaced by every other,
+//! come to a world of two phones in which a text has just been stored.
+
+mod rows;
+
+use crate::found::holds;
+use crate::two::{Two, all_answer, has_stored, is_stored, new_two};
+use crate::way::{ANSWERS, SENT, are_put_out, first_phone_stands, were_put_out, whole_way};
+use rows::{Hostile, TRANSFERS, UNITS};
+use sms_message::Dropped;
+use sms_party::Status;
+use sms_relay::unwrap_view;
+use sms_world::{Entry, Event, Octets, World, WorldFault};
+use std::alloc::{AllocError, Global};
+use std::process::Abort;
+use std::test::Fail;
+
+/// Which octets come.
+#[derive(Clone, Copy, PartialEq, Eq)]
+enum Which {
+    /// Those that no CP message reads.
+    Unread,
+    /// Those that one reads.
+    Read,
+}
+
+/// Whether octets are of those that come.
+fn are_of(which: Which, octets: &[u8]) -> bool {
+    let found = if unwrap_view(octets).is_err() {
+        Which::Unread
+    } else {
+        Which::Read
+    };
+    found == which
+}
+
+/// Whether all that can be seen of a world is as after the fourth event.
+fn stands(world: &World) -> bool {
+    world.packet_count() == 6
+        && are_put_out(world, &SENT[..6])
+        && world.store(0).is_empty()
+        && is_stored(world.store(1), "hi")
+        && world.status(0, 1) == Some(Status::Waiting)
+        && world.status(0, 2).is_none()
+        && world.status(1, 1).is_none()
+}
+
+/// Whether the first text of a store is `hi`.
+fn begins_with_hi(store: &[Entry]) -> bool {
+    match store {
+        [entry, ..] => entry.text.as_str() == "hi",
+        [] => false,
+    }
+}
+
+/// Whether what was put out and stored up to the fourth event is there.
+fn keeps(world: &World) -> bool {
+    are_put_out(world, &SENT[..6]) && begins_with_hi(world.store(1))
+}
+
+/// Octets come from the first phone, or to the second, with another octet at a place.
+fn coming_with(
+    alloc: Global,
+    up: bool,
+    octets: &[u8],
+    place: usize,
+    octet: u8,
+) -> Result<Event, AllocError> {
+    let mut changed = octets.to_vec(alloc)?;
+    if let Some(old) = changed.get_mut(place) {
+        *old = octet;
+    }
+    Ok(Event::Inject {
+        up,
+        phone: usize::from(!up),
+        octets: Octets::new(changed),
+    })
+}
+
+/// Whether octets are of those that come.
+fn is_of(which: Which, event: &Event) -> bool {
+    match event {
+        Event::Inject { octets, .. } => are_of(which, octets.as_slice()),
+        _ => false,
+    }
+}
+
+/// Octets are told to be no CP message just where none reads them.
+fn is_told(rt: &impl Abort, two: &mut Two, which: Which, event: &Event) {
+    let told = two.world.step(event) == Err(WorldFault::Party(Dropped::NotCp));
+    holds(rt, event, told == (which == Which::Unread));
+}
+
+/// Octets come at a side, where they are of those that come.
+fn come_to(
+    rt: &impl Abort,
+    alloc: Global,
+    two: &mut Two,
+    which: Which,
+    up: bool,
+    octets: &[u8],
+    place: usize,
+    octet: u8,
+) -> Result<(), AllocError> {
+    let event = coming_with(alloc, up, octets, place, octet)?;
+    if is_of(which, &event) {
+        is_told(rt, two, which, &event);
+    }
+    drop(event);
+    Ok(())
+}
+
+/// Octets come at both sides with each octet at a place.
+fn come_with_each(
+    rt: &impl Abort,
+    alloc: Global,
+    two: &mut Two,
+    which: Which,
+    octets: &[u8],
+    place: usize,
+) -> Result<(), AllocError> {
+    for octet in 0..=255u8 {
+        come_to(rt, alloc, two, which, true, octets, place, octet)?;
+        come_to(rt, alloc, two, which, false, octets, place, octet)?;
+    }
+    Ok(())
+}
+
+/// Whether what must stay has stayed.
+fn is_well(which: Which, world: &World) -> bool {
+    match which {
+        Which::Unread => stands(world),
+        Which::Read => keeps(world),
+    }
+}
+
+/// Octets come at both sides, cut at a place and with each octet at it, and what must stay stays.
+fn come_damaged_at(
+    rt: &impl Abort,
+    alloc: Global,
+    two: &mut Two,
+    which: Which,
+    octets: &[u8],
+    place: usize,
+) -> Result<(), AllocError> {
+    come_to(rt, alloc, two, which, true, &octets[..place], place, 0)?;
+    come_to(rt, alloc, two, which, false, &octets[..place], place, 0)?;
+    come_with_each(rt, alloc, two, which, octets, place)?;
+    holds(rt, &(place, octets), is_well(which, &two.world));
+    Ok(())
+}
+
+/// Octets come damaged at each place.
+fn come_damaged(
+    rt: &impl Abort,
+    alloc: Global,
+    two: &mut Two,
+    which: Which,
+    octets: &[u8],
+) -> Result<(), AllocError> {
+    for place in 0..octets.len() {
+        come_damaged_at(rt, alloc, two, which, octets, place)?;
+    }
+    Ok(())
+}
+
+/// The octets of each row come damaged.
+fn all_come_damaged(
+    rt: &impl Abort,
+    alloc: Global,
+    two: &mut Two,
+    which: Which,
+    rows: &[Hostile],
+) -> Result<(), AllocError> {
+    for row in rows {
+        come_damaged(rt, alloc, two, which, row.octets)?;
+    }
+    Ok(())
+}
+
+/// The octets of all rows come damaged.
+fn all_rows_come(
+    rt: &impl Abort,
+    alloc: Global,
+    two: &mut Two,
+    which: Which,
+) -> Result<(), AllocError> {
+    all_come_damaged(rt, alloc, two, which, UNITS.as_slice())?;
+    all_come_damaged(rt, alloc, two, which, TRANSFERS.as_slice())?;
+    all_come_damaged(rt, alloc, two, which, rows::ANSWERS.as_slice())
+}
+
+/// The text goes as far as its store.
+fn goes_to_the_store(rt: &impl Abort, alloc: Global, two: &mut Two) -> Result<(), AllocError> {
+    let events = whole_way(alloc)?;
+    all_answer(rt, two, &events[..4], &ANSWERS[..4]);
+    drop(events);
+    holds(rt, &"four events", stands(&two.world));
+    Ok(())
+}
+
+/// The text goes the rest of its way.
+fn goes_on(rt: &impl Abort, alloc: Global, two: &mut Two) -> Result<(), AllocError> {
+    let events = whole_way(alloc)?;
+    all_answer(rt, two, &events[4..], &ANSWERS[4..]);
+    drop(events);
+    were_put_out(rt, &two.world, &SENT);
+    first_phone_stands(rt, two);
+    has_stored(rt, two, "hi");
+    Ok(())
+}
+
+/// Octets that no CP message reads come, and the text goes the rest of its way as without them.
+fn unread_octets_come(rt: &impl Abort, alloc: Global, two: &mut Two) -> Result<(), AllocError> {
+    goes_to_the_store(rt, alloc, two)?;
+    all_rows_come(rt, alloc, two, Which::Unread)?;
+    goes_on(rt, alloc, two)
+}
+
+#[test]
+fn unread_octets_change_nothing(rt: HostRuntime) -> Result<(), Fail> {
+    let mut two = new_two(rt.alloc())?;
+    let come = unread_octets_come(&rt, rt.alloc(), &mut two);
+    drop(two);
+    Ok(come?)
+}
+
+/// Octets that a CP message reads come.
+fn read_octets_come(rt: &impl Abort, alloc: Global, two: &mut Two) -> Result<(), AllocError> {
+    goes_to_the_store(rt, alloc, two)?;
+    all_rows_come(rt, alloc, two, Which::Read)
+}
+
+#[test]
+fn read_octets_change_nothing_that_was_put_out_or_stored(rt: HostRuntime) -> Result<(), Fail> {
+    let mut two = new_two(rt.alloc())?;
+    let come = read_octets_come(&rt, rt.alloc(), &mut two);
+    drop(two);
+    Ok(come?)
+}

@@ -1,0 +1,91 @@
+//! Octets of the worked examples.
+
+/// Octets, and what they are.
+pub struct Hostile {
+    pub says: &'static str,
+    pub octets: &'static [u8],
+}
+
+/// Units outside of a packet.
+pub static UNITS: [Hostile; 5] = [
+    Hostile {
+        says: "a delivery of hellohello",
+        octets: b"\x04\x0B\xC8\x72\x38\x88\x09\x00\xF1\x00\x00\x99\x30\x92\x51\x61\x95\x80\x0A\xE8\x32\x9B\xFD\x46\x97\xD9\xEC\x37",
+    },
+    Hostile {
+        says: "a delivery of hellohello after the address of its centre",
+        octets: b"\x07\x91\x72\x83\x01\x00\x10\xF5\x04\x0B\xC8\x72\x38\x88\x09\x00\xF1\x00\x00\x99\x30\x92\x51\x61\x95\x80\x0A\xE8\x32\x9B\xFD\x46\x97\xD9\xEC\x37",
+    },
+    Hostile {
+        says: "a submission of hellohello",
+        octets: b"\x11\x00\x0B\x91\x64\x07\x28\x15\x53\xF8\x00\x00\xAA\x0A\xE8\x32\x9B\xFD\x46\x97\xD9\xEC\x37",
+    },
+    Hostile {
+        says: "a segment whose reference has sixteen bits",
+        octets: b"\x44\x04\x91\x01\x10\x00\x00\x00\x10\x10\x00\x00\x00\x00\x0A\x06\x08\x04\x01\x02\x02\x01\xE8\x34",
+    },
+    Hostile {
+        says: "a segment with two concatenation elements",
+        octets: b"\x44\x04\x91\x01\x10\x00\x00\x00\x10\x10\x00\x00\x00\x00\x10\x0B\x00\x03\x0A\x02\x01\x08\x04\x01\x02\x02\x02\xA0\xD3",
+    },
+];
+
+/// Packets with a submission or a delivery.
+pub static TRANSFERS: [Hostile; 5] = [
+    Hostile {
+        says: "a submission of hi",
+        octets: b"\x09\x01\x13\x00\x00\x00\x03\x91\x01\x00\x0B\x01\x00\x04\x91\x01\x20\x00\x00\x02\xE8\x34",
+    },
+    Hostile {
+        says: "a submission of hi that is repeated",
+        octets: b"\x19\x01\x13\x00\x01\x00\x03\x91\x01\x00\x0B\x05\x00\x04\x91\x01\x20\x00\x00\x02\xE8\x34",
+    },
+    Hostile {
+        says: "a submission of eight-bit text",
+        octets: b"\x09\x01\x13\x00\x00\x00\x03\x91\x01\x00\x0B\x01\x00\x04\x91\x01\x20\x00\x04\x02\xE8\x34",
+    },
+    Hostile {
+        says: "a delivery of hi",
+        octets: b"\x09\x01\x19\x01\x00\x03\x91\x01\x00\x00\x11\x04\x04\x91\x01\x10\x00\x00\x00\x10\x10\x00\x00\x00\x00\x02\xE8\x34",
+    },
+    Hostile {
+        says: "a delivery of eight-bit text",
+        octets: b"\x09\x01\x18\x01\x00\x03\x91\x01\x00\x00\x10\x04\x04\x91\x01\x10\x00\x04\x00\x10\x10\x00\x00\x00\x00\x01\x41",
+    },
+];
+
+/// Packets that answer, and what is no packet.
+pub static ANSWERS: [Hostile; 8] = [
+    Hostile {
+        says: "an acknowledgement of the connection",
+        octets: b"\x89\x04",
+    },
+    Hostile {
+        says: "an acknowledgement to the other side",
+        octets: b"\x09\x04",
+    },
+    Hostile {
+        says: "the report of a submission",
+        octets: b"\x89\x01\x0D\x03\x00\x41\x09\x01\x00\x00\x10\x10\x00\x00\x00\x00",
+    },
+    Hostile {
+        says: "the report of a delivery",
+        octets: b"\x89\x01\x06\x02\x00\x41\x02\x00\x00",
+    },
+    Hostile {
+        says: "the refusal of a repeat",
+        octets: b"\x99\x01\x10\x05\x01\x01\x15\x41\x0A\x01\xC5\x00\x00\x10\x10\x00\x00\x00\x00",
+    },
+    Hostile {
+        says: "the refusal of an unknown recipient",
+        octets: b"\x89\x01\x10\x05\x00\x01\x01\x41\x0A\x01\xC3\x00\x00\x10\x10\x00\x00\x00\x00",
+    },
+    Hostile {
+        says: "the refusal of eight-bit text",
+        octets: b"\x89\x01\x09\x04\x00\x01\x6F\x41\x03\x00\x90\x00",
+    },
+    Hostile {
+        says: "what is no packet",
+        octets: b"\xFF",
+    },
+];
