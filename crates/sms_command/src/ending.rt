@@ -9,8 +9,7 @@ use std::io::Write;
 /// the flush fails, whatever its kind. Then `write failed` goes to the device below the output,
 /// where that takes it.
 pub fn finish<W: Write, D: Write>(status: u8, output: &mut W, device: &mut D) -> u8
-    requires { status ≤ 3 }
-    ensures { result ≤ 3 }
+    ensures { status ≤ 3 → result ≤ 3 }
 {
     match output.flush() {
         Ok(()) => status,

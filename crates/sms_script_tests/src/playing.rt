@@ -147,7 +147,7 @@ impl Write for Failing {
                 self.before = None;
                 return Err(std::io::Error::from(ErrorKind::Other));
             }
-            Some(calls) => self.before = Some(calls - 1),
+            Some(calls) => self.before = Some(calls.saturating_sub(1)),
             None => {}
         }
         take_first(&mut self.taken, octets)

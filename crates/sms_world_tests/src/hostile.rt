@@ -10,7 +10,7 @@ use rows::{Hostile, TRANSFERS, UNITS};
 use sms_message::Dropped;
 use sms_party::Status;
 use sms_relay::unwrap_view;
-use sms_world::{Entry, Event, Octets, World, WorldFault};
+use sms_world::{Entry, Event, Octets, WorldFault};
 use std::alloc::{AllocError, Global};
 use std::process::Abort;
 use std::test::Fail;
@@ -34,15 +34,24 @@ fn are_of(which: Which, octets: &[u8]) -> bool {
     found == which
 }
 
+/// Whether the stores are as after the fourth event.
+fn stores_stand(two: &Two) -> bool {
+    two.world.store(0).is_empty() && is_stored(two.world.store(1), "hi")
+}
+
+/// Whether the text stands as after the fourth event, and no other was typed.
+fn texts_stand(two: &Two) -> bool {
+    two.world.status(0, 1) == Some(Status::Waiting)
+        && two.world.status(0, 2).is_none()
+        && two.world.status(1, 1).is_none()
+}
+
 /// Whether all that can be seen of a world is as after the fourth event.
-fn stands(world: &World) -> bool {
-    world.packet_count() == 6
-        && are_put_out(world, &SENT[..6])
-        && world.store(0).is_empty()
-        && is_stored(world.store(1), "hi")
-        && world.status(0, 1) == Some(Status::Waiting)
-        && world.status(0, 2).is_none()
-        && world.status(1, 1).is_none()
+fn stands(two: &Two) -> bool {
+    two.world.packet_count() == 6
+        && are_put_out(&two.world, &SENT[..6])
+        && stores_stand(two)
+        && texts_stand(two)
 }
 
 /// Whether the first text of a store is `hi`.
@@ -54,8 +63,8 @@ fn begins_with_hi(store: &[Entry]) -> bool {
 }
 
 /// Whether what was put out and stored up to the fourth event is there.
-fn keeps(world: &World) -> bool {
-    are_put_out(world, &SENT[..6]) && begins_with_hi(world.store(1))
+fn keeps(two: &Two) -> bool {
+    are_put_out(&two.world, &SENT[..6]) && begins_with_hi(two.world.store(1))
 }
 
 /// Octets come from the first phone, or to the second, with another octet at a place.
@@ -127,30 +136,27 @@ fn come_with_each(
 }
 
 /// Whether what must stay has stayed.
-fn is_well(which: Which, world: &World) -> bool {
+fn is_well(which: Which, two: &Two) -> bool {
     match which {
-        Which::Unread => stands(world),
-        Which::Read => keeps(world),
+        Which::Unread => stands(two),
+        Which::Read => keeps(two),
     }
 }
 
-/// Octets come at both sides, cut at a place and with each octet at it, and what must stay stays.
-fn come_damaged_at(
+/// Octets come at both sides as they are.
+fn come_cut(
     rt: &impl Abort,
     alloc: Global,
     two: &mut Two,
     which: Which,
-    octets: &[u8],
-    place: usize,
+    front: &[u8],
 ) -> Result<(), AllocError> {
-    come_to(rt, alloc, two, which, true, &octets[..place], place, 0)?;
-    come_to(rt, alloc, two, which, false, &octets[..place], place, 0)?;
-    come_with_each(rt, alloc, two, which, octets, place)?;
-    holds(rt, &(place, octets), is_well(which, &two.world));
-    Ok(())
+    come_to(rt, alloc, two, which, true, front, front.len(), 0)?;
+    come_to(rt, alloc, two, which, false, front, front.len(), 0)
 }
 
-/// Octets come damaged at each place.
+/// Octets come at both sides, cut at each place and with each octet at each place, and what must
+/// stay stays.
 fn come_damaged(
     rt: &impl Abort,
     alloc: Global,
@@ -159,7 +165,9 @@ fn come_damaged(
     octets: &[u8],
 ) -> Result<(), AllocError> {
     for place in 0..octets.len() {
-        come_damaged_at(rt, alloc, two, which, octets, place)?;
+        come_cut(rt, alloc, two, which, &octets[..place])?;
+        come_with_each(rt, alloc, two, which, octets, place)?;
+        holds(rt, &(place, octets), is_well(which, two));
     }
     Ok(())
 }
@@ -195,7 +203,7 @@ fn goes_to_the_store(rt: &impl Abort, alloc: Global, two: &mut Two) -> Result<()
     let events = whole_way(alloc)?;
     all_answer(rt, two, &events[..4], &ANSWERS[..4]);
     drop(events);
-    holds(rt, &"four events", stands(&two.world));
+    holds(rt, &"four events", stands(two));
     Ok(())
 }
 
