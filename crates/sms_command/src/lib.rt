@@ -2,16 +2,30 @@
 //! split, scripts that are played.
 #![tactic(auto)]
 
+mod addresses;
 mod cli;
+mod digits;
 mod encode;
 mod fault;
+mod feed;
+mod join;
+mod kinds;
 mod lines;
+mod many;
+mod object;
+mod open_texts;
+mod outcomes;
+mod page;
 mod play;
+mod play_json;
 mod printed;
 mod relay;
 mod reports;
+mod run;
 mod show;
+mod shown;
 mod split;
+mod talk;
 mod words;
 
 pub use cli::command;

@@ -1,13 +1,12 @@
 //! The fields of relay and connection messages, one a line, and those of the unit inside.
 
 use crate::fault::Fault;
-use crate::lines::Lines;
-use crate::printed::{Octet, TransactionText};
+use crate::lines::{Layer, Lines};
+use crate::printed::{Nobody, Octet, TransactionText};
 use crate::show::{put_centre, show_unit};
 use crate::words::UnitKind;
 use sms_relay::{CpBodyView, CpView, RpBodyView, RpView, Side};
 use std::alloc::Global;
-use std::io::Write;
 
 /// What a relay message is, and where it goes.
 fn relay_name(message: &RpView<'_>) -> &'static str {
@@ -44,11 +43,7 @@ fn unit_inside<'a>(body: &RpBodyView<'a>) -> Option<&'a [u8]> {
 }
 
 /// The lines of what stands before the unit of a relay message.
-fn put_body<W: Write>(
-    alloc: Global,
-    lines: &mut Lines<W>,
-    body: &RpBodyView<'_>,
-) -> Result<(), Fault> {
+fn put_body(alloc: Global, lines: &mut Lines, body: &RpBodyView<'_>) -> Result<(), Fault> {
     match body {
         RpBodyView::Transfer { address, .. } => put_centre(alloc, lines, "address", address)?,
         RpBodyView::Ack { .. } => {}
@@ -67,27 +62,26 @@ fn put_body<W: Write>(
 }
 
 /// The lines of a relay message without the unit that it carries.
-fn put_front<W: Write>(
-    alloc: Global,
-    lines: &mut Lines<W>,
-    message: &RpView<'_>,
-) -> Result<(), Fault> {
+fn put_front(alloc: Global, lines: &mut Lines, message: &RpView<'_>) -> Result<(), Fault> {
     lines.put("rp", relay_name(message));
     lines.put("reference", Octet(message.reference));
     put_body(alloc, lines, &message.body)?;
     if unit_inside(&message.body).is_none() {
-        lines.put("user", "none");
+        lines.put("user", Nobody);
     }
     Ok(())
 }
 
 /// Writes the fields of an RP message, and those of the unit that it carries.
-pub fn show_rp<W: Write>(alloc: Global, octets: &[u8], lines: &mut Lines<W>) -> Result<(), Fault> {
+pub fn show_rp(alloc: Global, octets: &[u8], lines: &mut Lines) -> Result<(), Fault> {
     let (message, used) = RpView::read(octets)?;
     put_front(alloc, lines, &message)?;
     lines.put_rest(octets.len() - used);
     match unit_inside(&message.body) {
-        Some(unit) => show_unit(alloc, kind_inside(&message), unit, lines),
+        Some(unit) => {
+            lines.enter(Layer::Unit);
+            show_unit(alloc, kind_inside(&message), unit, lines)
+        }
         None => Ok(()),
     }
 }
@@ -102,7 +96,7 @@ fn connection_name(body: &CpBodyView<'_>) -> &'static str {
 }
 
 /// The lines of a connection message without the relay message that it carries.
-fn put_connection<W: Write>(lines: &mut Lines<W>, message: &CpView<'_>) {
+fn put_connection(lines: &mut Lines, message: &CpView<'_>) {
     let transaction = TransactionText {
         flag: message.flag,
         value: message.value,
@@ -115,12 +109,15 @@ fn put_connection<W: Write>(lines: &mut Lines<W>, message: &CpView<'_>) {
 }
 
 /// Writes the fields of a CP message, and those of the RP message that it carries.
-pub fn show_cp<W: Write>(alloc: Global, octets: &[u8], lines: &mut Lines<W>) -> Result<(), Fault> {
+pub fn show_cp(alloc: Global, octets: &[u8], lines: &mut Lines) -> Result<(), Fault> {
     let (message, used) = CpView::read(octets)?;
     put_connection(lines, &message);
     lines.put_rest(octets.len() - used);
     match &message.body {
-        CpBodyView::Transfer(relayed) => show_rp(alloc, relayed.as_slice(), lines),
+        CpBodyView::Transfer(relayed) => {
+            lines.enter(Layer::Relay);
+            show_rp(alloc, relayed.as_slice(), lines)
+        }
         CpBodyView::Ack | CpBodyView::Fail(_) => Ok(()),
     }
 }

@@ -2,7 +2,17 @@
 #![tactic(auto)]
 
 #[cfg(test)]
+mod encoded;
+#[cfg(test)]
+mod fed;
+#[cfg(test)]
 mod found;
+#[cfg(test)]
+mod joins;
+#[cfg(test)]
+mod lines;
+#[cfg(test)]
+mod objects;
 #[cfg(test)]
 mod plays;
 #[cfg(test)]
