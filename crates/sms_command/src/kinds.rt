@@ -18,6 +18,7 @@ fn kind_from_centre(octets: &[u8]) -> UnitKind {
     match octets.first().map(|first| *first % 4) {
         Some(1) if has_cause(octets) => UnitKind::SubmitError,
         Some(1) => UnitKind::SubmitAck,
+        Some(2) => UnitKind::StatusReport,
         _ => UnitKind::Deliver,
     }
 }
@@ -28,6 +29,7 @@ fn kind_from_phone(octets: &[u8]) -> UnitKind {
     match octets.first().map(|first| *first % 4) {
         Some(0) if has_cause(octets) => UnitKind::DeliverError,
         Some(0) => UnitKind::DeliverAck,
+        Some(2) => UnitKind::Command,
         _ => UnitKind::Submit,
     }
 }

@@ -3,6 +3,7 @@
 #![tactic(auto)]
 
 mod addresses;
+mod any;
 mod cli;
 mod digits;
 mod encode;
@@ -25,6 +26,8 @@ mod run;
 mod show;
 mod shown;
 mod split;
+mod status_reports;
+mod status_words;
 mod talk;
 mod words;
 

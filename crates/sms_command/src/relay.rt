@@ -1,5 +1,6 @@
 //! The fields of relay and connection messages, one a line, and those of the unit inside.
 
+use crate::any::{is_memory_available, kind_carried, show_memory_available};
 use crate::fault::Fault;
 use crate::lines::{Layer, Lines};
 use crate::printed::{Nobody, Octet, TransactionText};
@@ -72,15 +73,30 @@ fn put_front(alloc: Global, lines: &mut Lines, message: &RpView<'_>) -> Result<(
     Ok(())
 }
 
-/// Writes the fields of an RP message, and those of the unit that it carries.
-pub fn show_rp(alloc: Global, octets: &[u8], lines: &mut Lines) -> Result<(), Fault> {
+/// The kind as which the unit of a relay message is read: the one that its first octet tells where
+/// any may be inside, and else the one that the message implies.
+fn kind_of(message: &RpView<'_>, any: bool, unit: &[u8]) -> UnitKind {
+    let implied = kind_inside(message);
+    if any {
+        kind_carried(message.side, unit, implied)
+    } else {
+        implied
+    }
+}
+
+/// Writes the fields of an RP message, and those of the unit that it carries; where any message may
+/// stand there, of an RP-SMMA and of any unit too.
+pub fn show_rp(alloc: Global, any: bool, octets: &[u8], lines: &mut Lines) -> Result<(), Fault> {
+    if any && is_memory_available(octets) {
+        return show_memory_available(octets, lines);
+    }
     let (message, used) = RpView::read(octets)?;
     put_front(alloc, lines, &message)?;
     lines.put_rest(octets.len() - used);
     match unit_inside(&message.body) {
         Some(unit) => {
             lines.enter(Layer::Unit);
-            show_unit(alloc, kind_inside(&message), unit, lines)
+            show_unit(alloc, kind_of(&message, any, unit), unit, lines)
         }
         None => Ok(()),
     }
@@ -109,14 +125,14 @@ fn put_connection(lines: &mut Lines, message: &CpView<'_>) {
 }
 
 /// Writes the fields of a CP message, and those of the RP message that it carries.
-pub fn show_cp(alloc: Global, octets: &[u8], lines: &mut Lines) -> Result<(), Fault> {
+pub fn show_cp(alloc: Global, any: bool, octets: &[u8], lines: &mut Lines) -> Result<(), Fault> {
     let (message, used) = CpView::read(octets)?;
     put_connection(lines, &message);
     lines.put_rest(octets.len() - used);
     match &message.body {
         CpBodyView::Transfer(relayed) => {
             lines.enter(Layer::Relay);
-            show_rp(alloc, relayed.as_slice(), lines)
+            show_rp(alloc, any, relayed.as_slice(), lines)
         }
         CpBodyView::Ack | CpBodyView::Fail(_) => Ok(()),
     }

@@ -6,7 +6,7 @@ use crate::printed::{Answer, Hexadecimal, Octet, StampText};
 use sms_tpdu::{DeliverAckView, DeliverErrorView, ReportDataView, SubmitAckView, SubmitErrorView};
 
 /// The lines of what a report need not have.
-fn put_parts(
+pub fn put_parts(
     lines: &mut Lines,
     pid: Option<u8>,
     dcs: Option<u8>,

@@ -7,6 +7,7 @@ use crate::printed::{
     StampText, ValidityText,
 };
 use crate::reports::{show_deliver_ack, show_deliver_error, show_submit_ack, show_submit_error};
+use crate::status_reports::{show_command, show_status_report};
 use crate::words::UnitKind;
 use sms_field::{AddressView, Alphabet, FieldFault, RpAddressView, alphabet_of};
 use sms_text::{text_of_gsm, text_of_ucs2, units_of_octets};
@@ -61,7 +62,7 @@ fn put_user(
 }
 
 /// The lines of an address, by the name of its party.
-fn put_party(
+pub fn put_party(
     alloc: Global,
     lines: &mut Lines,
     name: &str,
@@ -167,5 +168,7 @@ pub fn show_unit(
         UnitKind::SubmitError => show_submit_error(octets, lines),
         UnitKind::DeliverAck => show_deliver_ack(octets, lines),
         UnitKind::DeliverError => show_deliver_error(octets, lines),
+        UnitKind::StatusReport => show_status_report(alloc, octets, lines),
+        UnitKind::Command => show_command(alloc, octets, lines),
     }
 }

@@ -47,11 +47,11 @@ fn put_kind(
         }
         Kind::Rp => {
             lines.begin(Layer::Relay);
-            show_rp(alloc, octets, lines)
+            show_rp(alloc, shown.any, octets, lines)
         }
         Kind::Cp => {
             lines.begin(Layer::Connection);
-            show_cp(alloc, octets, lines)
+            show_cp(alloc, shown.any, octets, lines)
         }
     }
 }
@@ -200,7 +200,7 @@ pub fn show<R: Read, W: Write>(
     input: &mut R,
     output: &mut W,
 ) -> Result<Done, Fault> {
-    if shown.sender.is_some() && shown.kind != Kind::Any {
+    if shown.has_wrong_option() {
         return Err(Fault::WrongOption);
     }
     if shown.has_lines {

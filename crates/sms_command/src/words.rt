@@ -37,6 +37,8 @@ pub enum UnitKind {
     SubmitError,
     DeliverAck,
     DeliverError,
+    StatusReport,
+    Command,
 }
 
 /// Who sent a unit.
@@ -80,6 +82,19 @@ pub struct Shown<'a> {
     pub form: Form,
     /// Whether a fault of the digits names its place.
     pub is_explained: bool,
+    /// Whether a message of the relay may be any of the standard's.
+    pub any: bool,
+}
+
+impl Shown<'_> {
+    /// Whether an option was given that the kind does not have.
+    pub fn has_wrong_option(&self) -> bool {
+        match self.kind {
+            Kind::Unit(_) => self.any || self.sender.is_some(),
+            Kind::Any => self.any,
+            Kind::Rp | Kind::Cp => self.sender.is_some(),
+        }
+    }
 }
 
 /// A unit whose octets are asked for, with the options of every kind. What is `None` was not given.
@@ -230,6 +245,8 @@ static SUBCOMMANDS: [Subcommand; 5] = [
                     "submit-error",
                     "deliver-ack",
                     "deliver-error",
+                    "status-report",
+                    "command",
                     "rp",
                     "cp",
                     "any",
@@ -265,6 +282,11 @@ static SUBCOMMANDS: [Subcommand; 5] = [
                 name: "explain",
                 form: WordForm::Flag,
                 help: "`bad hex` names the place and the character",
+            },
+            Word {
+                name: "any",
+                form: WordForm::Flag,
+                help: "rp, cp: the unit inside is of the kind that its first octet tells",
             },
         ],
         example: None,
@@ -491,6 +513,8 @@ fn kind_of(word: &str) -> Option<Kind> {
         "deliver-ack" => Some(Kind::Unit(UnitKind::DeliverAck)),
         "deliver-error" => Some(Kind::Unit(UnitKind::DeliverError)),
         "any" => Some(Kind::Any),
+        "status-report" => Some(Kind::Unit(UnitKind::StatusReport)),
+        "command" => Some(Kind::Unit(UnitKind::Command)),
         "rp" => Some(Kind::Rp),
         "cp" => Some(Kind::Cp),
         _ => None,
@@ -534,6 +558,7 @@ fn shown_of<'a>(found: &ArgMatches<'a>) -> Option<Request<'a>> {
         sender: found.get_str("from").and_then(sender_of),
         form: form_found(found),
         is_explained: found.get_flag("explain"),
+        any: found.get_flag("any"),
     }))
 }
 

@@ -5,7 +5,7 @@ use Rattle.sms_field.specs.Bit.{bit}
 use Rattle.sms_field.specs.Coding.{alphabet_at}
 use Rattle.sms_field.specs.Field.{octet, map_reason, up_to}
 use Rattle.sms_field.specs.OneRefusal.{HasOneReason, ReadsOneWay, IsKnown}
-use Rattle.sms_field.specs.OneRefusalLaws.{one_way_always, one_way_octet, one_way_by, one_way_octets, one_way_chain, one_way_part, one_way_address, one_reason_by, one_reason_octet, one_reason_octets, one_reason_map_reason, one_reason_chain, one_reason_part, one_reason_address, one_refusal}
+use Rattle.sms_field.specs.OneRefusalLaws.{one_way_always, one_way_octet, one_way_by, one_way_octets, one_way_chain, one_way_part, one_way_address, one_reason_by, one_reason_octet, one_reason_octets, one_reason_map_reason, one_reason_mapped, one_reason_chain, one_reason_part, one_reason_address, one_refusal}
 use Rattle.sms_field.specs.declared.coding.Alphabet.{Alphabet}
 use Rattle.sms_tpdu.specs.Refusals.{IsRefusedOnce}
 use Rattle.sms_tpdu.specs.Fault.{unit_fault}
@@ -24,6 +24,12 @@ use Rattle.sms_tpdu.specs.Report.SubmitAck.{submit_ack}
 use Rattle.sms_tpdu.specs.Report.SubmitError.{submit_error}
 use Rattle.sms_tpdu.specs.Report.DeliverAck.{deliver_ack}
 use Rattle.sms_tpdu.specs.Report.DeliverError.{deliver_error}
+use Rattle.sms_tpdu.specs.IfMoreLaws.{one_reason_if_more}
+use Rattle.sms_tpdu.specs.Report.Indicated.{indicated_parts, no_parts, optional_parts}
+use Rattle.sms_tpdu.specs.StatusReport.{status_report, report_of}
+use Rattle.sms_tpdu.specs.StatusReport.Flags.{status_report_flags}
+use Rattle.sms_tpdu.specs.Command.{command}
+use Rattle.sms_tpdu.specs.Command.Flags.{command_flags}
 use Rattle.sms_tpdu.specs.declared.report.indicator.Indicator.{Indicator}
 use Rattle.sms_tpdu.specs.declared.submit.validity.ValidityFormat.{ValidityFormat}
 use Rattle.sms_tpdu.specs.declared.submit.validity.ValidityFormat.TheVariants.{Absent, Relative, Enhanced, Absolute}
@@ -182,6 +188,33 @@ one_reason_deliver_error =
     one_reason_chain _ _ one_way_indicator one_reason_indicator (λ there.
     one_reason_chain _ _ (one_way_parts there) (one_reason_parts there) (λ those. λ f o w b p q. absurd p))))
 
+one_reason_optional_parts : HasOneReason optional_parts
+unfolding indicated_parts
+one_reason_optional_parts = one_reason_if_more no_parts indicated_parts (one_reason_chain _ _ one_way_indicator one_reason_indicator (λ there. one_reason_parts there))
+
+one_reason_status_report : HasOneReason status_report
+unfolding status_report
+one_reason_status_report =
+    one_reason_chain _ _ (one_way_by Short status_report_flags) (one_reason_by Short status_report_flags) (λ flags.
+    one_reason_chain _ _ (one_way_octet Short) (one_reason_octet Short) (λ reference.
+    one_reason_chain _ _ one_way_address one_reason_named_address (λ recipient.
+    one_reason_chain _ _ (one_way_octets Short 7) (one_reason_octets Short 7) (λ stamp.
+    one_reason_chain _ _ (one_way_octets Short 7) (one_reason_octets Short 7) (λ discharged.
+    one_reason_chain _ _ (one_way_octet Short) (one_reason_octet Short) (λ status.
+    one_reason_mapped (report_of flags reference recipient stamp discharged status) optional_parts one_reason_optional_parts))))))
+
+one_reason_command : HasOneReason command
+unfolding command
+one_reason_command =
+    one_reason_chain _ _ (one_way_by Short command_flags) (one_reason_by Short command_flags) (λ flags.
+    one_reason_chain _ _ (one_way_octet Short) (one_reason_octet Short) (λ reference.
+    one_reason_chain _ _ (one_way_octet Short) (one_reason_octet Short) (λ pid.
+    one_reason_chain _ _ (one_way_octet Short) (one_reason_octet Short) (λ kind.
+    one_reason_chain _ _ (one_way_octet Short) (one_reason_octet Short) (λ message.
+    one_reason_chain _ _ one_way_address one_reason_named_address (λ target.
+    one_reason_chain _ _ (one_way_by Short (up_to 157 DataTooLong)) (one_reason_by Short (up_to 157 DataTooLong)) (λ count.
+    one_reason_chain _ _ (one_way_octets Short count) (one_reason_octets Short count) (λ octets. λ f o w b p q. absurd p))))))))
+
 one_reason_header : HasOneReason header
 unfolding header
 one_reason_header = one_reason_chain _ _ (one_way_by Short (up_to 139 HeaderTooLong)) (one_reason_by Short (up_to 139 HeaderTooLong)) (λ size. one_reason_octets Short size)
@@ -205,6 +238,12 @@ deliver_ack_refused_once = one_refusal Short deliver_ack is_short one_reason_del
 
 pub deliver_error_refused_once : IsRefusedOnce Short deliver_error
 deliver_error_refused_once = one_refusal Short deliver_error is_short one_reason_deliver_error
+
+pub status_report_refused_once : IsRefusedOnce Short status_report
+status_report_refused_once = one_refusal Short status_report is_short one_reason_status_report
+
+pub command_refused_once : IsRefusedOnce Short command
+command_refused_once = one_refusal Short command is_short one_reason_command
 
 pub header_refused_once : IsRefusedOnce Short header
 header_refused_once = one_refusal Short header is_short one_reason_header

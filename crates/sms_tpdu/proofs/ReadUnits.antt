@@ -8,7 +8,7 @@ use Rattle.sms_field.specs.AddressValue.{HasSpelling}
 use Rattle.sms_field.specs.Coding.{alphabet_at}
 use Rattle.sms_field.specs.ReadAddressLaws.{has_octet, has_stamp, has_up_to, has_address}
 use Rattle.sms_field.specs.ReadValues.{Has, Any}
-use Rattle.sms_field.specs.ReadValueLaws.{has_chain, has_part}
+use Rattle.sms_field.specs.ReadValueLaws.{has_chain, has_mapped, has_part}
 use Rattle.sms_field.specs.Stamp.{IsStamp}
 use Rattle.sms_field.specs.declared.coding.Alphabet.{Alphabet}
 use Rattle.sms_field.specs.declared.coding.Alphabet.TheVariants.{Gsm7, EightBit, Ucs2, Compressed}
@@ -18,6 +18,10 @@ use Rattle.sms_tpdu.specs.Report.DeliverAck.{deliver_ack, IsDeliverAck}
 use Rattle.sms_tpdu.specs.Report.DeliverError.{deliver_error, IsDeliverError}
 use Rattle.sms_tpdu.specs.Report.SubmitAck.{submit_ack, IsSubmitAck}
 use Rattle.sms_tpdu.specs.Report.SubmitError.{submit_error, IsSubmitError}
+use Rattle.sms_tpdu.specs.IfMoreLaws.{has_if_more}
+use Rattle.sms_tpdu.specs.Report.Indicated.{indicated_parts, no_parts, optional_parts}
+use Rattle.sms_tpdu.specs.StatusReport.{status_report, IsStatusReport}
+use Rattle.sms_tpdu.specs.Command.{command, IsCommand}
 use Rattle.sms_tpdu.specs.Submit.{submit, IsSubmittable}
 use Rattle.sms_tpdu.specs.Submit.ValidityPeriod.{validity, IsInRange}
 use Rattle.sms_tpdu.specs.UserData.{FitsAlphabet, BodyFits, body_of, length_with_header, header_length, user_data}
@@ -186,6 +190,36 @@ has_deliver_error =
     has_chain Any IsDeliverError _ _ (λ v octets rest are r. tt) (λ there _.
     has_chain AreParts IsDeliverError _ _ (has_parts there) (λ those fits.
     λ v octets rest are r. subst IsDeliverError (sym r.0) (record { cause = small; parts = fits })))))
+
+has_optional_parts : Has AreParts optional_parts
+unfolding indicated_parts
+has_optional_parts =
+    has_if_more AreParts no_parts indicated_parts (record { pid = tt; dcs = tt; user = tt }) (has_chain Any AreParts _ _ (λ v octets rest are r. tt) (λ there _. has_parts there))
+
+pub has_status_report : Has IsStatusReport status_report
+unfolding status_report
+has_status_report =
+    has_chain Any IsStatusReport _ _ (λ v octets rest are r. tt) (λ flags _.
+    has_chain (λ octet. octet < 256) IsStatusReport _ _ (has_octet Short) (λ reference small.
+    has_chain HasSpelling IsStatusReport _ _ has_address (λ recipient spelled.
+    has_chain IsStamp IsStatusReport _ _ (has_stamp Short) (λ stamp is_stamp.
+    has_chain IsStamp IsStatusReport _ _ (has_stamp Short) (λ discharged is_time.
+    has_chain (λ octet. octet < 256) IsStatusReport _ _ (has_octet Short) (λ status status_small.
+    has_mapped AreParts IsStatusReport _ optional_parts has_optional_parts (λ those fits.
+    record { reference = small; recipient = spelled; stamp = is_stamp; discharged = is_time; status = status_small; parts = fits })))))))
+
+pub has_command : Has IsCommand command
+unfolding command
+has_command =
+    has_chain Any IsCommand _ _ (λ v octets rest are r. tt) (λ flags _.
+    has_chain (λ octet. octet < 256) IsCommand _ _ (has_octet Short) (λ reference small.
+    has_chain (λ octet. octet < 256) IsCommand _ _ (has_octet Short) (λ pid pid_small.
+    has_chain (λ octet. octet < 256) IsCommand _ _ (has_octet Short) (λ kind kind_small.
+    has_chain (λ octet. octet < 256) IsCommand _ _ (has_octet Short) (λ message message_small.
+    has_chain HasSpelling IsCommand _ _ has_address (λ target spelled.
+    has_chain (λ count. count ≤ 157) IsCommand _ _ (has_up_to Short 157 DataTooLong) (λ count few.
+    has_chain (AreCounted count) IsCommand _ _ (has_counted Short count) (λ octets h.
+    λ v others rest are r. subst IsCommand (sym r.0) (record { reference = small; pid = pid_small; kind = kind_small; message = message_small; target = spelled; few = subst (λ (n : ℕ). n ≤ 157) (sym h.0) few; octets = h.1 })))))))))
 
 pub has_header : Has IsHeader header
 unfolding header

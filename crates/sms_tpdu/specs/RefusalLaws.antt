@@ -25,6 +25,11 @@ use Rattle.sms_tpdu.specs.Report.SubmitAck.{submit_ack}
 use Rattle.sms_tpdu.specs.Report.SubmitError.{submit_error}
 use Rattle.sms_tpdu.specs.Report.DeliverAck.{deliver_ack}
 use Rattle.sms_tpdu.specs.Report.DeliverError.{deliver_error}
+use Rattle.sms_tpdu.specs.Report.Indicated.{indicated_parts, optional_parts}
+use Rattle.sms_tpdu.specs.Command.{command}
+use Rattle.sms_tpdu.specs.Command.Flags.{command_flags}
+use Rattle.sms_tpdu.specs.StatusReport.{status_report}
+use Rattle.sms_tpdu.specs.StatusReport.Flags.{status_report_flags}
 use Rattle.sms_tpdu.specs.declared.report.indicator.Indicator.{Indicator}
 use Rattle.sms_tpdu.specs.declared.submit.validity.ValidityFormat.{ValidityFormat}
 use Rattle.sms_tpdu.specs.declared.submit.validity.ValidityFormat.TheVariants.{Absent, Relative, Enhanced, Absolute}
@@ -95,6 +100,10 @@ never_parts there =
     never_chain _ _ _ (never_part WrongType there.user (report_data (report_alphabet dcs)) (never_report_data (report_alphabet dcs))) (λ user.
     λ f o h. h)))
 
+never_optional_parts : Never WrongType optional_parts
+unfolding indicated_parts
+never_optional_parts = never_chain _ _ _ never_indicator (λ there. never_parts there)
+
 -- ---- the units
 
 pub submit_tells : TellsOtherTypes submit submit_flags
@@ -149,3 +158,25 @@ deliver_error_tells =
     never_chain _ _ _ (λ f o h. h) (λ cause.
     never_chain _ _ _ never_indicator (λ there.
     never_chain _ _ _ (never_parts there) (λ those. λ f o h. h))))
+
+pub status_report_tells : TellsOtherTypes status_report status_report_flags
+unfolding status_report
+status_report_tells =
+    tells_by status_report_flags _ (λ flags.
+    never_chain _ _ _ (λ f o h. h) (λ reference.
+    never_chain _ _ _ (never_map_reason _ unit_fault address field_apart) (λ recipient.
+    never_chain _ _ _ (λ f o h. h) (λ stamp.
+    never_chain _ _ _ (λ f o h. h) (λ discharged.
+    never_chain _ _ _ (λ f o h. h) (λ status. never_optional_parts))))))
+
+pub command_tells : TellsOtherTypes command command_flags
+unfolding command
+command_tells =
+    tells_by command_flags _ (λ flags.
+    never_chain _ _ _ (λ f o h. h) (λ reference.
+    never_chain _ _ _ (λ f o h. h) (λ pid.
+    never_chain _ _ _ (λ f o h. h) (λ kind.
+    never_chain _ _ _ (λ f o h. h) (λ message.
+    never_chain _ _ _ (never_map_reason _ unit_fault address field_apart) (λ target.
+    never_chain _ _ _ (never_by _ Short _ (λ o e. up_to_apart DataTooLong WrongType _ o (λ s. cc) e)) (λ count.
+    never_chain _ _ _ (λ f o h. h) (λ octets. λ f o h. h))))))))

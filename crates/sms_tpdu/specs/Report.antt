@@ -5,6 +5,8 @@ pub mod OctetLaws
 pub mod ParameterIndicator
 pub mod ParameterIndicatorLaws
 pub mod Laws
+pub mod Indicated
+pub mod IndicatedLaws
 pub mod SubmitAck
 pub mod SubmitAckLaws
 pub mod SubmitError

@@ -1,5 +1,5 @@
 -- How long each unit is as it is written.
-use Rattle.std.proofs.Common.{ℕ, ◌+◌, ◌*◌, ◌≤◌, List, ◌∷◌, ◌++◌, length, replicate, Option, Some, None, ap, arith, length-append}
+use Rattle.std.proofs.Common.{ℕ, ◌+◌, ◌*◌, ◌≤◌, Bool, true, false, cond, List, [], ◌∷◌, ◌++◌, length, replicate, Option, Some, None, ap, arith, length-append}
 use Rattle.std.specs.Prelude.{IfSome}
 use Rattle.std.proofs.lemmas.List.{length-replicate}
 use Rattle.sms_text.specs.Bits.{PackedPlain, septet_bits}
@@ -11,13 +11,13 @@ use Rattle.sms_field.specs.declared.coding.Alphabet.{Alphabet}
 use Rattle.sms_field.specs.declared.coding.Alphabet.TheVariants.{Gsm7, EightBit, Ucs2, Compressed}
 use Rattle.sms_field.specs.declared.validity.Validity.{Validity}
 use Rattle.sms_field.specs.declared.validity.Validity.TheVariants as period
-use Rattle.sms_tpdu.specs.Sizes.{greatest_size, IsWithin}
+use Rattle.sms_tpdu.specs.Sizes.{greatest_size, greatest_status_size, greatest_command_size, IsWithin}
 use Rattle.sms_tpdu.specs.UserData.Lengths.{fill_bits}
 use Rattle.sms_tpdu.specs.UserData.{header_octets, BodyFits, FitsAlphabet, SpellsBody, SpellsUserData}
 use Rattle.sms_tpdu.specs.Submit.ValidityPeriod.{validity_octets, IsInRange}
 use Rattle.sms_tpdu.specs.Submit.{SpellsSubmit}
 use Rattle.sms_tpdu.specs.Deliver.{SpellsDeliver}
-use Rattle.sms_tpdu.specs.Report.{Parts, IsReportData, report_alphabet, AreParts, octet_if_some, data_if_some, parts_octets}
+use Rattle.sms_tpdu.specs.Report.{Parts, IsReportData, report_alphabet, indicator_of, AreParts, octet_if_some, data_if_some, parts_octets}
 use Rattle.sms_tpdu.specs.Report.SubmitAck.{SubmitAckValue, SpellsSubmitAck}
 use Rattle.sms_tpdu.specs.Report.SubmitAck as ack
 use Rattle.sms_tpdu.specs.Report.SubmitError.{SubmitErrorValue, SpellsSubmitError}
@@ -26,6 +26,11 @@ use Rattle.sms_tpdu.specs.Report.DeliverAck.{DeliverAckValue, SpellsDeliverAck}
 use Rattle.sms_tpdu.specs.Report.DeliverAck as delivery_ack
 use Rattle.sms_tpdu.specs.Report.DeliverError.{DeliverErrorValue, SpellsDeliverError}
 use Rattle.sms_tpdu.specs.Report.DeliverError as delivery_error
+use Rattle.sms_tpdu.specs.Report.Indicated.{is_any, optional_parts_octets}
+use Rattle.sms_tpdu.specs.Report.ParameterIndicator.{indicator_octet}
+use Rattle.sms_tpdu.specs.Command.{SpellsCommand}
+use Rattle.sms_tpdu.specs.StatusReport.{SpellsStatusReport}
+use Rattle.sms_tpdu.specs.StatusReport as status_report
 use Rattle.sms_tpdu.specs.declared.report.ReportData.{ReportData}
 use Rattle.sms_tpdu.specs.declared.user_data.body.Body.{Body}
 use Rattle.sms_tpdu.specs.declared.user_data.body.Body.TheVariants as body
@@ -109,3 +114,25 @@ deliver_ack_within r octets p = omega (arith, parts_within (delivery_ack.parts_i
 
 pub deliver_error_within : IsWithin greatest_size SpellsDeliverError
 deliver_error_within r octets p = omega (arith, parts_within (delivery_error.parts_in r) p.0.parts, ap length p.1)
+
+optional_parts_within : (those : Parts) → AreParts those → length (optional_parts_octets those) ≤ 163
+optional_parts_within those fits = go (is_any (indicator_of those))
+  where
+    go : (b : Bool) → length (cond b (indicator_octet (indicator_of those) ∷ parts_octets those) []) ≤ 163
+    go true = omega (arith, parts_within those fits)
+    go false = omega arith
+
+pub status_report_within : IsWithin greatest_status_size SpellsStatusReport
+status_report_within r octets p =
+    let fits = p.0 in
+    let a = address_few r.recipient fits.recipient in
+    let those = status_report.parts_in r in
+    let parts = optional_parts_within those fits.parts in
+    let after : List ℕ = r.status ∷ optional_parts_octets those in
+    omega (arith, a, parts, fits.stamp.0, fits.discharged.0, ap length p.1, length-append (address_octets r.recipient) (r.stamp ++ (r.discharged ++ after)), length-append r.stamp (r.discharged ++ after), length-append r.discharged after)
+
+pub command_within : IsWithin greatest_command_size SpellsCommand
+command_within c octets p =
+    let fits = p.0 in
+    let a = address_few c.target fits.target in
+    omega (arith, a, fits.few, ap length p.1, length-append (address_octets c.target) (length c.octets ∷ c.octets))

@@ -17,6 +17,8 @@ use Rattle.sms_tpdu.specs.Report.SubmitAck.{IsSubmitAck, submit_ack_octets, Spel
 use Rattle.sms_tpdu.specs.Report.SubmitError.{IsSubmitError, submit_error_octets, SpellsSubmitError}
 use Rattle.sms_tpdu.specs.Report.DeliverAck.{IsDeliverAck, deliver_ack_octets, SpellsDeliverAck}
 use Rattle.sms_tpdu.specs.Report.DeliverError.{IsDeliverError, deliver_error_octets, SpellsDeliverError}
+use Rattle.sms_tpdu.specs.Command.{IsCommand, command_octets, SpellsCommand}
+use Rattle.sms_tpdu.specs.StatusReport.{IsStatusReport, status_report_octets, SpellsStatusReport}
 use Rattle.sms_tpdu.specs.declared.user_data.body.Body.{Body}
 use Rattle.sms_tpdu.specs.declared.user_data.body.Body.TheVariants as body
 use Rattle.sms_tpdu.specs.declared.user_data.UserData.{UserData}
@@ -51,6 +53,12 @@ deliver_ack_spelled r is = (deliver_ack_octets r, (is, refl))
 
 pub deliver_error_spelled : HasEachSpelling IsDeliverError SpellsDeliverError
 deliver_error_spelled r is = (deliver_error_octets r, (is, refl))
+
+pub status_report_spelled : HasEachSpelling IsStatusReport SpellsStatusReport
+status_report_spelled r is = (status_report_octets r, (is, refl))
+
+pub command_spelled : HasEachSpelling IsCommand SpellsCommand
+command_spelled c is = (command_octets c, (is, refl))
 
 pub header_spelled : HasEachSpelling IsHeader SpellsHeader
 header_spelled value is = (length value ∷ value, (is, refl))

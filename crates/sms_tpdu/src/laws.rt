@@ -2,7 +2,7 @@
 
 ghost use Rattle.sms_field.specs.ReadValues.{Has};
 ghost use Rattle.sms_tpdu.specs.Refusals.{TellsOtherTypes, IsRefusedOnce};
-ghost use Rattle.sms_tpdu.specs.Sizes.{greatest_size, IsWithin, HasEachSpelling};
+ghost use Rattle.sms_tpdu.specs.Sizes.{greatest_size, greatest_status_size, greatest_command_size, IsWithin, HasEachSpelling};
 ghost use Rattle.sms_tpdu.specs.Deliver.{deliver, IsDeliverable, SpellsDeliver};
 ghost use Rattle.sms_tpdu.specs.Deliver.Flags.{deliver_flags};
 ghost use Rattle.sms_tpdu.specs.Submit.{submit, IsSubmittable, SpellsSubmit};
@@ -12,6 +12,10 @@ ghost use Rattle.sms_tpdu.specs.Report.SubmitAck.{submit_ack, IsSubmitAck, Spell
 ghost use Rattle.sms_tpdu.specs.Report.SubmitError.{submit_error, IsSubmitError, SpellsSubmitError};
 ghost use Rattle.sms_tpdu.specs.Report.DeliverAck.{deliver_ack, IsDeliverAck, SpellsDeliverAck};
 ghost use Rattle.sms_tpdu.specs.Report.DeliverError.{deliver_error, IsDeliverError, SpellsDeliverError};
+ghost use Rattle.sms_tpdu.specs.StatusReport.{status_report, IsStatusReport, SpellsStatusReport};
+ghost use Rattle.sms_tpdu.specs.StatusReport.Flags.{status_report_flags};
+ghost use Rattle.sms_tpdu.specs.Command.{command, IsCommand, SpellsCommand};
+ghost use Rattle.sms_tpdu.specs.Command.Flags.{command_flags};
 ghost use Rattle.sms_tpdu.specs.UserData.ConcatenationFound.{ElementsAreOne, ConcatIsThere, ConcatIsOne, ConcatIsPlace};
 ghost use Rattle.sms_tpdu.specs.UserData.Header.{header, IsHeader, SpellsHeader};
 ghost use Rattle.sms_tpdu.specs.declared.fault.UnitFault.TheVariants.{Short};
@@ -24,6 +28,8 @@ pub fn other_types_are_told()
     ensures submit_error { TellsOtherTypes submit_error submit_report }
     ensures deliver_ack { TellsOtherTypes deliver_ack deliver_report }
     ensures deliver_error { TellsOtherTypes deliver_error deliver_report }
+    ensures status_report { TellsOtherTypes status_report status_report_flags }
+    ensures command { TellsOtherTypes command command_flags }
 {}
 
 /// An input is refused as a unit, or as a header, at one place and for one reason.
@@ -34,10 +40,13 @@ pub fn units_are_refused_once()
     ensures submit_error { IsRefusedOnce Short submit_error }
     ensures deliver_ack { IsRefusedOnce Short deliver_ack }
     ensures deliver_error { IsRefusedOnce Short deliver_error }
+    ensures status_report { IsRefusedOnce Short status_report }
+    ensures command { IsRefusedOnce Short command }
     ensures header { IsRefusedOnce Short header }
 {}
 
-/// A transfer unit is written in at most 172 octets.
+/// A transfer unit is written in at most 172 octets, an SMS-COMMAND in at most 175, and an
+/// SMS-STATUS-REPORT in at most 192.
 pub fn units_are_short()
     ensures submit { IsWithin greatest_size SpellsSubmit }
     ensures deliver { IsWithin greatest_size SpellsDeliver }
@@ -45,6 +54,8 @@ pub fn units_are_short()
     ensures submit_error { IsWithin greatest_size SpellsSubmitError }
     ensures deliver_ack { IsWithin greatest_size SpellsDeliverAck }
     ensures deliver_error { IsWithin greatest_size SpellsDeliverError }
+    ensures status_report { IsWithin greatest_status_size SpellsStatusReport }
+    ensures command { IsWithin greatest_command_size SpellsCommand }
 {}
 
 /// Each value of a unit has a spelling, and so has each header.
@@ -55,6 +66,8 @@ pub fn values_are_spelled()
     ensures submit_error { HasEachSpelling IsSubmitError SpellsSubmitError }
     ensures deliver_ack { HasEachSpelling IsDeliverAck SpellsDeliverAck }
     ensures deliver_error { HasEachSpelling IsDeliverError SpellsDeliverError }
+    ensures status_report { HasEachSpelling IsStatusReport SpellsStatusReport }
+    ensures command { HasEachSpelling IsCommand SpellsCommand }
     ensures header { HasEachSpelling IsHeader SpellsHeader }
 {}
 
@@ -66,6 +79,8 @@ pub fn what_is_read_is_spelled()
     ensures submit_error { Has IsSubmitError submit_error }
     ensures deliver_ack { Has IsDeliverAck deliver_ack }
     ensures deliver_error { Has IsDeliverError deliver_error }
+    ensures status_report { Has IsStatusReport status_report }
+    ensures command { Has IsCommand command }
     ensures header { Has IsHeader header }
 {}
 

@@ -8,6 +8,7 @@ pub mod deliver_ack;
 pub mod deliver_error;
 pub mod indicator;
 pub mod octet;
+pub mod optional;
 pub mod parts;
 pub mod submit_ack;
 pub mod submit_error;
@@ -37,7 +38,7 @@ pub fn indicator_of(pid: Option<u8>, dcs: Option<u8>, user: &Option<ReportData>)
 }
 
 /// Room for the parts of a report.
-fn room_for_parts(user: &Option<ReportData>) -> usize
+pub fn room_for_parts(user: &Option<ReportData>) -> usize
     ensures { (pid dcs : Option ℕ) →
         length (parts_octets (record { pid = pid; dcs = dcs; user = user.now })) ≤ result }
 {
@@ -69,7 +70,7 @@ fn put_data(out: &mut Vec<u8>, user: &Option<ReportData>) -> Result<(), AllocErr
 }
 
 /// Adds the parts of a report that are there.
-fn put_parts(
+pub fn put_parts(
     out: &mut Vec<u8>,
     pid: Option<u8>,
     dcs: Option<u8>,

@@ -23,7 +23,7 @@ pub trait Unit: Sized + Drop {
     ghost spells: { Self → List ℕ → Type 0 };
 
     /// Which octets may follow those of a value, so that it is still read back. Any may, but after
-    /// an RP-ACK or RP-ERROR without user data.
+    /// an RP-ACK or RP-ERROR without user data, and after a status report without parts.
     ghost may_follow: { Self → List ℕ → Type 0 } = { λ _ _. Unit {0} };
 
     /// Reads a unit at a cursor, which then stands after it. After a refusal nothing is known of

@@ -4,6 +4,10 @@
 #[cfg(test)]
 mod again;
 #[cfg(test)]
+mod alike;
+#[cfg(test)]
+mod command;
+#[cfg(test)]
 mod deliver;
 #[cfg(test)]
 mod found;
@@ -13,6 +17,8 @@ mod growths;
 mod header;
 #[cfg(test)]
 mod report;
+#[cfg(test)]
+mod status_report;
 #[cfg(test)]
 mod submit;
 #[cfg(test)]

@@ -31,9 +31,9 @@ struct Said {
 
 /// The data of a report: the length that stands before them, and their octets.
 #[derive(Clone, Copy)]
-struct Data {
-    length: u8,
-    octets: &'static [u8],
+pub struct Data {
+    pub length: u8,
+    pub octets: &'static [u8],
 }
 
 /// A report as its octets, what they say, and how it is written.
@@ -338,7 +338,7 @@ fn report(alloc: Global, kind: Kind, octets: &[u8]) -> Result<Read, Refusal<Unit
 }
 
 /// Whether data are these.
-fn are_data(user: &Option<ReportData>, wanted: Option<Data>) -> bool {
+pub fn are_data(user: &Option<ReportData>, wanted: Option<Data>) -> bool {
     match (user, wanted) {
         (Some(user), Some(wanted)) => {
             user.length == wanted.length && user.octets.as_slice() == wanted.octets

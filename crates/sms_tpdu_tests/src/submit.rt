@@ -131,7 +131,7 @@ fn validity_of(valid: &Valid) -> Validity {
 }
 
 /// The digits of an address that is a telephone number.
-fn digits_in(symbols: &Symbols) -> Option<&[u8]> {
+pub fn digits_in(symbols: &Symbols) -> Option<&[u8]> {
     match symbols {
         Symbols::Digits(digits) => Some(digits.as_slice()),
         Symbols::Name(_) => None,

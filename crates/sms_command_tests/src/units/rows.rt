@@ -933,7 +933,7 @@ pub static WHOLE_WORDS: [Explained; 9] = [
     Explained {
         words: &["sms", "show", "-h"],
         status: 0,
-        part: "[possible values: deliver, submit, submit-ack, submit-error, deliver-ack, deliver-error, rp, cp, any]",
+        part: "[possible values: deliver, submit, submit-ack, submit-error, deliver-ack, deliver-error, status-report, command, rp, cp, any]",
     },
     Explained {
         words: &["sms", "encode", "--help"],
@@ -982,7 +982,7 @@ pub static SHOW_WORDS: [Explained; 7] = [
     Explained {
         words: &["sms", "show", "", "00"],
         status: 2,
-        part: "[possible values: deliver, submit, submit-ack, submit-error, deliver-ack, deliver-error, rp, cp, any]",
+        part: "[possible values: deliver, submit, submit-ack, submit-error, deliver-ack, deliver-error, status-report, command, rp, cp, any]",
     },
     Explained {
         words: &["sms", "show", "deliver", "00", "00"],

@@ -11,7 +11,7 @@ use Rattle.sms_field.specs.Coding.{alphabet_at}
 use Rattle.sms_field.specs.declared.fault.FieldFault.TheVariants as fields
 use Rattle.sms_field.specs.ChainLaws.{chain_lawful}
 use Rattle.sms_field.specs.OctetLists.{octets-append}
-use Rattle.sms_field.specs.SingleLaws.{always_lawful, octet_self, octet_lawful, octet_by_self, octet_by_lawful, octets_of_self, octets_of_lawful, map_reason_lawful}
+use Rattle.sms_field.specs.SingleLaws.{always_lawful, octet_self, octet_lawful, octet_by_self, octet_by_lawful, octets_of_self, octets_of_lawful, map_reason_lawful, apart_then}
 use Rattle.sms_field.specs.AddressLaws.{address_self, address_lawful}
 use Rattle.sms_field.specs.AddressSpelling.{address_again, address_are_octets}
 use Rattle.sms_tpdu.specs.Fault.{unit_fault}
@@ -23,17 +23,10 @@ use Rattle.sms_tpdu.specs.Deliver.{Delivery, IsDeliverable, deliver, flags_in, S
 use Rattle.sms_tpdu.specs.declared.deliver.flags.DeliverFlags.{DeliverFlags}
 use Rattle.sms_tpdu.specs.declared.fault.UnitFault.TheVariants.{Short, WrongType}
 
-flags_apart_from : (a : Bool) (f : DeliverFlags) → cond a (Err WrongType) (Ok f) ≡ Err Short → ⊥
-flags_apart_from true f e = cc
-flags_apart_from false f e = cc
-
-flags_apart : (o : ℕ) → deliver_flags o ≡ Err Short → ⊥
-flags_apart o e = flags_apart_from (bit 0 o || bit 1 o) _ e
-
 pub deliver_lawful : IsLawful Short deliver
 unfolding deliver
 deliver_lawful =
-    chain_lawful _ _ Short (octet_by_self Short deliver_flags) (octet_by_lawful Short deliver_flags (0, lit< tt, _, refl) flags_apart) (λ flags _ _ _.
+    chain_lawful _ _ Short (octet_by_self Short deliver_flags) (octet_by_lawful Short deliver_flags (0, lit< tt, _, refl) (λ o. apart_then Short _ _ WrongType (λ e. cc))) (λ flags _ _ _.
     chain_lawful _ _ Short address_self (map_reason_lawful fields.Short unit_fault fault_apart address address_lawful) (λ origin _ _ _.
     chain_lawful _ _ Short (octet_self Short) (octet_lawful Short) (λ pid _ _ _.
     chain_lawful _ _ Short (octet_self Short) (octet_lawful Short) (λ dcs _ _ _.
@@ -46,7 +39,7 @@ deliver_lawful =
 flags_bits : (f : DeliverFlags) → AreBits false false (not f.more) f.looped false f.report f.header f.reply (deliver_octet f)
 flags_bits f = summed_bits false false (not f.more) f.looped false f.report f.header f.reply (deliver_octet f) (omega arith)
 
-twice : (b : Bool) → not (not b) ≡ b
+pub twice : (b : Bool) → not (not b) ≡ b
 twice true = refl
 twice false = refl
 

@@ -2,26 +2,16 @@
 use Rattle.std.proofs.Common.{◌≡◌, ℕ, ◌<◌, ◌||◌, Bool, true, false, not, cond, Result, Ok, Err, refl, lit<}
 use Rattle.sms_field.specs.Bit.{bit}
 use Rattle.sms_field.specs.Field.{octet_by, IsLawful}
-use Rattle.sms_field.specs.SingleLaws.{octet_by_lawful}
+use Rattle.sms_field.specs.SingleLaws.{octet_by_lawful, apart_then}
 use Rattle.sms_tpdu.specs.Report.Octet.{submit_report, deliver_report, submit_report_octet, deliver_report_octet}
 use Rattle.sms_tpdu.specs.declared.fault.UnitFault.{UnitFault}
 use Rattle.sms_tpdu.specs.declared.fault.UnitFault.TheVariants.{Short, WrongType}
 
-apart : (a header : Bool) → cond a (Err WrongType) (Ok header) ≡ Err Short → ⊥
-apart true header e = cc
-apart false header e = cc
-
-submit_apart : (o : ℕ) → submit_report o ≡ Err Short → ⊥
-submit_apart o e = apart (bit 1 o || not (bit 0 o)) (bit 6 o) e
-
-deliver_apart : (o : ℕ) → deliver_report o ≡ Err Short → ⊥
-deliver_apart o e = apart (bit 0 o || bit 1 o) (bit 6 o) e
-
 pub submit_report_lawful : IsLawful Short (octet_by Short submit_report)
-submit_report_lawful = octet_by_lawful Short submit_report (1, lit< tt, _, refl) submit_apart
+submit_report_lawful = octet_by_lawful Short submit_report (1, lit< tt, _, refl) (λ o. apart_then Short _ _ WrongType (λ e. cc))
 
 pub deliver_report_lawful : IsLawful Short (octet_by Short deliver_report)
-deliver_report_lawful = octet_by_lawful Short deliver_report (0, lit< tt, _, refl) deliver_apart
+deliver_report_lawful = octet_by_lawful Short deliver_report (0, lit< tt, _, refl) (λ o. apart_then Short _ _ WrongType (λ e. cc))
 
 -- ---- what is written
 

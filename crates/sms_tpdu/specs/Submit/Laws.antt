@@ -11,7 +11,7 @@ use Rattle.sms_field.specs.Coding.{alphabet_at}
 use Rattle.sms_field.specs.declared.fault.FieldFault.TheVariants as fields
 use Rattle.sms_field.specs.ChainLaws.{chain_lawful}
 use Rattle.sms_field.specs.OctetLists.{octets-append}
-use Rattle.sms_field.specs.SingleLaws.{always_lawful, octet_self, octet_lawful, octet_by_self, octet_by_lawful, map_reason_lawful}
+use Rattle.sms_field.specs.SingleLaws.{always_lawful, octet_self, octet_lawful, octet_by_self, octet_by_lawful, map_reason_lawful, apart_then}
 use Rattle.sms_field.specs.AddressLaws.{address_self, address_lawful}
 use Rattle.sms_field.specs.AddressSpelling.{address_again, address_are_octets}
 use Rattle.sms_tpdu.specs.Fault.{unit_fault}
@@ -27,17 +27,10 @@ use Rattle.sms_tpdu.specs.declared.fault.UnitFault.TheVariants.{Short, WrongType
 use Rattle.sms_tpdu.specs.declared.submit.validity.ValidityFormat.{ValidityFormat}
 use Rattle.sms_tpdu.specs.declared.submit.validity.ValidityFormat.TheVariants.{Absent, Relative, Enhanced, Absolute}
 
-flags_apart_from : (a : Bool) (f : SubmitFlags) → cond a (Err WrongType) (Ok f) ≡ Err Short → ⊥
-flags_apart_from true f e = cc
-flags_apart_from false f e = cc
-
-flags_apart : (o : ℕ) → submit_flags o ≡ Err Short → ⊥
-flags_apart o e = flags_apart_from (bit 1 o || not (bit 0 o)) _ e
-
 pub submit_lawful : IsLawful Short submit
 unfolding submit
 submit_lawful =
-    chain_lawful _ _ Short (octet_by_self Short submit_flags) (octet_by_lawful Short submit_flags (1, lit< tt, _, refl) flags_apart) (λ flags _ _ _.
+    chain_lawful _ _ Short (octet_by_self Short submit_flags) (octet_by_lawful Short submit_flags (1, lit< tt, _, refl) (λ o. apart_then Short _ _ WrongType (λ e. cc))) (λ flags _ _ _.
     chain_lawful _ _ Short (octet_self Short) (octet_lawful Short) (λ reference _ _ _.
     chain_lawful _ _ Short address_self (map_reason_lawful fields.Short unit_fault fault_apart address address_lawful) (λ target _ _ _.
     chain_lawful _ _ Short (octet_self Short) (octet_lawful Short) (λ pid _ _ _.

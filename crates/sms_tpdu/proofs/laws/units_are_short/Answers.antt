@@ -1,4 +1,4 @@
-use Rattle.sms_tpdu.specs.SizeLaws.{submit_within, deliver_within, submit_ack_within, submit_error_within, deliver_ack_within, deliver_error_within}
+use Rattle.sms_tpdu.specs.SizeLaws.{submit_within, deliver_within, submit_ack_within, submit_error_within, deliver_ack_within, deliver_error_within, status_report_within, command_within}
 use Rattle.sms_tpdu.proofs.laws.units_are_short.Goals as goal
 
 pub returns-clause-submit : goal.returns-clause-submit
@@ -18,3 +18,9 @@ returns-clause-deliver_ack c = deliver_ack_within
 
 pub returns-clause-deliver_error : goal.returns-clause-deliver_error
 returns-clause-deliver_error c = deliver_error_within
+
+pub returns-clause-status_report : goal.returns-clause-status_report
+returns-clause-status_report c = status_report_within
+
+pub returns-clause-command : goal.returns-clause-command
+returns-clause-command c = command_within

@@ -1,4 +1,4 @@
-use Rattle.sms_tpdu.specs.SpellingLaws.{submit_spelled, deliver_spelled, submit_ack_spelled, submit_error_spelled, deliver_ack_spelled, deliver_error_spelled, header_spelled}
+use Rattle.sms_tpdu.specs.SpellingLaws.{submit_spelled, deliver_spelled, submit_ack_spelled, submit_error_spelled, deliver_ack_spelled, deliver_error_spelled, status_report_spelled, command_spelled, header_spelled}
 use Rattle.sms_tpdu.proofs.laws.values_are_spelled.Goals as goal
 
 pub returns-clause-submit : goal.returns-clause-submit
@@ -21,3 +21,9 @@ returns-clause-deliver_error c = deliver_error_spelled
 
 pub returns-clause-header : goal.returns-clause-header
 returns-clause-header c = header_spelled
+
+pub returns-clause-status_report : goal.returns-clause-status_report
+returns-clause-status_report c = status_report_spelled
+
+pub returns-clause-command : goal.returns-clause-command
+returns-clause-command c = command_spelled

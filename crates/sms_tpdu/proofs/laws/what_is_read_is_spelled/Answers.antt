@@ -1,4 +1,4 @@
-use Rattle.sms_tpdu.proofs.ReadUnits.{has_submit, has_deliver, has_submit_ack, has_submit_error, has_deliver_ack, has_deliver_error, has_header}
+use Rattle.sms_tpdu.proofs.ReadUnits.{has_submit, has_deliver, has_submit_ack, has_submit_error, has_deliver_ack, has_deliver_error, has_status_report, has_command, has_header}
 use Rattle.sms_tpdu.proofs.laws.what_is_read_is_spelled.Goals as goal
 
 pub returns-clause-submit : goal.returns-clause-submit
@@ -21,3 +21,9 @@ returns-clause-deliver_error c = has_deliver_error
 
 pub returns-clause-header : goal.returns-clause-header
 returns-clause-header c = has_header
+
+pub returns-clause-status_report : goal.returns-clause-status_report
+returns-clause-status_report c = has_status_report
+
+pub returns-clause-command : goal.returns-clause-command
+returns-clause-command c = has_command

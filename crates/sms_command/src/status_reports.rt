@@ -1,0 +1,56 @@
+//! The fields of a status report, and of a command, one a line.
+
+use crate::fault::Fault;
+use crate::lines::Lines;
+use crate::printed::{Answer, Hexadecimal, Octet, StampText};
+use crate::reports::put_parts;
+use crate::show::put_party;
+use crate::status_words::{CommandText, StatusText};
+use sms_tpdu::{CommandView, StatusReportView};
+use std::alloc::Global;
+
+/// The lines of what an SMS-STATUS-REPORT has before its address.
+fn put_status_front(lines: &mut Lines, report: &StatusReportView<'_>) {
+    lines.put("type", "status-report");
+    lines.put("more", Answer(report.more));
+    lines.put("loop", Answer(report.looped));
+    lines.put("qualifier", Answer(report.qualifier));
+    lines.put("header", Answer(report.has_header));
+    lines.put("reference", Octet(report.reference));
+}
+
+/// Writes the fields of an SMS-STATUS-REPORT.
+pub fn show_status_report(alloc: Global, octets: &[u8], lines: &mut Lines) -> Result<(), Fault> {
+    let (report, used) = StatusReportView::read(octets)?;
+    put_status_front(lines, &report);
+    put_party(alloc, lines, "recipient", &report.recipient)?;
+    lines.put("stamp", StampText(report.stamp));
+    lines.put("discharged", StampText(report.discharged));
+    lines.put("status", StatusText(report.status));
+    put_parts(lines, report.pid, report.dcs, &report.user);
+    lines.put_rest(octets.len() - used);
+    Ok(())
+}
+
+/// The lines of what an SMS-COMMAND has before its address.
+fn put_command_front(lines: &mut Lines, view: &CommandView<'_>) {
+    lines.put("type", "command");
+    lines.put("header", Answer(view.has_header));
+    lines.put("report", Answer(view.report));
+    lines.put("reference", Octet(view.reference));
+    lines.put("pid", Octet(view.pid));
+    lines.put("command", CommandText(view.kind));
+    lines.put("message", Octet(view.message));
+}
+
+/// Writes the fields of an SMS-COMMAND.
+pub fn show_command(alloc: Global, octets: &[u8], lines: &mut Lines) -> Result<(), Fault> {
+    let (view, used) = CommandView::read(octets)?;
+    put_command_front(lines, &view);
+    put_party(alloc, lines, "recipient", &view.target)?;
+    let added = view.octets.as_slice();
+    lines.put("length", added.len());
+    lines.put("data", Hexadecimal(added));
+    lines.put_rest(octets.len() - used);
+    Ok(())
+}
