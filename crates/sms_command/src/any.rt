@@ -5,11 +5,10 @@ use crate::lines::Lines;
 use crate::printed::Octet;
 use crate::words::UnitKind;
 use sms_relay::{RelayFault, Side};
-use std::io::Write;
 
 /// The kind of a unit by the direction of its message and its message type (TP-MTI; 3GPP TS 23.040,
 /// 9.2.3.1). Whether a report is of an acknowledgement or an error only the message tells.
-pub fn kind_told(side: Side, unit: &[u8], implied: UnitKind) -> UnitKind {
+pub fn kind_carried(side: Side, unit: &[u8], implied: UnitKind) -> UnitKind {
     match (side, unit.first().map(|first| *first % 4)) {
         (Side::ToPhone, Some(0)) => UnitKind::Deliver,
         (Side::ToPhone, Some(2)) => UnitKind::StatusReport,
@@ -28,7 +27,7 @@ pub fn is_memory_available(octets: &[u8]) -> bool {
 }
 
 /// Writes the fields of an RP-SMMA: a phone has room for messages again (3GPP TS 24.011, 7.3.2).
-pub fn show_memory_available<W: Write>(octets: &[u8], lines: &mut Lines<W>) -> Result<(), Fault> {
+pub fn show_memory_available(octets: &[u8], lines: &mut Lines) -> Result<(), Fault> {
     let [_, reference, rest @ ..] = octets else {
         return Err(Fault::Message(sms_field::Fault {
             place: octets.len(),

@@ -2,110 +2,77 @@
 
 ghost use Rattle.std.specs.Prelude.{◌≤◌};
 
-use crate::encode::encode;
+use crate::encode::put_units;
 use crate::fault::Fault;
-use crate::lines::Lines;
+use crate::join::join;
+use crate::lines::Form;
+use crate::page::Page;
 use crate::play::play_script;
-use crate::printed::Hexadecimal;
-use crate::relay::{show_cp, show_rp};
-use crate::show::{show_centre, show_unit};
+use crate::play_json::play_as_json;
+use crate::shown::{Done, show};
 use crate::split::put_segments;
-use crate::words::{Kind, Request, Shown, parse_words};
+use crate::words::{Played, Request, parse_words};
 use clap::error::ErrorKind;
-use hex::FromHexError;
 use std::alloc::Global;
 use std::convert::AsStr;
 use std::io::{Read, Write};
 
-/// The octets that a word names in hexadecimal. No octets are the empty word or `-`.
-fn octets_of(alloc: Global, word: &str) -> Result<Vec<u8>, Fault> {
-    if word == "-" {
-        return Ok(Vec::new(alloc));
-    }
-    hex::decode(alloc, word).map_err(|error| match error {
-        FromHexError::OutOfMemory => Fault::Memory,
-        _ => Fault::BadHex,
-    })
-}
-
-/// The lines of what octets are shown as.
-fn put_kind<W: Write>(
-    alloc: Global,
-    shown: &Shown<'_>,
-    octets: &[u8],
-    lines: &mut Lines<W>,
-) -> Result<(), Fault> {
-    match shown.kind {
-        Kind::Unit(kind) => show_unit(alloc, kind, octets, lines),
-        Kind::Rp => show_rp(alloc, shown.any, octets, lines),
-        Kind::Cp => show_cp(alloc, shown.any, octets, lines),
-    }
-}
-
-/// The lines of octets, with those of the address of a service centre where it comes first.
-fn put_shown<W: Write>(
-    alloc: Global,
-    shown: &Shown<'_>,
-    octets: &[u8],
-    lines: &mut Lines<W>,
-) -> Result<(), Fault> {
-    let unit = if shown.has_centre {
-        show_centre(alloc, octets, lines)?
-    } else {
-        octets
-    };
-    put_kind(alloc, shown, unit, lines)
-}
-
-/// Writes what octets are shown as. Where they are at fault, the lines before the fault stand; a
-/// write that fails counts first.
-fn show<W: Write>(alloc: Global, shown: Shown<'_>, output: &mut W) -> Result<(), Fault> {
-    if shown.has_wrong_option() {
-        return Err(Fault::WrongOption);
-    }
-    let octets = octets_of(alloc, shown.octets)?;
-    let mut lines = Lines::new(output);
-    let answered = put_shown(alloc, &shown, &octets, &mut lines);
-    lines.finish()?;
-    answered
-}
-
-/// Does what a request asks, and writes what comes of it. A script is read from the input.
+/// Does what a request asks, and writes what comes of it. A script, and lines, are read from the
+/// input.
 fn answer<R: Read, W: Write>(
     alloc: Global,
     request: Request<'_>,
     input: &mut R,
     output: &mut W,
-) -> Result<(), Fault> {
+) -> Result<Done, Fault> {
     match request {
-        Request::Show(shown) => show(alloc, shown, output),
-        Request::Encode(draft) => {
-            let octets = encode(alloc, &draft)?;
-            writeln!(output, "{}", Hexadecimal(&octets))?;
-            Ok(())
-        }
-        Request::Split(long) => put_segments(alloc, &long, output),
-        Request::Play => play_script(alloc, input, output),
+        Request::Show(shown) => return show(alloc, shown, input, output),
+        Request::Join(joined) => return join(alloc, joined, input, output),
+        Request::Encode(draft) => put_units(alloc, &draft, output)?,
+        Request::Split(long) => put_segments(alloc, &long, output)?,
+        Request::Play(played) => return play(alloc, played, input, output),
+    }
+    Ok(Done::Whole)
+}
+
+/// Plays the script that the input has.
+fn play<R: Read, W: Write>(
+    alloc: Global,
+    played: Played,
+    input: &mut R,
+    output: &mut W,
+) -> Result<Done, Fault> {
+    match played.form {
+        Form::Plain => play_script(alloc, played.is_checked, input, output),
+        Form::Json => play_as_json(alloc, played.is_checked, input, output),
     }
 }
 
 /// Writes a fault's line where the output still takes it, and gives its status.
-fn refuse<W: Write>(fault: &Fault, output: &mut W) -> u8
+fn refuse<W: Write>(alloc: Global, is_explained: bool, fault: &Fault, output: &mut W) -> u8
     ensures { result ≤ 3 }
 {
-    let _ = writeln!(output, "{fault}");
+    let mut page = Page::new(alloc);
+    match fault.put(alloc, is_explained, &mut page) {
+        Ok(()) => {
+            let _ = page.write_to(output);
+        }
+        Err(_) => {
+            let _ = writeln!(output, "{fault}");
+        }
+    }
     fault.status()
 }
 
 /// Writes what `clap` says of the words, and gives its status: 0 for help, else 2.
-fn explain<W: Write>(error: &clap::Error, output: &mut W) -> u8
+fn explain<W: Write>(alloc: Global, error: &clap::Error, output: &mut W) -> u8
     ensures { result ≤ 3 }
 {
     if error.kind() == ErrorKind::OutOfMemory {
-        return refuse(&Fault::Memory, output);
+        return refuse(alloc, false, &Fault::Memory, output);
     }
     if let Err(error) = write!(output, "{error}") {
-        return refuse(&Fault::from(error), output);
+        return refuse(alloc, false, &Fault::from(error), output);
     }
     if error.exit_code() == 0 { 0 } else { 2 }
 }
@@ -123,9 +90,10 @@ pub fn command<S: AsStr, R: Read, W: Write>(
 {
     match parse_words(alloc, words) {
         Ok(request) => match answer(alloc, request, input, output) {
-            Ok(()) => 0,
-            Err(fault) => refuse(&fault, output),
+            Ok(Done::Whole) => 0,
+            Ok(Done::Faulty) => 1,
+            Err(fault) => refuse(alloc, request.is_explained(), &fault, output),
         },
-        Err(error) => explain(&error, output),
+        Err(error) => explain(alloc, &error, output),
     }
 }

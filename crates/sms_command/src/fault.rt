@@ -2,10 +2,12 @@
 
 ghost use Rattle.std.specs.Prelude.{◌≤◌};
 
+use crate::digits::Spot;
+use crate::page::Page;
 use sms_relay::RelayFault;
 use sms_tpdu::UnitFault;
 use sms_world::PlayFault;
-use std::alloc::AllocError;
+use std::alloc::{AllocError, AllocFailed, Global};
 use std::io;
 use thiserror::Error;
 
@@ -25,12 +27,15 @@ pub enum Fault {
     /// A concatenation reference does not fit its width.
     #[error("reference too large")]
     ReferenceTooLarge,
-    /// A word is no hexadecimal text of octets, or not of as many as there must be.
+    /// A word or a line is no hexadecimal text of octets.
     #[error("bad hex")]
-    BadHex,
-    /// A text is no address.
+    BadHex(Spot),
+    /// A word is no hexadecimal text of as many octets as there must be.
+    #[error("bad hex")]
+    BadStamp,
+    /// A text is no address: a character cannot stand where it does, or else it is too long.
     #[error("bad address")]
-    BadAddress,
+    BadAddress(Option<Spot>),
     /// A text needs more than one piece.
     #[error("text too long")]
     TextTooLong,
@@ -40,6 +45,15 @@ pub enum Fault {
     /// A script is not played to its end.
     #[error("{0}")]
     Play(PlayFault),
+    /// The unit has no text: its data coding scheme tells octets.
+    #[error("no text")]
+    NoText,
+    /// A line has more octets than a line may have.
+    #[error("line too long")]
+    LineTooLong,
+    /// The input gives no more.
+    #[error("read failed")]
+    Read,
     /// The output takes no more.
     #[error("write failed")]
     Write,
@@ -55,18 +69,77 @@ impl Fault {
         ensures { result ≤ 3 }
     {
         match self {
-            Fault::Unit(_) | Fault::Message(_) | Fault::BadHex | Fault::BadAddress => 1,
-            Fault::TextTooLong | Fault::TooManySegments => 1,
+            Fault::Unit(_) | Fault::Message(_) | Fault::BadHex(_) | Fault::BadStamp => 1,
+            Fault::BadAddress(_) | Fault::TextTooLong | Fault::TooManySegments => 1,
+            Fault::LineTooLong | Fault::NoText => 1,
             Fault::Play(PlayFault::Script { .. }) => 1,
             Fault::WrongOption | Fault::ReferenceTooLarge => 2,
             Fault::Play(_) => 3,
-            Fault::Write | Fault::Memory => 3,
+            Fault::Read | Fault::Write | Fault::Memory => 3,
+        }
+    }
+
+    /// Whether the input is refused.
+    pub fn is_of_input(&self) -> bool {
+        self.status() == 1
+    }
+
+    /// Adds the line of the fault. Where it is to be explained, the place and the character of
+    /// digits or of an address that are wrong come after it.
+    pub fn put(
+        &self,
+        alloc: Global,
+        is_explained: bool,
+        page: &mut Page,
+    ) -> Result<(), AllocError> {
+        let line = self.to_string(alloc)?;
+        page.put(line.as_bytes());
+        if is_explained {
+            self.put_explanation(page);
+        }
+        page.put(b"\n");
+        Ok(())
+    }
+
+    /// Adds what explains the fault.
+    fn put_explanation(&self, page: &mut Page) {
+        match self {
+            Fault::BadHex(spot) | Fault::BadAddress(Some(spot)) => spot.put(page),
+            Fault::BadAddress(None) => page.put(b": too long"),
+            Fault::BadStamp => page.put(b": not seven octets"),
+            Fault::TextTooLong => page.put(b": --split cuts it into segments"),
+            _ => {}
+        }
+    }
+
+    /// Where the fault lies, counted from the first octet of its layer, if it lies at a place.
+    pub fn place(&self) -> Option<usize> {
+        match self {
+            Fault::Unit(fault) => Some(fault.place),
+            Fault::Message(fault) => Some(fault.place),
+            Fault::BadHex(spot) => Some(spot.place),
+            _ => None,
+        }
+    }
+
+    /// Why there is no answer, without a place.
+    pub fn reason(&self, alloc: Global) -> Result<String, AllocError> {
+        match self {
+            Fault::Unit(fault) => fault.why.to_string(alloc),
+            Fault::Message(fault) => fault.why.to_string(alloc),
+            _ => self.to_string(alloc),
         }
     }
 }
 
 impl From<AllocError> for Fault {
     fn from(_error: AllocError) -> Fault {
+        Fault::Memory
+    }
+}
+
+impl<T: Drop> From<AllocFailed<T>> for Fault {
+    fn from(_error: AllocFailed<T>) -> Fault {
         Fault::Memory
     }
 }

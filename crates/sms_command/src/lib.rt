@@ -2,20 +2,34 @@
 //! split, scripts that are played.
 #![tactic(auto)]
 
+mod addresses;
 mod any;
 mod cli;
+mod digits;
 mod encode;
 mod ending;
 mod fault;
+mod feed;
+mod join;
+mod kinds;
 mod lines;
+mod many;
+mod object;
+mod open_texts;
+mod outcomes;
+mod page;
 mod play;
+mod play_json;
 mod printed;
 mod relay;
 mod reports;
+mod run;
 mod show;
+mod shown;
 mod split;
 mod status_reports;
 mod status_words;
+mod talk;
 mod words;
 
 pub use cli::command;

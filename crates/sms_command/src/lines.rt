@@ -1,43 +1,232 @@
-//! The lines of an answer.
+//! The members of an answer: one a line, or those of an object in JSON.
 
-use std::fmt::Display;
-use std::io::{self, Write};
+use crate::fault::Fault;
+use crate::object::Object;
+use crate::page::Page;
+use std::alloc::{AllocError, Global};
 
-/// A writer of lines, each a name and a value. The first failure stays, and no line is written
-/// after it.
-#[derive(Drop)]
-pub struct Lines<'a, W: Write> {
-    output: &'a mut W,
-    failure: Option<io::Error>,
+/// How an answer is written.
+#[derive(Clone, Copy, Debug, PartialEq, Eq)]
+pub enum Form {
+    /// Each member is a line: its name, a colon, its value.
+    Plain,
+    /// All are members of an object in JSON.
+    Json,
 }
 
-impl<'a, W: Write> Lines<'a, W> {
-    pub fn new(output: &'a mut W) -> Self {
+/// A value of an answer.
+pub trait Printed: Drop {
+    /// Adds the value as a line has it.
+    fn plain(&self, page: &mut Page);
+
+    /// Adds the value as JSON has it.
+    fn json(&self, object: &mut Object);
+}
+
+/// A part of the octets that are shown: each is counted from its own first octet.
+#[derive(Clone, Copy, Debug, PartialEq, Eq)]
+pub enum Layer {
+    /// Hexadecimal digits.
+    Digits,
+    /// The address of a service centre before a unit.
+    Centre,
+    /// A message of the connection.
+    Connection,
+    /// A message of the relay.
+    Relay,
+    /// A transfer unit.
+    Unit,
+}
+
+impl Layer {
+    /// The name of the layer.
+    pub fn name(self) -> &'static str {
+        match self {
+            Layer::Digits => "hex",
+            Layer::Centre => "centre",
+            Layer::Connection => "cp",
+            Layer::Relay => "rp",
+            Layer::Unit => "unit",
+        }
+    }
+}
+
+/// Where the members go.
+#[derive(Drop)]
+enum Out {
+    Plain(Page),
+    Json(Object),
+}
+
+/// A writer of the members of one answer. Where memory runs out, nothing more is written, and the
+/// page is cut.
+#[derive(Drop)]
+pub struct Lines {
+    out: Out,
+    layer: Layer,
+    /// Whether the layer lies in another one, and has no member yet.
+    is_awaited: bool,
+    /// How many layers lie in another one and have a member.
+    inner: u8,
+}
+
+impl Lines {
+    /// Begins an answer after what stands on a page.
+    pub fn new(alloc: Global, form: Form, page: Page) -> Lines {
+        let out = match form {
+            Form::Plain => Out::Plain(page),
+            Form::Json => {
+                let mut object = Object::new(alloc, page);
+                object.open();
+                Out::Json(object)
+            }
+        };
         Lines {
-            output,
-            failure: None,
+            out,
+            layer: Layer::Digits,
+            is_awaited: false,
+            inner: 0,
         }
     }
 
-    /// Writes one line.
-    pub fn put<V: Display + Drop>(&mut self, name: &str, value: V) {
-        if self.failure.is_none() {
-            self.failure = writeln!(self.output, "{name}: {value}").err();
+    /// What comes next is of this layer, whose members stand beside those before.
+    pub fn begin(&mut self, layer: Layer) {
+        self.layer = layer;
+    }
+
+    /// What comes next is of this layer, which lies in the one before.
+    pub fn enter(&mut self, layer: Layer) {
+        self.layer = layer;
+        self.is_awaited = true;
+    }
+
+    /// Opens the object of a layer that lies in another one.
+    fn open_awaited(&mut self) {
+        if self.is_awaited {
+            self.is_awaited = false;
+            self.inner = self.inner.saturating_add(1);
+            if let Out::Json(object) = &mut self.out {
+                object.name(self.layer.name());
+                object.open();
+            }
         }
     }
 
-    /// Writes the line that counts the octets after a unit, where there are any.
+    /// Adds a member.
+    pub fn put<V: Printed>(&mut self, name: &str, value: V) {
+        self.open_awaited();
+        match &mut self.out {
+            Out::Plain(page) => {
+                page.put(name.as_bytes());
+                page.put(b": ");
+                value.plain(page);
+                page.put(b"\n");
+            }
+            Out::Json(object) => {
+                object.name(name);
+                value.json(object);
+            }
+        }
+    }
+
+    /// Adds a line that JSON has no member for, since another one has its value.
+    pub fn put_plain<V: Printed>(&mut self, name: &str, value: V) {
+        if let Out::Plain(_) = &self.out {
+            self.put(name, value);
+        }
+    }
+
+    /// Adds a member that no line stands for.
+    pub fn put_json<V: Printed>(&mut self, name: &str, value: V) {
+        if let Out::Json(_) = &self.out {
+            self.put(name, value);
+        }
+    }
+
+    /// Adds the member that counts the octets after a unit, where there are any.
     pub fn put_rest(&mut self, count: usize) {
         if count > 0 {
             self.put("rest", count);
         }
     }
 
-    /// The first failure, where there was one.
-    pub fn finish(self) -> io::Result<()> {
-        match self.failure {
-            Some(error) => Err(error),
-            None => Ok(()),
+    /// Ends the answer, and gives the page.
+    pub fn finish(self) -> Page {
+        let Lines { out, inner, .. } = self;
+        match out {
+            Out::Plain(page) => page,
+            Out::Json(mut object) => {
+                close_layers(&mut object, inner);
+                object.close();
+                object.into_line()
+            }
         }
     }
+
+    /// Ends the answer with a fault, and gives the page. A line says the fault, after the number of
+    /// the line of input where that is given; JSON has it as the last member.
+    pub fn finish_with(
+        self,
+        alloc: Global,
+        number: Option<u64>,
+        is_explained: bool,
+        fault: &Fault,
+    ) -> Result<Page, AllocError> {
+        let Lines {
+            out,
+            layer,
+            inner,
+            ..
+        } = self;
+        match out {
+            Out::Plain(mut page) => {
+                put_number(&mut page, number);
+                fault.put(alloc, is_explained, &mut page)?;
+                Ok(page)
+            }
+            Out::Json(mut object) => {
+                close_layers(&mut object, inner);
+                object.name("fault");
+                put_fault(alloc, &mut object, layer, fault)?;
+                object.close();
+                Ok(object.into_line())
+            }
+        }
+    }
+}
+
+/// Ends the objects of as many layers.
+fn close_layers(object: &mut Object, count: u8) {
+    for _ in 0..count {
+        object.close();
+    }
+}
+
+/// Adds the number of a line of input, where it is given.
+fn put_number(page: &mut Page, number: Option<u64>) {
+    if let Some(number) = number {
+        page.put(b"line ");
+        page.put_decimal(number);
+        page.put(b": ");
+    }
+}
+
+/// Adds a fault: its layer, the place counted from the first octet of the layer, and the reason.
+fn put_fault(
+    alloc: Global,
+    object: &mut Object,
+    layer: Layer,
+    fault: &Fault,
+) -> Result<(), AllocError> {
+    let reason = fault.reason(alloc)?;
+    object.open();
+    object.text_named("layer", layer.name());
+    object.name("at");
+    match fault.place() {
+        Some(place) => object.number(place as u64),
+        None => object.nothing(),
+    }
+    object.text_named("reason", &reason);
+    object.close();
+    Ok(())
 }

@@ -1,8 +1,11 @@
 //! Scripts that are played.
 
 use crate::fault::Fault;
-use sms_world::{PlayFault, Watched};
+use crate::shown::Done;
+use crate::talk::{Ear, Mouth};
+use sms_world::PlayFault;
 use std::alloc::Global;
+use std::cell::RefCell;
 use std::io::{Read, Write};
 
 impl From<PlayFault> for Fault {
@@ -11,14 +14,24 @@ impl From<PlayFault> for Fault {
     }
 }
 
-/// Plays the script that a reader gives to its end, and writes its transcript.
+/// Plays the script that a reader gives to its end, and writes its transcript. Before more is read,
+/// what was told is flushed. Where events that name nothing count, they are faults.
 pub fn play_script<R: Read, W: Write>(
     alloc: Global,
+    is_checked: bool,
     input: &mut R,
     output: &mut W,
-) -> Result<(), Fault> {
-    let mut source = Watched::new(input);
-    let mut sink = Watched::new(output);
-    sms_world::play(alloc, &mut source, &mut sink)?;
-    Ok(())
+) -> Result<Done, Fault> {
+    let output = RefCell::new(output);
+    let mut ear = Ear::new(alloc, input, &output)?;
+    let mut mouth = Mouth::new(&output);
+    let played = sms_world::play(alloc, &mut ear, &mut mouth);
+    let is_mute = ear.is_mute();
+    let has_fault = mouth.has_told_fault();
+    drop(ear);
+    if is_mute {
+        return Err(Fault::Write);
+    }
+    played?;
+    Ok(Done::unless(is_checked && has_fault))
 }

@@ -1,80 +1,201 @@
 //! How values are printed.
 
-use sms_field::{Address, Stamp, StampDate, Validity};
+use crate::lines::Printed;
+use crate::object::Object;
+use crate::page::Page;
+use sms_field::{Address, RpAddress, Stamp, StampDate, Validity};
 use sms_script::Escape;
-use sms_tpdu::{Concat, Width};
-use std::fmt;
+use sms_tpdu::{Concat, HeaderView, Width};
 
 /// A bit, as `yes` or `no`.
 #[derive(Clone, Copy)]
 pub struct Answer(pub bool);
 
-impl fmt::Display for Answer {
-    fn fmt<W: fmt::Write>(&self, f: &mut fmt::Formatter<W>) -> fmt::Result {
-        write!(f, "{}", if self.0 { "yes" } else { "no" })
+impl Printed for Answer {
+    fn plain(&self, page: &mut Page) {
+        page.put(if self.0 { "yes" } else { "no" }.as_bytes());
+    }
+
+    fn json(&self, object: &mut Object) {
+        object.flag(self.0);
     }
 }
 
-/// An octet in upper case hexadecimal.
+/// An octet in upper case hexadecimal; a number in JSON.
 #[derive(Clone, Copy)]
 pub struct Octet(pub u8);
 
-impl fmt::Display for Octet {
-    fn fmt<W: fmt::Write>(&self, f: &mut fmt::Formatter<W>) -> fmt::Result {
-        write!(f, "{:02X}", self.0)
+impl Printed for Octet {
+    fn plain(&self, page: &mut Page) {
+        page.put_octet(self.0);
+    }
+
+    fn json(&self, object: &mut Object) {
+        object.number(u64::from(self.0));
     }
 }
 
-/// Octets in upper case hexadecimal, none as `-`.
+/// A number in decimal.
+#[derive(Clone, Copy)]
+pub struct Number(pub u64);
+
+impl Printed for Number {
+    fn plain(&self, page: &mut Page) {
+        page.put_decimal(self.0);
+    }
+
+    fn json(&self, object: &mut Object) {
+        object.number(self.0);
+    }
+}
+
+impl Printed for u8 {
+    fn plain(&self, page: &mut Page) {
+        page.put_decimal(u64::from(*self));
+    }
+
+    fn json(&self, object: &mut Object) {
+        object.number(u64::from(*self));
+    }
+}
+
+impl Printed for usize {
+    fn plain(&self, page: &mut Page) {
+        page.put_decimal(*self as u64);
+    }
+
+    fn json(&self, object: &mut Object) {
+        object.number(*self as u64);
+    }
+}
+
+/// A word of this program.
+impl Printed for &str {
+    fn plain(&self, page: &mut Page) {
+        page.put(self.as_bytes());
+    }
+
+    fn json(&self, object: &mut Object) {
+        object.text(self);
+    }
+}
+
+/// Octets in upper case hexadecimal, none as `-`, and as the empty text in JSON.
 #[derive(Clone, Copy)]
 pub struct Hexadecimal<'a>(pub &'a [u8]);
 
-impl fmt::Display for Hexadecimal<'_> {
-    fn fmt<W: fmt::Write>(&self, f: &mut fmt::Formatter<W>) -> fmt::Result {
-        if self.0.is_empty() {
-            return write!(f, "-");
-        }
-        for octet in self.0 {
-            write!(f, "{octet:02X}")?;
-        }
-        Ok(())
+impl Printed for Hexadecimal<'_> {
+    fn plain(&self, page: &mut Page) {
+        page.put_hexadecimal(self.0);
+    }
+
+    fn json(&self, object: &mut Object) {
+        object.octets(self.0);
     }
 }
 
-/// A text in one line: what would break the line stands as an escape.
+/// A text in one line: what would break the line stands as an escape. In JSON it is a text.
 #[derive(Clone, Copy)]
 pub struct Escaped<'a>(pub &'a str);
 
-impl fmt::Display for Escaped<'_> {
-    fn fmt<W: fmt::Write>(&self, f: &mut fmt::Formatter<W>) -> fmt::Result {
-        for character in self.0.chars() {
-            write!(f, "{}", EscapedCharacter(character))?;
-        }
-        Ok(())
+impl Printed for Escaped<'_> {
+    fn plain(&self, page: &mut Page) {
+        put_escaped(page, self.0);
+    }
+
+    fn json(&self, object: &mut Object) {
+        object.text(self.0);
     }
 }
 
-/// How a character of a text stands in one line.
-fn escape_of(character: char) -> Escape {
-    if character < '\u{80}' {
-        Escape::of(character as u8)
+/// Adds a text in one line: what would break the line stands as an escape. An octet of a character
+/// of several octets stands as it is.
+pub fn put_escaped(page: &mut Page, text: &str) {
+    let octets = text.as_bytes();
+    if octets
+        .iter()
+        .all(|octet| Escape::of(*octet) == Escape::Plain)
+    {
+        page.put(octets);
     } else {
-        Escape::Plain
+        for octet in octets {
+            put_escaped_octet(page, *octet);
+        }
     }
 }
 
-/// A character of a text in one line.
-#[derive(Clone, Copy)]
-struct EscapedCharacter(char);
-
-impl fmt::Display for EscapedCharacter {
-    fn fmt<W: fmt::Write>(&self, f: &mut fmt::Formatter<W>) -> fmt::Result {
-        let character = self.0;
-        match escape_of(character) {
-            Escape::Plain => write!(f, "{character}"),
-            Escape::Letter(letter) => write!(f, "\\{}", letter as char),
-            Escape::Digits => write!(f, "\\x{:02x}", character as u32),
+/// Adds an octet of a text in one line.
+fn put_escaped_octet(page: &mut Page, octet: u8) {
+    match Escape::of(octet) {
+        Escape::Plain => page.put(&[octet]),
+        Escape::Letter(letter) => page.put(&[b'\\', letter]),
+        Escape::Digits => {
+            let digits = b"0123456789abcdef";
+            let high = digits[usize::from(octet / 16)];
+            let low = digits[usize::from(octet % 16)];
+            page.put(&[b'\\', b'x', high, low]);
         }
+    }
+}
+
+/// The text of an address; in JSON also what kind of number it is.
+#[derive(Clone, Copy)]
+pub struct Party<'a> {
+    text: &'a str,
+    numbering: Numbering,
+}
+
+impl<'a> Party<'a> {
+    pub fn new(text: &'a str, numbering: Numbering) -> Party<'a> {
+        Party { text, numbering }
+    }
+}
+
+impl Printed for Party<'_> {
+    fn plain(&self, page: &mut Page) {
+        put_escaped(page, self.text);
+    }
+
+    fn json(&self, object: &mut Object) {
+        object.open();
+        object.text_named("text", self.text);
+        object.number_named("type", u64::from(self.numbering.type_of_number));
+        object.number_named("plan", u64::from(self.numbering.plan));
+        object.close();
+    }
+}
+
+/// A moment in seconds since the beginning of 2000; none as `-`, and as null in JSON.
+#[derive(Clone, Copy)]
+pub struct Moment(pub Option<u64>);
+
+impl Printed for Moment {
+    fn plain(&self, page: &mut Page) {
+        match self.0 {
+            Some(seconds) => page.put_decimal(seconds),
+            None => page.put(b"-"),
+        }
+    }
+
+    fn json(&self, object: &mut Object) {
+        match self.0 {
+            Some(seconds) => object.number(seconds),
+            None => object.nothing(),
+        }
+    }
+}
+
+/// No address: `none`, and null in JSON.
+#[derive(Clone, Copy)]
+pub struct Nobody;
+
+impl Printed for Nobody {
+    fn plain(&self, page: &mut Page) {
+        page.put(b"none");
+    }
+
+    fn json(&self, object: &mut Object) {
+        object.nothing();
     }
 }
 
@@ -92,62 +213,161 @@ impl Numbering {
             plan: address.plan,
         }
     }
-}
 
-impl fmt::Display for Numbering {
-    fn fmt<W: fmt::Write>(&self, f: &mut fmt::Formatter<W>) -> fmt::Result {
-        write!(f, "{} {}", self.type_of_number, self.plan)
-    }
-}
-
-/// A stamp as its date, time of day and zone, or as its octets where it is no date.
-#[derive(Clone, Copy)]
-pub struct StampText(pub Stamp);
-
-impl fmt::Display for StampText {
-    fn fmt<W: fmt::Write>(&self, f: &mut fmt::Formatter<W>) -> fmt::Result {
-        match self.0.date() {
-            Some(date) => write!(f, "{} {}", DateText(date), ZoneText(date.quarters)),
-            None => write!(f, "raw {}", Hexadecimal(&self.0.octets())),
+    pub fn of_relay(address: &RpAddress) -> Numbering {
+        Numbering {
+            type_of_number: address.type_of_number,
+            plan: address.plan,
         }
     }
 }
 
-/// The date and the time of day of a stamp.
-#[derive(Clone, Copy)]
-struct DateText(StampDate);
+impl Printed for Numbering {
+    fn plain(&self, page: &mut Page) {
+        page.put_decimal(u64::from(self.type_of_number));
+        page.put(b" ");
+        page.put_decimal(u64::from(self.plan));
+    }
 
-impl fmt::Display for DateText {
-    fn fmt<W: fmt::Write>(&self, f: &mut fmt::Formatter<W>) -> fmt::Result {
-        let date = self.0;
-        write!(f, "{:04}-{:02}-{:02} ", date.year, date.month, date.day)?;
-        write!(f, "{:02}:{:02}:{:02}", date.hour, date.minute, date.second)
+    fn json(&self, object: &mut Object) {
+        object.open();
+        object.number_named("type", u64::from(self.type_of_number));
+        object.number_named("plan", u64::from(self.plan));
+        object.close();
     }
 }
 
-/// A zone, of which the quarters of an hour east of UTC are given.
+/// A stamp as its date, time of day and zone, or as its octets where it is no date. JSON has the
+/// date, the moment and the octets.
 #[derive(Clone, Copy)]
-struct ZoneText(i8);
+pub struct StampText(pub Stamp);
 
-impl fmt::Display for ZoneText {
-    fn fmt<W: fmt::Write>(&self, f: &mut fmt::Formatter<W>) -> fmt::Result {
-        let sign = if self.0 < 0 { '-' } else { '+' };
-        let quarters = self.0.unsigned_abs();
-        write!(f, "{sign}{:02}:{:02}", quarters / 4, quarters % 4 * 15)
+impl Printed for StampText {
+    fn plain(&self, page: &mut Page) {
+        match self.0.date() {
+            Some(date) => {
+                put_date(page, date, b' ');
+                page.put(b" ");
+                put_zone(page, date.quarters);
+            }
+            None => {
+                page.put(b"raw ");
+                page.put_hexadecimal(&self.0.octets());
+            }
+        }
     }
+
+    fn json(&self, object: &mut Object) {
+        object.open();
+        object.name("date");
+        match self.0.date() {
+            Some(date) => object.ascii(&rfc_3339(date)),
+            None => object.nothing(),
+        }
+        object.name("moment");
+        match self.0.moment() {
+            Some(moment) => object.number(moment),
+            None => object.nothing(),
+        }
+        object.octets_named("octets", &self.0.octets());
+        object.close();
+    }
+}
+
+/// Adds the date and the time of day of a stamp, with a character between them.
+fn put_date(page: &mut Page, date: StampDate, between: u8) {
+    page.put_two_digits((date.year / 100 % 100) as u8);
+    page.put_two_digits((date.year % 100) as u8);
+    page.put(b"-");
+    page.put_two_digits(date.month);
+    page.put(b"-");
+    page.put_two_digits(date.day);
+    page.put(&[between]);
+    page.put_two_digits(date.hour);
+    page.put(b":");
+    page.put_two_digits(date.minute);
+    page.put(b":");
+    page.put_two_digits(date.second);
+}
+
+/// Adds a zone, of which the quarters of an hour east of UTC are given.
+fn put_zone(page: &mut Page, quarters: i8) {
+    page.put(if quarters < 0 { b"-" } else { b"+" });
+    let quarters = quarters.unsigned_abs();
+    page.put_two_digits(quarters / 4);
+    page.put(b":");
+    page.put_two_digits(quarters % 4 * 15);
+}
+
+/// The two decimal digits of a number below 100.
+fn two_digits(number: u8) -> [u8; 2] {
+    [b'0' + number / 10 % 10, b'0' + number % 10]
+}
+
+/// A date, a time of day and a zone, as RFC 3339 writes them.
+fn rfc_3339(date: StampDate) -> [u8; 25] {
+    let [y1, y2] = two_digits((date.year / 100 % 100) as u8);
+    let [y3, y4] = two_digits((date.year % 100) as u8);
+    let [m1, m2] = two_digits(date.month);
+    let [d1, d2] = two_digits(date.day);
+    let [h1, h2] = two_digits(date.hour);
+    let [n1, n2] = two_digits(date.minute);
+    let [s1, s2] = two_digits(date.second);
+    let sign = if date.quarters < 0 { b'-' } else { b'+' };
+    let quarters = date.quarters.unsigned_abs();
+    let [z1, z2] = two_digits(quarters / 4);
+    let [q1, q2] = two_digits(quarters % 4 * 15);
+    [
+        y1, y2, y3, y4, b'-', m1, m2, b'-', d1, d2, b'T', h1, h2, b':', n1, n2, b':', s1, s2, sign,
+        z1, z2, b':', q1, q2,
+    ]
 }
 
 /// A validity period, in its format.
 #[derive(Clone, Copy)]
 pub struct ValidityText(pub Validity);
 
-impl fmt::Display for ValidityText {
-    fn fmt<W: fmt::Write>(&self, f: &mut fmt::Formatter<W>) -> fmt::Result {
+impl Printed for ValidityText {
+    fn plain(&self, page: &mut Page) {
         match self.0 {
-            Validity::Absent => write!(f, "none"),
-            Validity::Relative(octet) => write!(f, "relative {octet} {}", seconds_of(octet)),
-            Validity::Enhanced(octets) => write!(f, "enhanced {}", Hexadecimal(octets.as_slice())),
-            Validity::Absolute(stamp) => write!(f, "absolute {}", StampText(stamp)),
+            Validity::Absent => page.put(b"none"),
+            Validity::Relative(octet) => {
+                page.put(b"relative ");
+                page.put_decimal(u64::from(octet));
+                page.put(b" ");
+                page.put_decimal(seconds_of(octet));
+            }
+            Validity::Enhanced(octets) => {
+                page.put(b"enhanced ");
+                page.put_hexadecimal(octets.as_slice());
+            }
+            Validity::Absolute(stamp) => {
+                page.put(b"absolute ");
+                StampText(stamp).plain(page);
+            }
+        }
+    }
+
+    fn json(&self, object: &mut Object) {
+        match self.0 {
+            Validity::Absent => object.nothing(),
+            Validity::Relative(octet) => {
+                object.open();
+                object.number_named("relative", u64::from(octet));
+                object.number_named("seconds", seconds_of(octet));
+                object.close();
+            }
+            Validity::Enhanced(octets) => {
+                object.open();
+                object.octets_named("enhanced", octets.as_slice());
+                object.close();
+            }
+            Validity::Absolute(stamp) => {
+                object.open();
+                object.name("absolute");
+                StampText(stamp).json(object);
+                object.close();
+            }
         }
     }
 }
@@ -164,16 +384,70 @@ fn seconds_of(octet: u8) -> u64 {
 #[derive(Clone, Copy)]
 pub struct ConcatText(pub Concat);
 
-impl fmt::Display for ConcatText {
-    fn fmt<W: fmt::Write>(&self, f: &mut fmt::Formatter<W>) -> fmt::Result {
-        let bits = match self.0.width {
-            Width::Eight => 8,
-            Width::Sixteen => 16,
-        };
-        let concat = self.0;
-        write!(f, "{bits} {} ", concat.reference)?;
-        write!(f, "{} {}", concat.maximum, concat.sequence)
+/// The bits of a reference.
+pub fn bits_of(width: Width) -> u64 {
+    match width {
+        Width::Eight => 8,
+        Width::Sixteen => 16,
     }
+}
+
+impl Printed for ConcatText {
+    fn plain(&self, page: &mut Page) {
+        page.put_decimal(bits_of(self.0.width));
+        page.put(b" ");
+        page.put_decimal(u64::from(self.0.reference));
+        page.put(b" ");
+        page.put_decimal(u64::from(self.0.maximum));
+        page.put(b" ");
+        page.put_decimal(u64::from(self.0.sequence));
+    }
+
+    fn json(&self, object: &mut Object) {
+        object.open();
+        object.number_named("width", bits_of(self.0.width));
+        object.number_named("reference", u64::from(self.0.reference));
+        object.number_named("maximum", u64::from(self.0.maximum));
+        object.number_named("sequence", u64::from(self.0.sequence));
+        object.close();
+    }
+}
+
+/// A header: its octets. JSON has its elements, or its octets where it has none.
+pub struct HeaderText<'a, 'b>(pub &'b HeaderView<'a>);
+
+impl Drop for HeaderText<'_, '_> {
+    fn drop(self) {
+        let HeaderText(_) = self;
+    }
+}
+
+impl Printed for HeaderText<'_, '_> {
+    fn plain(&self, page: &mut Page) {
+        page.put_hexadecimal(self.0.as_slice());
+    }
+
+    fn json(&self, object: &mut Object) {
+        let mut elements = self.0.elements();
+        let Some(first) = elements.next() else {
+            object.octets(self.0.as_slice());
+            return;
+        };
+        object.open_list();
+        put_element(object, first.identifier, first.octets);
+        for element in elements {
+            put_element(object, element.identifier, element.octets);
+        }
+        object.close_list();
+    }
+}
+
+/// Adds an element of a header.
+fn put_element(object: &mut Object, identifier: u8, octets: &[u8]) {
+    object.open();
+    object.number_named("identifier", u64::from(identifier));
+    object.octets_named("octets", octets);
+    object.close();
 }
 
 /// A transaction of the connection: 1 where the message goes to the side that opened it, else 0,
@@ -186,9 +460,17 @@ pub struct TransactionText {
     pub value: u8,
 }
 
-impl fmt::Display for TransactionText {
-    fn fmt<W: fmt::Write>(&self, f: &mut fmt::Formatter<W>) -> fmt::Result {
-        let flag = if self.flag { 1 } else { 0 };
-        write!(f, "{flag} {}", self.value)
+impl Printed for TransactionText {
+    fn plain(&self, page: &mut Page) {
+        page.put(if self.flag { b"1 " } else { b"0 " });
+        page.put_decimal(u64::from(self.value));
+    }
+
+    fn json(&self, object: &mut Object) {
+        object.open();
+        object.name("flag");
+        object.flag(self.flag);
+        object.number_named("value", u64::from(self.value));
+        object.close();
     }
 }

@@ -1,14 +1,13 @@
 //! The fields of relay and connection messages, one a line, and those of the unit inside.
 
-use crate::any::{is_memory_available, kind_told, show_memory_available};
+use crate::any::{is_memory_available, kind_carried, show_memory_available};
 use crate::fault::Fault;
-use crate::lines::Lines;
-use crate::printed::{Octet, TransactionText};
+use crate::lines::{Layer, Lines};
+use crate::printed::{Nobody, Octet, TransactionText};
 use crate::show::{put_centre, show_unit};
 use crate::words::UnitKind;
 use sms_relay::{CpBodyView, CpView, RpBodyView, RpView, Side};
 use std::alloc::Global;
-use std::io::Write;
 
 /// What a relay message is, and where it goes.
 fn relay_name(message: &RpView<'_>) -> &'static str {
@@ -45,11 +44,7 @@ fn unit_inside<'a>(body: &RpBodyView<'a>) -> Option<&'a [u8]> {
 }
 
 /// The lines of what stands before the unit of a relay message.
-fn put_body<W: Write>(
-    alloc: Global,
-    lines: &mut Lines<W>,
-    body: &RpBodyView<'_>,
-) -> Result<(), Fault> {
+fn put_body(alloc: Global, lines: &mut Lines, body: &RpBodyView<'_>) -> Result<(), Fault> {
     match body {
         RpBodyView::Transfer { address, .. } => put_centre(alloc, lines, "address", address)?,
         RpBodyView::Ack { .. } => {}
@@ -68,16 +63,12 @@ fn put_body<W: Write>(
 }
 
 /// The lines of a relay message without the unit that it carries.
-fn put_front<W: Write>(
-    alloc: Global,
-    lines: &mut Lines<W>,
-    message: &RpView<'_>,
-) -> Result<(), Fault> {
+fn put_front(alloc: Global, lines: &mut Lines, message: &RpView<'_>) -> Result<(), Fault> {
     lines.put("rp", relay_name(message));
     lines.put("reference", Octet(message.reference));
     put_body(alloc, lines, &message.body)?;
     if unit_inside(&message.body).is_none() {
-        lines.put("user", "none");
+        lines.put("user", Nobody);
     }
     Ok(())
 }
@@ -87,7 +78,7 @@ fn put_front<W: Write>(
 fn kind_of(message: &RpView<'_>, any: bool, unit: &[u8]) -> UnitKind {
     let implied = kind_inside(message);
     if any {
-        kind_told(message.side, unit, implied)
+        kind_carried(message.side, unit, implied)
     } else {
         implied
     }
@@ -95,12 +86,7 @@ fn kind_of(message: &RpView<'_>, any: bool, unit: &[u8]) -> UnitKind {
 
 /// Writes the fields of an RP message, and those of the unit that it carries; where any message may
 /// stand there, of an RP-SMMA and of any unit too.
-pub fn show_rp<W: Write>(
-    alloc: Global,
-    any: bool,
-    octets: &[u8],
-    lines: &mut Lines<W>,
-) -> Result<(), Fault> {
+pub fn show_rp(alloc: Global, any: bool, octets: &[u8], lines: &mut Lines) -> Result<(), Fault> {
     if any && is_memory_available(octets) {
         return show_memory_available(octets, lines);
     }
@@ -108,7 +94,10 @@ pub fn show_rp<W: Write>(
     put_front(alloc, lines, &message)?;
     lines.put_rest(octets.len() - used);
     match unit_inside(&message.body) {
-        Some(unit) => show_unit(alloc, kind_of(&message, any, unit), unit, lines),
+        Some(unit) => {
+            lines.enter(Layer::Unit);
+            show_unit(alloc, kind_of(&message, any, unit), unit, lines)
+        }
         None => Ok(()),
     }
 }
@@ -123,7 +112,7 @@ fn connection_name(body: &CpBodyView<'_>) -> &'static str {
 }
 
 /// The lines of a connection message without the relay message that it carries.
-fn put_connection<W: Write>(lines: &mut Lines<W>, message: &CpView<'_>) {
+fn put_connection(lines: &mut Lines, message: &CpView<'_>) {
     let transaction = TransactionText {
         flag: message.flag,
         value: message.value,
@@ -136,17 +125,15 @@ fn put_connection<W: Write>(lines: &mut Lines<W>, message: &CpView<'_>) {
 }
 
 /// Writes the fields of a CP message, and those of the RP message that it carries.
-pub fn show_cp<W: Write>(
-    alloc: Global,
-    any: bool,
-    octets: &[u8],
-    lines: &mut Lines<W>,
-) -> Result<(), Fault> {
+pub fn show_cp(alloc: Global, any: bool, octets: &[u8], lines: &mut Lines) -> Result<(), Fault> {
     let (message, used) = CpView::read(octets)?;
     put_connection(lines, &message);
     lines.put_rest(octets.len() - used);
     match &message.body {
-        CpBodyView::Transfer(relayed) => show_rp(alloc, any, relayed.as_slice(), lines),
+        CpBodyView::Transfer(relayed) => {
+            lines.enter(Layer::Relay);
+            show_rp(alloc, any, relayed.as_slice(), lines)
+        }
         CpBodyView::Ack | CpBodyView::Fail(_) => Ok(()),
     }
 }

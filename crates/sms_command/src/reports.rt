@@ -4,11 +4,10 @@ use crate::fault::Fault;
 use crate::lines::Lines;
 use crate::printed::{Answer, Hexadecimal, Octet, StampText};
 use sms_tpdu::{DeliverAckView, DeliverErrorView, ReportDataView, SubmitAckView, SubmitErrorView};
-use std::io::Write;
 
 /// The lines of what a report need not have.
-pub fn put_parts<W: Write>(
-    lines: &mut Lines<W>,
+pub fn put_parts(
+    lines: &mut Lines,
     pid: Option<u8>,
     dcs: Option<u8>,
     user: &Option<ReportDataView<'_>>,
@@ -26,7 +25,7 @@ pub fn put_parts<W: Write>(
 }
 
 /// Writes the fields of an SMS-SUBMIT-REPORT under an acknowledgement.
-pub fn show_submit_ack<W: Write>(octets: &[u8], lines: &mut Lines<W>) -> Result<(), Fault> {
+pub fn show_submit_ack(octets: &[u8], lines: &mut Lines) -> Result<(), Fault> {
     let (report, used) = SubmitAckView::read(octets)?;
     lines.put("type", "submit-ack");
     lines.put("header", Answer(report.has_header));
@@ -37,7 +36,7 @@ pub fn show_submit_ack<W: Write>(octets: &[u8], lines: &mut Lines<W>) -> Result<
 }
 
 /// Writes the fields of an SMS-SUBMIT-REPORT under an error.
-pub fn show_submit_error<W: Write>(octets: &[u8], lines: &mut Lines<W>) -> Result<(), Fault> {
+pub fn show_submit_error(octets: &[u8], lines: &mut Lines) -> Result<(), Fault> {
     let (report, used) = SubmitErrorView::read(octets)?;
     lines.put("type", "submit-error");
     lines.put("header", Answer(report.has_header));
@@ -49,7 +48,7 @@ pub fn show_submit_error<W: Write>(octets: &[u8], lines: &mut Lines<W>) -> Resul
 }
 
 /// Writes the fields of an SMS-DELIVER-REPORT under an acknowledgement.
-pub fn show_deliver_ack<W: Write>(octets: &[u8], lines: &mut Lines<W>) -> Result<(), Fault> {
+pub fn show_deliver_ack(octets: &[u8], lines: &mut Lines) -> Result<(), Fault> {
     let (report, used) = DeliverAckView::read(octets)?;
     lines.put("type", "deliver-ack");
     lines.put("header", Answer(report.has_header));
@@ -59,7 +58,7 @@ pub fn show_deliver_ack<W: Write>(octets: &[u8], lines: &mut Lines<W>) -> Result
 }
 
 /// Writes the fields of an SMS-DELIVER-REPORT under an error.
-pub fn show_deliver_error<W: Write>(octets: &[u8], lines: &mut Lines<W>) -> Result<(), Fault> {
+pub fn show_deliver_error(octets: &[u8], lines: &mut Lines) -> Result<(), Fault> {
     let (report, used) = DeliverErrorView::read(octets)?;
     lines.put("type", "deliver-error");
     lines.put("header", Answer(report.has_header));

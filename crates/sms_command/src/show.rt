@@ -1,23 +1,23 @@
 //! The fields of a unit, one a line.
 
 use crate::fault::Fault;
-use crate::lines::Lines;
+use crate::lines::{Layer, Lines};
 use crate::printed::{
-    Answer, ConcatText, Escaped, Hexadecimal, Numbering, Octet, StampText, ValidityText,
+    Answer, ConcatText, Escaped, HeaderText, Hexadecimal, Nobody, Numbering, Octet, Party,
+    StampText, ValidityText,
 };
 use crate::reports::{show_deliver_ack, show_deliver_error, show_submit_ack, show_submit_error};
 use crate::status_reports::{show_command, show_status_report};
 use crate::words::UnitKind;
 use sms_field::{AddressView, Alphabet, FieldFault, RpAddressView, alphabet_of};
 use sms_text::{text_of_gsm, text_of_ucs2_octets};
-use sms_tpdu::{Body, DeliverView, Header, SubmitView, UserDataView};
+use sms_tpdu::{Body, DeliverView, Header, HeaderView, SubmitView, UserDataView};
 use std::alloc::Global;
-use std::io::Write;
 
 /// The lines of a header: its octets, and the concatenation that it tells.
-fn put_header<W: Write>(lines: &mut Lines<W>, header: &Header) {
-    if !header.as_slice().is_empty() {
-        lines.put("header", Hexadecimal(header.as_slice()));
+fn put_header(lines: &mut Lines, view: &HeaderView<'_>, header: &Header) {
+    if !view.as_slice().is_empty() {
+        lines.put("header", HeaderText(view));
     }
     if let Some(concat) = header.concat() {
         lines.put("concat", ConcatText(concat));
@@ -25,9 +25,9 @@ fn put_header<W: Write>(lines: &mut Lines<W>, header: &Header) {
 }
 
 /// The line of a body: its text, or its octets where they are no text.
-fn put_body<W: Write>(
+fn put_body(
     alloc: Global,
-    lines: &mut Lines<W>,
+    lines: &mut Lines,
     alphabet: Alphabet,
     body: &Body,
 ) -> Result<(), Fault> {
@@ -46,69 +46,71 @@ fn put_body<W: Write>(
 }
 
 /// The lines of user data.
-fn put_user<W: Write>(
+fn put_user(
     alloc: Global,
-    lines: &mut Lines<W>,
+    lines: &mut Lines,
     dcs: u8,
     view: &UserDataView<'_>,
 ) -> Result<(), Fault> {
     let user = view.to_value(alloc)?;
     lines.put("length", view.length());
-    if let Some(header) = &user.header {
-        put_header(lines, header);
+    if let (Some(seen), Some(header)) = (view.header(), &user.header) {
+        put_header(lines, seen, header);
     }
     put_body(alloc, lines, alphabet_of(dcs), &user.body)
 }
 
 /// The lines of an address, by the name of its party.
-pub fn put_party<W: Write>(
+pub fn put_party(
     alloc: Global,
-    lines: &mut Lines<W>,
+    lines: &mut Lines,
     name: &str,
     view: &AddressView<'_>,
 ) -> Result<(), Fault> {
     let address = view.to_value(alloc)?;
     let text = address.to_text(alloc)?;
-    lines.put(name, Escaped(&text));
-    lines.put("number", Numbering::of(&address));
+    let numbering = Numbering::of(&address);
+    lines.put(name, Party::new(&text, numbering));
+    lines.put_plain("number", numbering);
     Ok(())
 }
 
 /// Why octets do not begin with the address of a service centre.
-fn centre_fault(fault: sms_field::Fault<FieldFault>) -> Fault {
+pub fn centre_fault(fault: sms_field::Fault<FieldFault>) -> Fault {
     Fault::Message(fault.map_reason())
 }
 
 /// The line of a service centre's address, by a name.
-pub fn put_centre<W: Write>(
+pub fn put_centre(
     alloc: Global,
-    lines: &mut Lines<W>,
+    lines: &mut Lines,
     name: &str,
     centre: &Option<RpAddressView<'_>>,
 ) -> Result<(), Fault> {
     match RpAddressView::some_to_value(alloc, centre)? {
         Some(address) => {
             let text = address.to_text(alloc)?;
-            lines.put(name, Escaped(&text));
+            lines.put(name, Party::new(&text, Numbering::of_relay(&address)));
         }
-        None => lines.put(name, "none"),
+        None => lines.put(name, Nobody),
     }
     Ok(())
 }
 
 /// Writes the address of a service centre, and gives the octets after it.
-pub fn show_centre<'a, W: Write>(
+pub fn show_centre<'a>(
     alloc: Global,
     octets: &'a [u8],
-    lines: &mut Lines<W>,
+    lines: &mut Lines,
 ) -> Result<&'a [u8], Fault> {
+    lines.begin(Layer::Centre);
     let (centre, used) = RpAddressView::read(octets).map_err(centre_fault)?;
     put_centre(alloc, lines, "centre", &centre)?;
     Ok(&octets[used..])
 }
 
 /// The lines of what an SMS-DELIVER has before its address.
-fn put_deliver_front<W: Write>(lines: &mut Lines<W>, deliver: &DeliverView<'_>) {
+fn put_deliver_front(lines: &mut Lines, deliver: &DeliverView<'_>) {
     lines.put("type", "deliver");
     lines.put("more", Answer(deliver.more));
     lines.put("loop", Answer(deliver.looped));
@@ -117,7 +119,7 @@ fn put_deliver_front<W: Write>(lines: &mut Lines<W>, deliver: &DeliverView<'_>) 
 }
 
 /// Writes the fields of an SMS-DELIVER.
-fn show_deliver<W: Write>(alloc: Global, octets: &[u8], lines: &mut Lines<W>) -> Result<(), Fault> {
+fn show_deliver(alloc: Global, octets: &[u8], lines: &mut Lines) -> Result<(), Fault> {
     let (deliver, used) = DeliverView::read(octets)?;
     put_deliver_front(lines, &deliver);
     put_party(alloc, lines, "from", &deliver.origin)?;
@@ -130,7 +132,7 @@ fn show_deliver<W: Write>(alloc: Global, octets: &[u8], lines: &mut Lines<W>) ->
 }
 
 /// The lines of what an SMS-SUBMIT has before its address.
-fn put_submit_front<W: Write>(lines: &mut Lines<W>, submit: &SubmitView<'_>) {
+fn put_submit_front(lines: &mut Lines, submit: &SubmitView<'_>) {
     lines.put("type", "submit");
     lines.put("reject", Answer(submit.reject));
     lines.put("report", Answer(submit.report));
@@ -139,7 +141,7 @@ fn put_submit_front<W: Write>(lines: &mut Lines<W>, submit: &SubmitView<'_>) {
 }
 
 /// Writes the fields of an SMS-SUBMIT.
-fn show_submit<W: Write>(alloc: Global, octets: &[u8], lines: &mut Lines<W>) -> Result<(), Fault> {
+fn show_submit(alloc: Global, octets: &[u8], lines: &mut Lines) -> Result<(), Fault> {
     let (submit, used) = SubmitView::read(octets)?;
     put_submit_front(lines, &submit);
     put_party(alloc, lines, "to", &submit.target)?;
@@ -152,11 +154,11 @@ fn show_submit<W: Write>(alloc: Global, octets: &[u8], lines: &mut Lines<W>) -> 
 }
 
 /// Writes the fields of a unit.
-pub fn show_unit<W: Write>(
+pub fn show_unit(
     alloc: Global,
     kind: UnitKind,
     octets: &[u8],
-    lines: &mut Lines<W>,
+    lines: &mut Lines,
 ) -> Result<(), Fault> {
     match kind {
         UnitKind::Deliver => show_deliver(alloc, octets, lines),

@@ -5,6 +5,8 @@ ghost use Rattle.sms_tpdu.specs.declared.user_data.concat.Width.TheVariants.{Eig
 ghost use Rattle.sms_join.specs.SegmentUser.{IsSendable};
 
 use crate::fault::Fault;
+use crate::lines::{Form, Lines};
+use crate::page::Page;
 use crate::printed::Hexadecimal;
 use crate::words::LongText;
 use sms_join::{SegmentView, SplitFault, cut_text};
@@ -35,6 +37,7 @@ fn put_segment<W: Write>(
     segment: &SegmentView<'_>,
     width: Width,
     reference: u16,
+    form: Form,
     output: &mut W,
 ) -> Result<(), Fault>
     requires sendable { IsSendable width segment.now }
@@ -42,14 +45,34 @@ fn put_segment<W: Write>(
 {
     let octets = segment.write_user(alloc, width, reference)?;
     let alphabet = alphabet_name(segment.units());
-    write!(
-        output,
-        "{}/{} {alphabet} ",
-        segment.sequence(),
-        segment.maximum()
-    )?;
-    writeln!(output, "{} {}", octets[0], Hexadecimal(&octets[1..]))?;
-    Ok(())
+    let mut page = Page::new(alloc);
+    match form {
+        Form::Plain => put_line(&mut page, segment, alphabet, octets[0], &octets[1..]),
+        Form::Json => {
+            let mut lines = Lines::new(alloc, form, page.take(alloc));
+            lines.put("sequence", segment.sequence());
+            lines.put("maximum", segment.maximum());
+            lines.put("alphabet", alphabet);
+            lines.put("length", octets[0]);
+            lines.put("octets", Hexadecimal(&octets[1..]));
+            page = lines.finish();
+        }
+    }
+    page.write_to(output)
+}
+
+/// Adds the line of a segment.
+fn put_line(page: &mut Page, segment: &SegmentView<'_>, alphabet: &str, length: u8, octets: &[u8]) {
+    page.put_decimal(u64::from(segment.sequence()));
+    page.put(b"/");
+    page.put_decimal(u64::from(segment.maximum()));
+    page.put(b" ");
+    page.put(alphabet.as_bytes());
+    page.put(b" ");
+    page.put_decimal(u64::from(length));
+    page.put(b" ");
+    page.put_hexadecimal(octets);
+    page.put(b"\n");
 }
 
 /// Writes the segments of a text under a reference of this width, in order.
@@ -58,6 +81,7 @@ fn put_cut<W: Write>(
     text: &str,
     width: Width,
     reference: u16,
+    form: Form,
     output: &mut W,
 ) -> Result<(), Fault>
     requires { width ≡ Eight → reference < 256 }
@@ -65,7 +89,7 @@ fn put_cut<W: Write>(
     let segments = cut_text(alloc, text, width)?;
     for index in 0..segments.len() {
         if let Some(segment) = segments.get(index) {
-            put_segment(alloc, &segment, width, reference, output)?;
+            put_segment(alloc, &segment, width, reference, form, output)?;
         }
     }
     Ok(())
@@ -78,10 +102,12 @@ pub fn put_segments<W: Write>(
     output: &mut W,
 ) -> Result<(), Fault> {
     if long.wide {
-        return put_cut(alloc, long.text, Width::Sixteen, long.reference, output);
+        let width = Width::Sixteen;
+        return put_cut(alloc, long.text, width, long.reference, long.form, output);
     }
     if long.reference > 255 {
         return Err(Fault::ReferenceTooLarge);
     }
-    put_cut(alloc, long.text, Width::Eight, long.reference, output)
+    let width = Width::Eight;
+    put_cut(alloc, long.text, width, long.reference, long.form, output)
 }

@@ -8,10 +8,9 @@ use crate::show::put_party;
 use crate::status_words::{CommandText, StatusText};
 use sms_tpdu::{CommandView, StatusReportView};
 use std::alloc::Global;
-use std::io::Write;
 
 /// The lines of what an SMS-STATUS-REPORT has before its address.
-fn put_status_front<W: Write>(lines: &mut Lines<W>, report: &StatusReportView<'_>) {
+fn put_status_front(lines: &mut Lines, report: &StatusReportView<'_>) {
     lines.put("type", "status-report");
     lines.put("more", Answer(report.more));
     lines.put("loop", Answer(report.looped));
@@ -21,11 +20,7 @@ fn put_status_front<W: Write>(lines: &mut Lines<W>, report: &StatusReportView<'_
 }
 
 /// Writes the fields of an SMS-STATUS-REPORT.
-pub fn show_status_report<W: Write>(
-    alloc: Global,
-    octets: &[u8],
-    lines: &mut Lines<W>,
-) -> Result<(), Fault> {
+pub fn show_status_report(alloc: Global, octets: &[u8], lines: &mut Lines) -> Result<(), Fault> {
     let (report, used) = StatusReportView::read(octets)?;
     put_status_front(lines, &report);
     put_party(alloc, lines, "recipient", &report.recipient)?;
@@ -38,7 +33,7 @@ pub fn show_status_report<W: Write>(
 }
 
 /// The lines of what an SMS-COMMAND has before its address.
-fn put_command_front<W: Write>(lines: &mut Lines<W>, view: &CommandView<'_>) {
+fn put_command_front(lines: &mut Lines, view: &CommandView<'_>) {
     lines.put("type", "command");
     lines.put("header", Answer(view.has_header));
     lines.put("report", Answer(view.report));
@@ -49,11 +44,7 @@ fn put_command_front<W: Write>(lines: &mut Lines<W>, view: &CommandView<'_>) {
 }
 
 /// Writes the fields of an SMS-COMMAND.
-pub fn show_command<W: Write>(
-    alloc: Global,
-    octets: &[u8],
-    lines: &mut Lines<W>,
-) -> Result<(), Fault> {
+pub fn show_command(alloc: Global, octets: &[u8], lines: &mut Lines) -> Result<(), Fault> {
     let (view, used) = CommandView::read(octets)?;
     put_command_front(lines, &view);
     put_party(alloc, lines, "recipient", &view.target)?;

@@ -1,15 +1,27 @@
 //! What a status report and a command say, in words.
 
+use crate::lines::Printed;
+use crate::object::Object;
+use crate::page::Page;
 use sms_tpdu::{CommandKind, Status, StatusGroup, StatusMeaning};
-use std::fmt;
 
-/// What stands before the words of a status: why the message did not come, where it did not.
+/// The words of a group.
 fn group_words(group: StatusGroup) -> &'static str {
     match group {
-        StatusGroup::StillTrying => "still trying: ",
-        StatusGroup::PermanentError => "permanent error: ",
-        StatusGroup::TemporaryError => "temporary error: ",
-        StatusGroup::Completed | StatusGroup::Reserved => "",
+        StatusGroup::Completed => "completed",
+        StatusGroup::StillTrying => "still trying",
+        StatusGroup::PermanentError => "permanent error",
+        StatusGroup::TemporaryError => "temporary error",
+        StatusGroup::Reserved => "reserved",
+    }
+}
+
+/// Whether the message did not come, or not yet.
+fn is_failure(group: StatusGroup) -> bool {
+    match group {
+        StatusGroup::StillTrying | StatusGroup::PermanentError => true,
+        StatusGroup::TemporaryError => true,
+        StatusGroup::Completed | StatusGroup::Reserved => false,
     }
 }
 
@@ -43,12 +55,25 @@ fn meaning_words(meaning: StatusMeaning) -> &'static str {
 #[derive(Clone, Copy)]
 pub struct StatusText(pub u8);
 
-impl fmt::Display for StatusText {
-    fn fmt<W: fmt::Write>(&self, f: &mut fmt::Formatter<W>) -> fmt::Result {
+impl Printed for StatusText {
+    fn plain(&self, page: &mut Page) {
         let status = Status::of(self.0);
-        let group = group_words(status.group);
-        let meaning = meaning_words(status.meaning);
-        write!(f, "{:02X} {group}{meaning}", self.0)
+        page.put_octet(self.0);
+        page.put(b" ");
+        if is_failure(status.group) {
+            page.put(group_words(status.group).as_bytes());
+            page.put(b": ");
+        }
+        page.put(meaning_words(status.meaning).as_bytes());
+    }
+
+    fn json(&self, object: &mut Object) {
+        let status = Status::of(self.0);
+        object.open();
+        object.number_named("octet", u64::from(self.0));
+        object.text_named("group", group_words(status.group));
+        object.text_named("meaning", meaning_words(status.meaning));
+        object.close();
     }
 }
 
@@ -68,9 +93,17 @@ fn command_words(kind: CommandKind) -> &'static str {
 #[derive(Clone, Copy)]
 pub struct CommandText(pub u8);
 
-impl fmt::Display for CommandText {
-    fn fmt<W: fmt::Write>(&self, f: &mut fmt::Formatter<W>) -> fmt::Result {
-        let words = command_words(CommandKind::of(self.0));
-        write!(f, "{:02X} {words}", self.0)
+impl Printed for CommandText {
+    fn plain(&self, page: &mut Page) {
+        page.put_octet(self.0);
+        page.put(b" ");
+        page.put(command_words(CommandKind::of(self.0)).as_bytes());
+    }
+
+    fn json(&self, object: &mut Object) {
+        object.open();
+        object.number_named("octet", u64::from(self.0));
+        object.text_named("meaning", command_words(CommandKind::of(self.0)));
+        object.close();
     }
 }

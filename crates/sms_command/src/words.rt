@@ -1,5 +1,7 @@
 //! What the words of a command line ask for.
 
+use crate::lines::Form;
+use clap::builder::ValueParser;
 use clap::error::ErrorKind;
 use clap::{Arg, ArgAction, ArgMatches, Command, Error, value_parser};
 use std::alloc::{AllocError, Global};
@@ -7,6 +9,9 @@ use std::convert::AsStr;
 
 /// The program's version.
 const VERSION: &str = "0.1";
+
+/// The greatest number of texts that are open or remembered.
+const COUNT_MAX: u64 = 1_000_000;
 
 /// What stands below the help of `play`.
 const SCRIPT_HELP: &str = "\
@@ -24,7 +29,7 @@ The script is read from standard input, for example:
 Packets are numbered from 1 as they are put out; carry K brings packet K to its end.";
 
 /// A kind of transfer unit.
-#[derive(Clone, Copy)]
+#[derive(Clone, Copy, Debug, PartialEq, Eq)]
 pub enum UnitKind {
     Deliver,
     Submit,
@@ -36,10 +41,19 @@ pub enum UnitKind {
     Command,
 }
 
+/// Who sent a unit.
+#[derive(Clone, Copy, Debug, PartialEq, Eq)]
+pub enum Sender {
+    Centre,
+    Phone,
+}
+
 /// What octets are shown as: a transfer unit, or a message of the relay or the connection.
-#[derive(Clone, Copy)]
+#[derive(Clone, Copy, Debug, PartialEq, Eq)]
 pub enum Kind {
     Unit(UnitKind),
+    /// The unit that its first octet tells.
+    Any,
     Rp,
     Cp,
 }
@@ -56,10 +70,18 @@ pub enum DraftKind {
 pub struct Shown<'a> {
     /// What the octets are.
     pub kind: Kind,
-    /// The octets in hexadecimal.
+    /// The octets in hexadecimal, where they are not in lines of the input.
     pub octets: &'a str,
+    /// Whether each line of the input has octets.
+    pub has_lines: bool,
     /// Whether the address of a service centre comes first.
     pub has_centre: bool,
+    /// Who sent the unit, where that was said.
+    pub sender: Option<Sender>,
+    /// How the fields are written.
+    pub form: Form,
+    /// Whether a fault of the digits names its place.
+    pub is_explained: bool,
     /// Whether a message of the relay may be any of the standard's.
     pub any: bool,
 }
@@ -68,8 +90,9 @@ impl Shown<'_> {
     /// Whether an option was given that the kind does not have.
     pub fn has_wrong_option(&self) -> bool {
         match self.kind {
-            Kind::Unit(_) => self.any,
-            Kind::Rp | Kind::Cp => false,
+            Kind::Unit(_) => self.any || self.sender.is_some(),
+            Kind::Any => self.any,
+            Kind::Rp | Kind::Cp => self.sender.is_some(),
         }
     }
 }
@@ -92,6 +115,21 @@ pub struct Draft<'a> {
     pub validity: Option<u8>,
     /// The seven octets of a delivery's stamp in hexadecimal (TP-SCTS).
     pub stamp: Option<&'a str>,
+    /// Whether a submission asks for a status report (TP-SRR), or a delivery tells that its sender
+    /// did (TP-SRI).
+    pub report: bool,
+    /// Whether a text that is too long for one unit goes into several.
+    pub is_split: bool,
+    /// Whether their reference takes two octets.
+    pub is_wide: bool,
+    /// The concatenation reference of several.
+    pub concat_reference: Option<u16>,
+    /// The address of a service centre that comes first.
+    pub centre: Option<&'a str>,
+    /// Whether each line is as a modem wants it.
+    pub is_for_modem: bool,
+    /// Whether a fault of the address or the digits names its place.
+    pub is_explained: bool,
 }
 
 /// A text whose segments are asked for.
@@ -103,6 +141,32 @@ pub struct LongText<'a> {
     pub wide: bool,
     /// The concatenation reference of its segments.
     pub reference: u16,
+    /// How the segments are written.
+    pub form: Form,
+}
+
+/// How units are joined.
+#[derive(Clone, Copy)]
+pub struct Joined {
+    /// Whether the address of a service centre comes first.
+    pub has_centre: bool,
+    /// How many sets of segments may be open.
+    pub open: usize,
+    /// How many that are whole are remembered.
+    pub remembered: usize,
+    /// How the texts are written.
+    pub form: Form,
+    /// Whether repeats and refusals are told.
+    pub is_verbose: bool,
+}
+
+/// How a script is played.
+#[derive(Clone, Copy)]
+pub struct Played {
+    /// How it is told.
+    pub form: Form,
+    /// Whether events that name nothing count as faults.
+    pub is_checked: bool,
 }
 
 /// One command with its words.
@@ -111,17 +175,34 @@ pub enum Request<'a> {
     Show(Shown<'a>),
     Encode(Draft<'a>),
     Split(LongText<'a>),
+    /// Units are joined.
+    Join(Joined),
     /// A script is played.
-    Play,
+    Play(Played),
+}
+
+impl Request<'_> {
+    /// Whether faults of digits and of addresses name their place.
+    pub fn is_explained(&self) -> bool {
+        match self {
+            Request::Show(shown) => shown.is_explained,
+            Request::Encode(draft) => draft.is_explained,
+            _ => false,
+        }
+    }
 }
 
 /// What a word of a subcommand may be.
 #[derive(Clone, Copy)]
-enum Form {
+enum WordForm {
     /// One of these, which is wanted.
     Kind(&'static [&'static str]),
     /// Any word, which is wanted.
     Word,
+    /// Any word, which is wanted unless this option is given, and then not.
+    WordUnless(&'static str),
+    /// An option with one of these.
+    Choice(&'static [&'static str]),
     /// An option without a value.
     Flag,
     /// An option with a value of this name.
@@ -130,12 +211,14 @@ enum Form {
     Octet,
     /// An option with a concatenation reference.
     Reference,
+    /// An option with a number from 1 on.
+    Count,
 }
 
 /// A word of a subcommand, or an option with its hyphens left out.
 struct Word {
     name: &'static str,
-    form: Form,
+    form: WordForm,
     help: &'static str,
 }
 
@@ -148,14 +231,14 @@ struct Subcommand {
     example: Option<&'static str>,
 }
 
-static SUBCOMMANDS: [Subcommand; 4] = [
+static SUBCOMMANDS: [Subcommand; 5] = [
     Subcommand {
         name: "show",
         about: "Prints the fields of a unit, one a line",
         words: &[
             Word {
                 name: "KIND",
-                form: Form::Kind(&[
+                form: WordForm::Kind(&[
                     "deliver",
                     "submit",
                     "submit-ack",
@@ -166,22 +249,43 @@ static SUBCOMMANDS: [Subcommand; 4] = [
                     "command",
                     "rp",
                     "cp",
+                    "any",
                 ]),
-                help: "What the octets are",
+                help: "What the octets are; any: what the first octet tells",
             },
             Word {
                 name: "HEX",
-                form: Form::Word,
+                form: WordForm::WordUnless("lines"),
                 help: "The octets in hexadecimal, - for none",
             },
             Word {
+                name: "lines",
+                form: WordForm::Flag,
+                help: "Standard input has the octets, a unit a line, as a modem lists them",
+            },
+            Word {
                 name: "sca",
-                form: Form::Flag,
+                form: WordForm::Flag,
                 help: "The address of a service centre comes first",
             },
             Word {
+                name: "from",
+                form: WordForm::Choice(&["centre", "phone"]),
+                help: "any: who sent the unit, the centre unless given",
+            },
+            Word {
+                name: "json",
+                form: WordForm::Flag,
+                help: "A line has an object in JSON for each unit",
+            },
+            Word {
+                name: "explain",
+                form: WordForm::Flag,
+                help: "`bad hex` names the place and the character",
+            },
+            Word {
                 name: "any",
-                form: Form::Flag,
+                form: WordForm::Flag,
                 help: "rp, cp: the unit inside is of the kind that its first octet tells",
             },
         ],
@@ -189,42 +293,77 @@ static SUBCOMMANDS: [Subcommand; 4] = [
     },
     Subcommand {
         name: "encode",
-        about: "Prints the octets of a unit with a text in one piece",
+        about: "Prints the octets of a unit with a text, or of one for each segment",
         words: &[
             Word {
                 name: "KIND",
-                form: Form::Kind(&["deliver", "submit"]),
+                form: WordForm::Kind(&["deliver", "submit"]),
                 help: "Which unit",
             },
             Word {
                 name: "ADDRESS",
-                form: Form::Word,
+                form: WordForm::Word,
                 help: "The other party: digits, + and digits, or a name",
             },
             Word {
                 name: "TEXT",
-                form: Form::Word,
+                form: WordForm::Word,
                 help: "The text",
             },
             Word {
                 name: "mr",
-                form: Form::Octet,
+                form: WordForm::Octet,
                 help: "submit: TP-MR, 0 unless given",
             },
             Word {
                 name: "rd",
-                form: Form::Flag,
+                form: WordForm::Flag,
                 help: "submit: TP-RD, asks the centre to reject duplicates",
             },
             Word {
                 name: "validity",
-                form: Form::Octet,
+                form: WordForm::Octet,
                 help: "submit: the octet of a relative TP-VP, none unless given",
             },
             Word {
                 name: "stamp",
-                form: Form::Value("HEX"),
+                form: WordForm::Value("HEX"),
                 help: "deliver: TP-SCTS, seven octets, 00101000000000 unless given",
+            },
+            Word {
+                name: "report",
+                form: WordForm::Flag,
+                help: "submit: TP-SRR, asks for a status report; deliver: TP-SRI",
+            },
+            Word {
+                name: "split",
+                form: WordForm::Flag,
+                help: "A text too long for one unit goes into several, a line each; TP-MR counts on",
+            },
+            Word {
+                name: "ref",
+                form: WordForm::Reference,
+                help: "--split: the concatenation reference: to 255, with --wide to 65535; 0 unless given",
+            },
+            Word {
+                name: "wide",
+                form: WordForm::Flag,
+                help: "--split: the concatenation reference takes two octets",
+            },
+            Word {
+                name: "sca",
+                form: WordForm::Value("ADDRESS"),
+                help: "The address of a service centre comes first",
+            },
+            Word {
+                name: "modem",
+                form: WordForm::Flag,
+                help: "The number that AT+CMGS wants comes first, and 00 where no --sca is given",
+            },
+            Word {
+                name: "explain",
+                form: WordForm::Flag,
+                help: "`bad address` and `bad hex` name the place and the character",
             },
         ],
         example: None,
@@ -235,18 +374,55 @@ static SUBCOMMANDS: [Subcommand; 4] = [
         words: &[
             Word {
                 name: "TEXT",
-                form: Form::Word,
+                form: WordForm::Word,
                 help: "The text",
             },
             Word {
                 name: "wide",
-                form: Form::Flag,
+                form: WordForm::Flag,
                 help: "The concatenation reference takes two octets",
             },
             Word {
                 name: "ref",
-                form: Form::Reference,
+                form: WordForm::Reference,
                 help: "The concatenation reference: to 255, with --wide to 65535; 0 unless given",
+            },
+            Word {
+                name: "json",
+                form: WordForm::Flag,
+                help: "A line has an object in JSON for each segment",
+            },
+        ],
+        example: None,
+    },
+    Subcommand {
+        name: "join",
+        about: "Joins SMS-DELIVERs from standard input, one a line, into texts",
+        words: &[
+            Word {
+                name: "sca",
+                form: WordForm::Flag,
+                help: "The address of a service centre comes first",
+            },
+            Word {
+                name: "open",
+                form: WordForm::Count,
+                help: "How many texts may be open at once, 16 unless given",
+            },
+            Word {
+                name: "remembered",
+                form: WordForm::Count,
+                help: "How many texts that are whole are remembered, 32 unless given",
+            },
+            Word {
+                name: "json",
+                form: WordForm::Flag,
+                help: "A line has an object in JSON for each text",
+            },
+            Word {
+                name: "verbose",
+                form: WordForm::Flag,
+                help: "Repeats, segments for which too many texts are open, and sets that are dropped after a week are told",
             },
         ],
         example: None,
@@ -254,27 +430,52 @@ static SUBCOMMANDS: [Subcommand; 4] = [
     Subcommand {
         name: "play",
         about: "Plays a script of a network of phones, and prints its transcript",
-        words: &[],
+        words: &[
+            Word {
+                name: "json",
+                form: WordForm::Flag,
+                help: "A line has an object in JSON for each event, and at the end for each phone",
+            },
+            Word {
+                name: "check",
+                form: WordForm::Flag,
+                help: "Ends with status 1 where an event named nothing (fault ..)",
+            },
+        ],
         example: Some(SCRIPT_HELP),
     },
 ];
 
 /// A word of a subcommand, as `clap` takes it.
-fn arg_of<'a>(alloc: Global, word: &Word) -> Arg<'a> {
+fn arg_of<'a>(alloc: Global, word: &Word) -> Result<Arg<'a>, AllocError> {
     let arg = Arg::new(alloc, word.name).help(word.help);
+    if let WordForm::WordUnless(option) = word.form {
+        return arg.required_unless_present(option)?.conflicts_with(option);
+    }
+    Ok(form_of(arg, word))
+}
+
+/// A word with the form that it may have.
+fn form_of<'a>(arg: Arg<'a>, word: &Word) -> Arg<'a> {
     match word.form {
-        Form::Kind(kinds) => arg.required(true).value_parser(kinds),
-        Form::Word => arg.required(true),
-        Form::Flag => arg.long(word.name).action(ArgAction::SetTrue),
-        Form::Value(value) => arg.long(word.name).value_name(value),
-        Form::Octet => arg
+        WordForm::Kind(kinds) => arg.required(true).value_parser(kinds),
+        WordForm::Word => arg.required(true),
+        WordForm::WordUnless(_) => arg,
+        WordForm::Choice(words) => arg.long(word.name).value_parser(words),
+        WordForm::Flag => arg.long(word.name).action(ArgAction::SetTrue),
+        WordForm::Value(value) => arg.long(word.name).value_name(value),
+        WordForm::Octet => arg
             .long(word.name)
             .value_name("N")
             .value_parser(value_parser!(u8)),
-        Form::Reference => arg
+        WordForm::Reference => arg
             .long(word.name)
             .value_name("N")
             .value_parser(value_parser!(u16)),
+        WordForm::Count => arg
+            .long(word.name)
+            .value_name("N")
+            .value_parser(ValueParser::unsigned(1, COUNT_MAX)),
     }
 }
 
@@ -285,7 +486,7 @@ fn subcommand_of<'a>(alloc: Global, sub: &Subcommand) -> Result<Command<'a>, All
         command = command.after_help(example);
     }
     for word in sub.words {
-        command = command.arg(arg_of(alloc, word))?;
+        command = command.arg(arg_of(alloc, word)?)?;
     }
     Ok(command)
 }
@@ -311,6 +512,7 @@ fn kind_of(word: &str) -> Option<Kind> {
         "submit-error" => Some(Kind::Unit(UnitKind::SubmitError)),
         "deliver-ack" => Some(Kind::Unit(UnitKind::DeliverAck)),
         "deliver-error" => Some(Kind::Unit(UnitKind::DeliverError)),
+        "any" => Some(Kind::Any),
         "status-report" => Some(Kind::Unit(UnitKind::StatusReport)),
         "command" => Some(Kind::Unit(UnitKind::Command)),
         "rp" => Some(Kind::Rp),
@@ -328,12 +530,34 @@ fn draft_kind_of(word: &str) -> Option<DraftKind> {
     }
 }
 
+/// Who sent a unit, by a word.
+fn sender_of(word: &str) -> Option<Sender> {
+    match word {
+        "centre" => Some(Sender::Centre),
+        "phone" => Some(Sender::Phone),
+        _ => None,
+    }
+}
+
+/// How an answer is written.
+fn form_found(found: &ArgMatches<'_>) -> Form {
+    if found.get_flag("json") {
+        Form::Json
+    } else {
+        Form::Plain
+    }
+}
+
 /// What is shown, or `None` where its kind is unknown.
 fn shown_of<'a>(found: &ArgMatches<'a>) -> Option<Request<'a>> {
     Some(Request::Show(Shown {
         kind: kind_of(found.get_str("KIND")?)?,
         octets: found.get_str("HEX").unwrap_or(""),
+        has_lines: found.get_flag("lines"),
         has_centre: found.get_flag("sca"),
+        sender: found.get_str("from").and_then(sender_of),
+        form: form_found(found),
+        is_explained: found.get_flag("explain"),
         any: found.get_flag("any"),
     }))
 }
@@ -348,6 +572,13 @@ fn draft_of<'a>(found: &ArgMatches<'a>) -> Option<Request<'a>> {
         reject: found.get_flag("rd"),
         validity: found.get_one::<u8>("validity"),
         stamp: found.get_str("stamp"),
+        report: found.get_flag("report"),
+        is_split: found.get_flag("split"),
+        is_wide: found.get_flag("wide"),
+        concat_reference: found.get_one::<u16>("ref"),
+        centre: found.get_str("sca"),
+        is_for_modem: found.get_flag("modem"),
+        is_explained: found.get_flag("explain"),
     }))
 }
 
@@ -357,7 +588,27 @@ fn long_text_of<'a>(found: &ArgMatches<'a>) -> Option<Request<'a>> {
         text: found.get_str("TEXT").unwrap_or(""),
         wide: found.get_flag("wide"),
         reference: found.get_one::<u16>("ref").unwrap_or(0),
+        form: form_found(found),
     }))
+}
+
+/// How units are joined.
+fn joined_of<'a>(found: &ArgMatches<'_>) -> Option<Request<'a>> {
+    Some(Request::Join(Joined {
+        has_centre: found.get_flag("sca"),
+        open: found.get_one::<usize>("open").unwrap_or(16),
+        remembered: found.get_one::<usize>("remembered").unwrap_or(32),
+        form: form_found(found),
+        is_verbose: found.get_flag("verbose"),
+    }))
+}
+
+/// How a script is played.
+fn played_of<'a>(found: &ArgMatches<'_>) -> Request<'a> {
+    Request::Play(Played {
+        form: form_found(found),
+        is_checked: found.get_flag("check"),
+    })
 }
 
 /// What the words of a subcommand ask for.
@@ -366,7 +617,8 @@ fn request_of<'a>(name: &str, found: &ArgMatches<'a>) -> Option<Request<'a>> {
         "show" => shown_of(found),
         "encode" => draft_of(found),
         "split" => long_text_of(found),
-        "play" => Some(Request::Play),
+        "join" => joined_of(found),
+        "play" => Some(played_of(found)),
         _ => None,
     }
 }

@@ -2,9 +2,19 @@
 #![tactic(auto)]
 
 #[cfg(test)]
+mod encoded;
+#[cfg(test)]
 mod ending;
 #[cfg(test)]
+mod fed;
+#[cfg(test)]
 mod found;
+#[cfg(test)]
+mod joins;
+#[cfg(test)]
+mod lines;
+#[cfg(test)]
+mod objects;
 #[cfg(test)]
 mod plays;
 #[cfg(test)]

@@ -5,7 +5,7 @@ mod rows;
 use crate::found::{answers, answers_with, are_answered, are_answered_after_a_centre, holds};
 use rows::{
     AFTER_CENTRES, ASKED, Any, CARRIED, COMMANDS, NO_COMMANDS, NO_STATUS_REPORTS, PARTS,
-    STATUS_REPORTS, STATUSES, Words,
+    STATUS_REPORTS, STATUSES, TOLD, Told, Words,
 };
 use std::alloc::Global;
 use std::process::Abort;
@@ -114,6 +114,20 @@ fn shows_any_message(rt: HostRuntime) -> Result<(), Fail> {
     for row in CARRIED.as_slice() {
         let shown = is_any(rt.alloc(), row)?;
         holds(&rt, &(row.kind, row.octets), shown);
+    }
+    Ok(())
+}
+
+/// Whether words are answered with the part of their row.
+fn is_told(alloc: Global, row: &Told) -> Result<bool, Fail> {
+    answers_with(alloc, row.words, 0, row.part)
+}
+
+#[test]
+fn tells_status_reports_and_commands(rt: HostRuntime) -> Result<(), Fail> {
+    for row in TOLD.as_slice() {
+        let told = is_told(rt.alloc(), row)?;
+        holds(&rt, &row.words, told);
     }
     Ok(())
 }

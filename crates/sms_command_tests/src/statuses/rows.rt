@@ -357,3 +357,47 @@ pub static CARRIED: [Any; 11] = [
         answer: "option not for this kind\n",
     },
 ];
+
+/// Words, and a part of their answer.
+pub struct Told {
+    pub words: &'static [&'static str],
+    pub part: &'static str,
+}
+
+/// Units that their first octet tells, and what JSON has.
+pub static TOLD: [Told; 4] = [
+    Told {
+        words: &[
+            "sms",
+            "show",
+            "any",
+            "0608028121993092516195809930925161958000",
+        ],
+        part: "type: status-report\n",
+    },
+    Told {
+        words: &[
+            "sms",
+            "show",
+            "any",
+            "--from",
+            "phone",
+            "02070002050491012000",
+        ],
+        part: "type: command\n",
+    },
+    Told {
+        words: &[
+            "sms",
+            "show",
+            "--json",
+            "status-report",
+            "0608028121993092516195809930925161958046",
+        ],
+        part: "\"status\":{\"octet\":70,\"group\":\"permanent error\",\"meaning\":\"validity period expired\"}",
+    },
+    Told {
+        words: &["sms", "show", "--json", "command", "02070002050491012000"],
+        part: "\"command\":{\"octet\":2,\"meaning\":\"delete\"}",
+    },
+];

@@ -1,0 +1,124 @@
+//! Octets in hexadecimal digits.
+
+use crate::fault::Fault;
+use crate::page::Page;
+use crate::printed::put_escaped;
+use std::alloc::AllocError;
+
+/// Where a text is no octets in hexadecimal digits.
+#[derive(Clone, Copy, Debug, PartialEq, Eq)]
+pub struct Spot {
+    /// The octets of the text before it.
+    pub place: usize,
+    /// The character that stands there; none at the end.
+    pub character: Option<char>,
+}
+
+impl Spot {
+    /// Adds the place and the character.
+    pub fn put(&self, page: &mut Page) {
+        page.put(b" at ");
+        page.put_decimal(self.place as u64);
+        page.put(b": ");
+        match self.character {
+            Some(character) => {
+                let mut octets = [0; 4];
+                put_escaped(page, character.encode_utf8(&mut octets));
+            }
+            None => page.put(b"the end"),
+        }
+    }
+}
+
+/// What an octet is that is no hexadecimal digit.
+const NO_DIGIT: u8 = 255;
+
+/// The number that an octet is as a hexadecimal digit of either case.
+fn number_of(octet: u8) -> u8 {
+    match octet {
+        b'0'..=b'9' => octet - b'0',
+        b'a'..=b'f' => octet - b'a' + 10,
+        b'A'..=b'F' => octet - b'A' + 10,
+        _ => NO_DIGIT,
+    }
+}
+
+/// The octet of two digits, if they are digits.
+fn octet_of(high: u8, low: u8) -> Option<u8> {
+    let (high, low) = (number_of(high), number_of(low));
+    if high == NO_DIGIT || low == NO_DIGIT {
+        return None;
+    }
+    Some((high << 4) | low)
+}
+
+/// Adds the octets of digits in pairs, and says whether all are.
+fn add_pairs(octets: &mut Vec<u8>, digits: &[u8]) -> Result<bool, AllocError> {
+    octets.reserve(digits.len() / 2)?;
+    for pair in digits.chunks(2) {
+        let [high, low] = pair else {
+            return Ok(false);
+        };
+        let Some(octet) = octet_of(*high, *low) else {
+            return Ok(false);
+        };
+        octets.push(octet)?;
+    }
+    Ok(true)
+}
+
+/// The character at a place of a text in UTF-8.
+fn character_at(text: &[u8], place: usize) -> Option<char> {
+    let rest = text.get(place..)?;
+    match str::from_utf8(rest) {
+        Ok(rest) => rest.chars().next(),
+        Err(_) => Some('\u{FFFD}'),
+    }
+}
+
+/// The fault of digits at a place.
+fn fault_at(digits: &[u8], place: usize) -> Fault {
+    Fault::BadHex(Spot {
+        place,
+        character: character_at(digits, place),
+    })
+}
+
+/// Whether an octet is a blank.
+fn is_blank(octet: u8) -> bool {
+    octet == b' ' || octet == b'\t'
+}
+
+/// Adds the octets of digits one by one, which blanks may part where they are allowed, and finds
+/// the first that is wrong.
+fn add_one_by_one(octets: &mut Vec<u8>, digits: &[u8], has_blanks: bool) -> Result<(), Fault> {
+    let mut high = NO_DIGIT;
+    for (place, octet) in digits.iter().enumerate() {
+        let number = number_of(*octet);
+        if number == NO_DIGIT {
+            if high != NO_DIGIT || !has_blanks || !is_blank(*octet) {
+                return Err(fault_at(digits, place));
+            }
+        } else if high == NO_DIGIT {
+            high = number;
+        } else {
+            octets.push((high << 4) | number)?;
+            high = NO_DIGIT;
+        }
+    }
+    if high != NO_DIGIT {
+        return Err(fault_at(digits, digits.len()));
+    }
+    Ok(())
+}
+
+/// Puts the octets of digits in place of what is there. `-` says no octets. Blanks may stand
+/// between octets where they are allowed.
+pub fn read_octets(octets: &mut Vec<u8>, digits: &[u8], has_blanks: bool) -> Result<(), Fault> {
+    octets.clear();
+    if digits == b"-".as_slice() || add_pairs(octets, digits)? {
+        return Ok(());
+    }
+    octets.clear();
+    add_one_by_one(octets, digits, has_blanks)
+}

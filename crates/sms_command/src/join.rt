@@ -1,0 +1,384 @@
+//! Texts that are joined from units, one a line of the input.
+
+ghost use Rattle.std.specs.Prelude.{◌<◌};
+ghost use Rattle.sms_tpdu.specs.UserData.ConcatenationFound.{IsPlace};
+
+use crate::digits::read_octets;
+use crate::fault::Fault;
+use crate::lines::{Form, Layer, Lines, Printed};
+use crate::many::{Taker, take_lines};
+use crate::object::Object;
+use crate::open_texts::{OpenText, OpenTexts, Place};
+use crate::page::Page;
+use crate::printed::{Escaped, Moment, Number, Numbering, Party, bits_of, put_escaped};
+use crate::show::centre_fault;
+use crate::shown::Done;
+use crate::words::Joined;
+use sms_field::{Address, Alphabet, RpAddressView, Stamp, alphabet_of};
+use sms_join::{Joiner, Offer, OfferFault, Ucs2Units, Units};
+use sms_text::units_of_octets;
+use sms_tpdu::{Body, Concat, DeliverView, Header};
+use std::alloc::{AllocError, Global};
+use std::io::{Read, Write};
+
+/// What a segment, or a message in one piece, has for the joiner.
+#[derive(Drop)]
+struct Piece {
+    /// Whom it is from (TP-OA).
+    origin: Address,
+    /// Its time stamp (TP-SCTS).
+    stamp: Stamp,
+    /// Its place among the segments of its message, if it is one.
+    concat: Option<Concat>,
+    units: Units,
+    ghost place: { IsPlace concat },
+}
+
+/// The place of a segment that the header tells, if there is one and it tells one.
+fn concat_of(header: &Option<Header>) -> Option<Concat>
+    ensures { IsPlace result }
+{
+    match header {
+        None => None,
+        Some(header) => header.concat(),
+    }
+}
+
+/// The units of a text in this alphabet; none where the alphabet is no text's.
+fn units_of(alloc: Global, alphabet: Alphabet, body: Body) -> Result<Option<Units>, AllocError> {
+    match (alphabet, body) {
+        (Alphabet::Gsm7, Body::Septets(septets)) => Ok(Some(Units::Gsm(septets))),
+        (Alphabet::Ucs2, Body::Octets(octets)) => {
+            let units = units_of_octets(alloc, octets.as_slice())?;
+            Ok(Some(Units::Ucs2(Ucs2Units::new(units))))
+        }
+        _ => Ok(None),
+    }
+}
+
+/// The piece that an SMS-DELIVER has.
+fn piece_of(alloc: Global, octets: &[u8]) -> Result<Piece, Fault> {
+    let (deliver, _) = DeliverView::read(octets)?;
+    let user = deliver.user.to_value(alloc)?;
+    let concat = concat_of(&user.header);
+    let Some(units) = units_of(alloc, alphabet_of(deliver.dcs), user.body)? else {
+        return Err(Fault::NoText);
+    };
+    Ok(Piece {
+        origin: deliver.origin.to_value(alloc)?,
+        stamp: deliver.stamp,
+        concat,
+        units,
+    })
+}
+
+/// The octets after the address of a service centre.
+fn after_centre(octets: &[u8]) -> Result<&[u8], Fault> {
+    let (_, used) = RpAddressView::read(octets).map_err(centre_fault)?;
+    Ok(&octets[used..])
+}
+
+/// The piece that a line of digits has. Where there is none, the layer is the one at fault.
+fn piece_in(
+    alloc: Global,
+    line: Result<&[u8], Fault>,
+    octets: &mut Vec<u8>,
+    has_centre: bool,
+    layer: &mut Layer,
+) -> Result<Piece, Fault> {
+    read_octets(octets, line?, true)?;
+    if !has_centre {
+        *layer = Layer::Unit;
+        return piece_of(alloc, octets);
+    }
+    *layer = Layer::Centre;
+    let unit = after_centre(octets)?;
+    *layer = Layer::Unit;
+    piece_of(alloc, unit)
+}
+
+/// Joins the units of lines.
+#[derive(Drop)]
+struct Joining {
+    alloc: Global,
+    has_centre: bool,
+    form: Form,
+    is_verbose: bool,
+    joiner: Joiner,
+    /// The sets that the joiner has open.
+    open: OpenTexts,
+    /// The greatest moment of a stamp so far, in seconds since the beginning of 2000.
+    clock: u64,
+    /// The octets of the line, in room that is kept.
+    octets: Vec<u8>,
+    /// Whether a line was at fault.
+    is_faulty: bool,
+}
+
+impl Joining {
+    /// Adds a member of what is told of an answer: one line of its own.
+    fn tell(&mut self, number: u64, told: &str, page: &mut Page) {
+        if !self.is_verbose {
+            return;
+        }
+        if self.form == Form::Plain {
+            page.put(b"line ");
+            page.put_decimal(number);
+            page.put(b": ");
+            page.put(told.as_bytes());
+            page.put(b"\n");
+            return;
+        }
+        let mut lines = Lines::new(self.alloc, self.form, page.take(self.alloc));
+        lines.put("line", Number(number));
+        lines.put("told", told);
+        *page = lines.finish();
+    }
+
+    /// Adds a fault of a line.
+    fn tell_fault(
+        &mut self,
+        number: u64,
+        layer: Layer,
+        fault: &Fault,
+        page: &mut Page,
+    ) -> Result<(), Fault> {
+        self.is_faulty = true;
+        let mut lines = Lines::new(self.alloc, self.form, page.take(self.alloc));
+        lines.put_json("line", Number(number));
+        lines.begin(layer);
+        *page = lines.finish_with(self.alloc, Some(number), false, fault)?;
+        Ok(())
+    }
+
+    /// Drops the sets that are old at the moment of a stamp, where it is the greatest so far.
+    fn go_on(&mut self, stamp: Stamp, page: &mut Page) -> Result<(), Fault> {
+        let Some(moment) = stamp.moment() else {
+            return Ok(());
+        };
+        if moment <= self.clock {
+            return Ok(());
+        }
+        self.clock = moment;
+        if self.open.has_old(moment) {
+            self.joiner.age(moment);
+            self.drop_old(page)?;
+        }
+        Ok(())
+    }
+
+    /// Tells the sets that are old, and forgets them.
+    fn drop_old(&mut self, page: &mut Page) -> Result<(), Fault> {
+        if self.is_verbose {
+            for (place, text) in self.open.iter() {
+                if text.is_old(self.clock) {
+                    put_open(self.alloc, self.form, "dropped", place, text, page)?;
+                }
+            }
+        }
+        self.open.age(self.clock);
+        Ok(())
+    }
+
+    /// Offers a piece, and adds what comes of it.
+    fn offer(&mut self, number: u64, piece: Piece, page: &mut Page) -> Result<(), Fault> {
+        let Piece {
+            origin,
+            stamp,
+            concat,
+            units,
+        } = piece;
+        match self.joiner.offer(self.clock, &origin, stamp, concat, units) {
+            Ok(Offer::Finished(text)) => {
+                put_text(self.alloc, self.form, &origin, stamp, &text, page)?;
+                drop(text);
+                self.open.close(origin, concat);
+                Ok(())
+            }
+            Ok(Offer::Kept) => Ok(self.open.keep(self.alloc, origin, concat, self.clock)?),
+            Ok(Offer::Repeat) => {
+                drop(origin);
+                self.tell(number, "repeat", page);
+                Ok(())
+            }
+            Err(OfferFault::TooManyOpen) => {
+                drop(origin);
+                self.tell(number, "too many open sets", page);
+                Ok(())
+            }
+            Err(OfferFault::Memory) => {
+                drop(origin);
+                Err(Fault::Memory)
+            }
+        }
+    }
+
+    /// Takes a piece, after what is old at its moment is dropped.
+    fn take_piece(&mut self, number: u64, piece: Piece, page: &mut Page) -> Result<(), Fault> {
+        let gone = self.go_on(piece.stamp, page);
+        let offered = self.offer(number, piece, page);
+        gone?;
+        offered
+    }
+}
+
+/// Adds a text that is whole: the moment of its last segment, its origin, and the text.
+fn put_text(
+    alloc: Global,
+    form: Form,
+    origin: &Address,
+    stamp: Stamp,
+    text: &str,
+    page: &mut Page,
+) -> Result<(), Fault> {
+    let party = origin.to_text(alloc)?;
+    let from = Party::new(&party, Numbering::of(origin));
+    let moment = Moment(stamp.moment());
+    if form == Form::Plain {
+        put_values(page, moment, from, text);
+    } else {
+        let mut lines = Lines::new(alloc, form, page.take(alloc));
+        lines.put("text", Escaped(text));
+        lines.put("origin", from);
+        lines.put("moment", moment);
+        *page = lines.finish();
+    }
+    drop(party);
+    Ok(())
+}
+
+/// Adds the line of a text that is whole.
+fn put_values(page: &mut Page, moment: Moment, from: Party<'_>, text: &str) {
+    moment.plain(page);
+    page.put(b" ");
+    from.plain(page);
+    page.put(b" ");
+    put_escaped(page, text);
+    page.put(b"\n");
+}
+
+/// A set of segments that is not whole.
+struct OpenSet<'a> {
+    from: Party<'a>,
+    place: &'a Place,
+    text: &'a OpenText,
+}
+
+impl Drop for OpenSet<'_> {
+    fn drop(self) {
+        let OpenSet {
+            from: _,
+            place: _,
+            text: _,
+        } = self;
+    }
+}
+
+impl Printed for OpenSet<'_> {
+    fn plain(&self, page: &mut Page) {
+        self.from.plain(page);
+        for number in [
+            bits_of(self.place.width),
+            u64::from(self.place.reference),
+            u64::from(self.place.maximum),
+        ] {
+            page.put(b" ");
+            page.put_decimal(number);
+        }
+        page.put(b" missing");
+        for sequence in 1..=self.place.maximum {
+            if !self.text.has(sequence) {
+                page.put(b" ");
+                page.put_decimal(u64::from(sequence));
+            }
+        }
+    }
+
+    fn json(&self, object: &mut Object) {
+        object.open();
+        object.name("origin");
+        self.from.json(object);
+        object.number_named("width", bits_of(self.place.width));
+        object.number_named("reference", u64::from(self.place.reference));
+        object.number_named("maximum", u64::from(self.place.maximum));
+        object.name("missing");
+        object.open_list();
+        for sequence in 1..=self.place.maximum {
+            if !self.text.has(sequence) {
+                object.number(u64::from(sequence));
+            }
+        }
+        object.close_list();
+        object.close();
+    }
+}
+
+/// Adds a set that is not whole: what its segments share, and which are missing.
+fn put_open(
+    alloc: Global,
+    form: Form,
+    name: &str,
+    place: &Place,
+    text: &OpenText,
+    page: &mut Page,
+) -> Result<(), Fault> {
+    let party = place.origin.to_text(alloc)?;
+    let from = Party::new(&party, Numbering::of(&place.origin));
+    let mut lines = Lines::new(alloc, form, page.take(alloc));
+    lines.put(name, OpenSet { from, place, text });
+    *page = lines.finish();
+    drop(party);
+    Ok(())
+}
+
+impl Taker for Joining {
+    fn take(
+        &mut self,
+        number: u64,
+        line: Result<&[u8], Fault>,
+        page: &mut Page,
+    ) -> Result<(), Fault> {
+        let mut layer = Layer::Digits;
+        let octets = &mut self.octets;
+        match piece_in(self.alloc, line, octets, self.has_centre, &mut layer) {
+            Ok(piece) => self.take_piece(number, piece, page),
+            Err(fault) if fault.is_of_input() => self.tell_fault(number, layer, &fault, page),
+            Err(fault) => Err(fault),
+        }
+    }
+
+    fn finish(&mut self, page: &mut Page) -> Result<(), Fault> {
+        for (place, text) in self.open.iter() {
+            put_open(self.alloc, self.form, "open", place, text, page)?;
+        }
+        Ok(())
+    }
+}
+
+/// Joins the units that the lines of an input have, and writes each text when it is whole.
+pub fn join<R: Read, W: Write>(
+    alloc: Global,
+    joined: Joined,
+    input: &mut R,
+    output: &mut W,
+) -> Result<Done, Fault> {
+    if joined.open == 0 || joined.remembered == 0 {
+        return Err(Fault::WrongOption);
+    }
+    let mut joining = Joining {
+        alloc,
+        has_centre: joined.has_centre,
+        form: joined.form,
+        is_verbose: joined.is_verbose,
+        joiner: Joiner::new(alloc, joined.open, joined.remembered)?,
+        open: OpenTexts::new(alloc),
+        clock: 0,
+        octets: Vec::new(alloc),
+        is_faulty: false,
+    };
+    let taken = take_lines(alloc, &mut joining, input, output);
+    let done = Done::unless(joining.is_faulty);
+    drop(joining);
+    taken?;
+    Ok(done)
+}

@@ -1,0 +1,102 @@
+//! Octets that are collected before they are written.
+
+use crate::fault::Fault;
+use std::alloc::Global;
+use std::io::Write;
+use std::mem;
+
+/// How many octets are collected before they are written.
+const ENOUGH: usize = 32_768;
+
+/// Octets that are collected before they are written, in room that is kept. Where memory runs out,
+/// nothing more is collected, and what stands before is written before the fault is told.
+#[derive(Drop)]
+pub struct Page {
+    octets: Vec<u8>,
+    is_cut: bool,
+}
+
+impl Page {
+    /// An empty page.
+    pub fn new(alloc: Global) -> Page {
+        Page {
+            octets: Vec::new(alloc),
+            is_cut: false,
+        }
+    }
+
+    /// A page that has these octets, and that is cut after them or not.
+    pub fn of(octets: Vec<u8>, is_cut: bool) -> Page {
+        Page { octets, is_cut }
+    }
+
+    /// The octets, and whether they are cut.
+    pub fn into_parts(self) -> (Vec<u8>, bool) {
+        (self.octets, self.is_cut)
+    }
+
+    /// What stands on the page, which is empty afterwards.
+    pub fn take(&mut self, alloc: Global) -> Page {
+        mem::replace(self, Page::new(alloc))
+    }
+
+    /// Adds octets.
+    pub fn put(&mut self, octets: &[u8]) {
+        if !self.is_cut {
+            self.is_cut = self.octets.extend_from_slice(octets).is_err();
+        }
+    }
+
+    /// Adds a number in decimal digits.
+    pub fn put_decimal(&mut self, number: u64) {
+        let mut digits = itoa::Buffer::new();
+        self.put(digits.format(number).as_bytes());
+    }
+
+    /// Adds a number below 100 in two decimal digits.
+    pub fn put_two_digits(&mut self, number: u8) {
+        self.put(&[b'0' + number / 10 % 10, b'0' + number % 10]);
+    }
+
+    /// Adds an octet in two upper case hexadecimal digits.
+    pub fn put_octet(&mut self, octet: u8) {
+        self.put(&[digit_of(octet / 16), digit_of(octet % 16)]);
+    }
+
+    /// Adds octets in upper case hexadecimal digits.
+    pub fn put_digits(&mut self, octets: &[u8]) {
+        for octet in octets {
+            self.put_octet(*octet);
+        }
+    }
+
+    /// Adds octets in upper case hexadecimal digits, none as `-`.
+    pub fn put_hexadecimal(&mut self, octets: &[u8]) {
+        if octets.is_empty() {
+            self.put(b"-");
+        } else {
+            self.put_digits(octets);
+        }
+    }
+
+    /// Whether so much stands on the page that it is time to write it.
+    pub fn is_full(&self) -> bool {
+        self.octets.len() >= ENOUGH
+    }
+
+    /// Writes what stands on the page, which is empty afterwards.
+    pub fn write_to<W: Write>(&mut self, output: &mut W) -> Result<(), Fault> {
+        let written = output.write_all(&self.octets);
+        self.octets.clear();
+        written?;
+        if self.is_cut {
+            return Err(Fault::Memory);
+        }
+        Ok(())
+    }
+}
+
+/// The upper case hexadecimal digit of a number below 16.
+fn digit_of(number: u8) -> u8 {
+    b"0123456789ABCDEF"[usize::from(number % 16)]
+}

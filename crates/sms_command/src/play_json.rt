@@ -1,0 +1,200 @@
+//! A script that is played, as objects in JSON.
+
+use crate::fault::Fault;
+use crate::lines::{Form, Lines, Printed};
+use crate::object::Object;
+use crate::outcomes::{is_fault, told_of};
+use crate::page::Page;
+use crate::printed::Number;
+use crate::run::{Happened, Running, Teller, run_script};
+use crate::shown::Done;
+use sms_script::{Packet, Script};
+use sms_world::{PlayFault, Status};
+use std::alloc::Global;
+use std::io::{Read, Write};
+
+/// Tells a run as objects in JSON.
+#[derive(Drop)]
+struct Objects {
+    /// Whether an event named nothing.
+    has_fault: bool,
+}
+
+/// The packets that an event put out.
+#[derive(Clone, Copy)]
+struct Packets<'a>(&'a Happened<'a>);
+
+impl Printed for Packets<'_> {
+    fn plain(&self, _page: &mut Page) {}
+
+    fn json(&self, object: &mut Object) {
+        let Happened {
+            script,
+            running,
+            packets_before,
+            ..
+        } = *self.0;
+        object.open_list();
+        for place in packets_before..running.world.packet_count() {
+            if let Some(packet) = running.world.packet_on_way(place + 1) {
+                put_packet(object, script, place, packet);
+            }
+        }
+        object.close_list();
+    }
+}
+
+/// Adds a packet, whose place counts from 0.
+fn put_packet(object: &mut Object, script: &Script, place: usize, packet: Packet<'_>) {
+    let name = script.name(packet.phone);
+    let (from, to) = if packet.up {
+        (name, "centre")
+    } else {
+        ("centre", name)
+    };
+    object.open();
+    object.name("number");
+    object.number((place as u64).saturating_add(1));
+    object.text_named("from", from);
+    object.text_named("to", to);
+    if script.is_brief() {
+        object.number_named("length", packet.octets.len() as u64);
+    } else {
+        object.octets_named("octets", packet.octets);
+    }
+    object.close();
+}
+
+/// What became of the texts that were typed at a phone.
+#[derive(Clone, Copy)]
+struct Sent<'a> {
+    running: &'a Running,
+    phone: usize,
+}
+
+/// What became of a text, in a word.
+fn status_word(status: Status) -> &'static str {
+    match status {
+        Status::Waiting => "waiting",
+        Status::Accepted => "accepted",
+        Status::Failed => "failed",
+    }
+}
+
+impl Printed for Sent<'_> {
+    fn plain(&self, _page: &mut Page) {}
+
+    fn json(&self, object: &mut Object) {
+        object.open_list();
+        for place in 0..self.running.typed(self.phone) {
+            let number = place.saturating_add(1);
+            if let Some(status) = self.running.status(self.phone, number) {
+                object.open();
+                object.number_named("number", number as u64);
+                object.text_named("status", status_word(status));
+                object.close();
+            }
+        }
+        object.close_list();
+    }
+}
+
+/// The texts that came to a phone.
+#[derive(Clone, Copy)]
+struct Stored<'a> {
+    running: &'a Running,
+    phone: usize,
+}
+
+impl Printed for Stored<'_> {
+    fn plain(&self, _page: &mut Page) {}
+
+    fn json(&self, object: &mut Object) {
+        object.open_list();
+        for entry in self.running.store(self.phone) {
+            object.open();
+            object.name("origin");
+            object.address(&entry.origin);
+            object.text_named("text", entry.text.as_str());
+            object.close();
+        }
+        object.close_list();
+    }
+}
+
+impl Teller for Objects {
+    fn tell(
+        &mut self,
+        alloc: Global,
+        happened: &Happened<'_>,
+        page: &mut Page,
+    ) -> Result<(), Fault> {
+        self.has_fault = self.has_fault || is_fault(happened.answer);
+        let mut lines = Lines::new(alloc, Form::Json, page.take(alloc));
+        lines.put("event", Number(happened.number));
+        told_of(happened.answer).put(&mut lines);
+        lines.put("packets", Packets(happened));
+        *page = lines.finish();
+        Ok(())
+    }
+
+    fn finish(
+        &mut self,
+        alloc: Global,
+        script: &Script,
+        running: &Running,
+        page: &mut Page,
+    ) -> Result<(), Fault> {
+        for phone in 0..running.phones() {
+            let mut lines = Lines::new(alloc, Form::Json, page.take(alloc));
+            lines.put("phone", script.name(phone));
+            lines.put("sent", Sent { running, phone });
+            lines.put("store", Stored { running, phone });
+            *page = lines.finish();
+        }
+        Ok(())
+    }
+}
+
+/// Adds the object of a script that is at fault.
+fn put_script_fault(alloc: Global, fault: &PlayFault, page: &mut Page) -> Result<bool, Fault> {
+    let PlayFault::Script { line, why } = fault else {
+        return Ok(false);
+    };
+    let reason = why.to_string(alloc)?;
+    let mut object = Object::new(alloc, page.take(alloc));
+    object.open();
+    object.name("fault");
+    object.open();
+    object.number_named("line", *line);
+    object.text_named("reason", &reason);
+    object.close();
+    object.close();
+    *page = object.into_line();
+    Ok(true)
+}
+
+/// Plays the script that an input has, and writes an object for each event, and at the end one for
+/// each phone. Where events that name nothing count, they are faults.
+pub fn play_as_json<R: Read, W: Write>(
+    alloc: Global,
+    is_checked: bool,
+    input: &mut R,
+    output: &mut W,
+) -> Result<Done, Fault> {
+    let mut objects = Objects { has_fault: false };
+    let mut page = Page::new(alloc);
+    let mut played = run_script(alloc, &mut objects, &mut page, input, output);
+    let mut is_faulty = is_checked && objects.has_fault;
+    if let Err(Fault::Play(fault)) = &played {
+        if put_script_fault(alloc, fault, &mut page)? {
+            played = Ok(());
+            is_faulty = true;
+        }
+    }
+    let written = page.write_to(output);
+    drop(page);
+    written?;
+    played?;
+    Ok(Done::unless(is_faulty))
+}

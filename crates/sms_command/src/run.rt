@@ -1,0 +1,268 @@
+//! A script that is played event by event, and what is told of it in other forms than a
+//! transcript.
+
+ghost use Rattle.std.specs.Prelude.{◌≡◌, length};
+
+use crate::fault::Fault;
+use crate::feed::{Feed, Line};
+use crate::page::Page;
+use sms_script::Script;
+use sms_world::{Entry, Event, Outcome, PlayFault, ScriptFault, Status, World, WorldFault};
+use std::alloc::Global;
+use std::io::{Read, Write};
+
+/// The greatest number of lines of a script.
+const LINES_MAX: u64 = 100_000;
+
+/// A world, and how many phones it has.
+#[derive(Drop)]
+pub struct Running {
+    pub world: World,
+    phones: usize,
+    ghost are: { length world.parties.phones ≡ phones },
+}
+
+impl Running {
+    /// The world that a script has set, at the beginning.
+    fn new(alloc: Global, script: &Script) -> Result<Running, Fault> {
+        let phones = script.addresses();
+        let count = phones.len();
+        let world = World::new(alloc, script.limits(), phones)?;
+        Ok(Running {
+            world,
+            phones: count,
+        })
+    }
+
+    /// Lets an event happen.
+    fn step(&mut self, event: &Event) -> Result<Outcome, WorldFault> {
+        self.world.step(event)
+    }
+
+    /// How many phones there are.
+    pub fn phones(&self) -> usize {
+        self.phones
+    }
+
+    /// The texts that came to a phone.
+    pub fn store(&self, phone: usize) -> &[Entry] {
+        if phone < self.phones {
+            self.world.store(phone)
+        } else {
+            &[]
+        }
+    }
+
+    /// How many texts were typed at a phone.
+    pub fn typed(&self, phone: usize) -> usize {
+        if phone < self.phones {
+            self.world.typed(phone)
+        } else {
+            0
+        }
+    }
+
+    /// How the text of this number of a phone stands.
+    pub fn status(&self, phone: usize, number: usize) -> Option<Status> {
+        if phone < self.phones {
+            self.world.status(phone, number)
+        } else {
+            None
+        }
+    }
+}
+
+/// An event that has happened.
+#[derive(Clone, Copy)]
+pub struct Happened<'a> {
+    /// What the script has said.
+    pub script: &'a Script,
+    /// The world afterwards.
+    pub running: &'a Running,
+    /// The number of the event, counted from 1.
+    pub number: u64,
+    /// The event.
+    pub event: &'a Event,
+    /// What it answered.
+    pub answer: Result<Outcome, WorldFault>,
+    /// How many packets were put out before.
+    pub packets_before: usize,
+}
+
+/// What tells a run.
+pub trait Teller: Drop {
+    /// Adds what is told of an event to the page.
+    fn tell(
+        &mut self,
+        alloc: Global,
+        happened: &Happened<'_>,
+        page: &mut Page,
+    ) -> Result<(), Fault>;
+
+    /// Adds what is told at the end to the page.
+    fn finish(
+        &mut self,
+        alloc: Global,
+        script: &Script,
+        running: &Running,
+        page: &mut Page,
+    ) -> Result<(), Fault>;
+}
+
+/// A script and the world that it is played on, from the first event on.
+#[derive(Drop)]
+struct Run {
+    script: Script,
+    running: Option<Running>,
+    events: u64,
+}
+
+/// The fault of a line of a script.
+fn fault_in(line: u64, why: ScriptFault) -> Fault {
+    Fault::Play(PlayFault::Script { line, why })
+}
+
+impl Run {
+    /// The event that a line says, if it says one.
+    fn event_in(&mut self, alloc: Global, line: Line<'_>) -> Result<Option<Event>, Fault> {
+        if self.script.lines() >= LINES_MAX {
+            return Err(fault_in(line.number, ScriptFault::TooManyLines));
+        }
+        match line.octets {
+            Some(octets) => Ok(self.script.take(alloc, octets)?),
+            None => Err(fault_in(line.number, ScriptFault::LineTooLong)),
+        }
+    }
+
+    /// The world as it stands.
+    fn started(&mut self, alloc: Global) -> Result<Running, Fault> {
+        if let Some(running) = self.running.take() {
+            return Ok(running);
+        }
+        let mut running = Running::new(alloc, &self.script)?;
+        if let Some(seconds) = self.script.clock() {
+            let _ = running.step(&Event::Tick(seconds));
+        }
+        Ok(running)
+    }
+
+    /// Lets an event happen, and tells it.
+    fn happen<T: Teller>(
+        &mut self,
+        alloc: Global,
+        event: &Event,
+        teller: &mut T,
+        page: &mut Page,
+    ) -> Result<(), Fault> {
+        let mut running = self.started(alloc)?;
+        self.events = self.events.saturating_add(1);
+        let packets_before = running.world.packet_count();
+        let answer = running.step(event);
+        let told = tell(
+            alloc,
+            &self.script,
+            &running,
+            self.events,
+            event,
+            answer,
+            packets_before,
+            teller,
+            page,
+        );
+        self.running = Some(running);
+        told
+    }
+
+    /// Plays a line.
+    fn take<T: Teller>(
+        &mut self,
+        alloc: Global,
+        line: Line<'_>,
+        teller: &mut T,
+        page: &mut Page,
+    ) -> Result<(), Fault> {
+        let Some(event) = self.event_in(alloc, line)? else {
+            return Ok(());
+        };
+        let told = self.happen(alloc, &event, teller, page);
+        drop(event);
+        told
+    }
+
+    /// Tells how all stands in the end.
+    fn finish<T: Teller>(
+        &mut self,
+        alloc: Global,
+        teller: &mut T,
+        page: &mut Page,
+    ) -> Result<(), Fault> {
+        let running = self.started(alloc)?;
+        let told = teller.finish(alloc, &self.script, &running, page);
+        drop(running);
+        told
+    }
+}
+
+/// Tells an event.
+fn tell<T: Teller>(
+    alloc: Global,
+    script: &Script,
+    running: &Running,
+    number: u64,
+    event: &Event,
+    answer: Result<Outcome, WorldFault>,
+    packets_before: usize,
+    teller: &mut T,
+    page: &mut Page,
+) -> Result<(), Fault> {
+    let happened = Happened {
+        script,
+        running,
+        number,
+        event,
+        answer,
+        packets_before,
+    };
+    teller.tell(alloc, &happened, page)
+}
+
+/// Plays the lines that an input has.
+fn run_lines<T: Teller, R: Read, W: Write>(
+    alloc: Global,
+    run: &mut Run,
+    teller: &mut T,
+    page: &mut Page,
+    input: &mut R,
+    output: &mut W,
+) -> Result<(), Fault> {
+    let mut feed = Feed::new(alloc)?;
+    for _ in 0..u64::MAX {
+        let Some(line) = feed.next_line(input, page, output)? else {
+            break;
+        };
+        run.take(alloc, line, teller, page)?;
+        if page.is_full() {
+            page.write_to(output)?;
+        }
+    }
+    run.finish(alloc, teller, page)
+}
+
+/// Plays the script that an input has, and writes what a teller tells of it. What was told before a
+/// fault stands.
+pub fn run_script<T: Teller, R: Read, W: Write>(
+    alloc: Global,
+    teller: &mut T,
+    page: &mut Page,
+    input: &mut R,
+    output: &mut W,
+) -> Result<(), Fault> {
+    let mut run = Run {
+        script: Script::new(alloc),
+        running: None,
+        events: 0,
+    };
+    let told = run_lines(alloc, &mut run, teller, page, input, output);
+    drop(run);
+    told
+}

@@ -1,0 +1,213 @@
+//! An input and an output that take turns: before more is read, which may take long, all that was
+//! written is flushed.
+
+ghost use Rattle.std.specs.Prelude.{◌≤◌, ◌<◌, length, None, IfSome};
+
+use sms_world::{DeviceFailed, Sink, Source};
+use std::alloc::{AllocError, Global};
+use std::cell::RefCell;
+use std::io::{Read, Write};
+
+/// How many octets are read at once.
+const ROOM: usize = 8_192;
+
+/// Where a transcript stands, as far as events that name nothing are looked for in it: the line of
+/// an event is its number, a blank, and its words.
+#[derive(Clone, Copy, PartialEq, Eq)]
+enum Place {
+    /// At the beginning of a line.
+    Start,
+    /// In the number of an event.
+    Number,
+    /// In its words, after as many octets that are those of a fault.
+    Words(usize),
+    /// In another line, or after the words that matter.
+    Rest,
+    /// After the last event.
+    Ended,
+}
+
+/// The first word of an event that names nothing, and the blank after it.
+const FAULT: &[u8; 6] = b"fault ";
+
+/// What a transcript has after an octet more.
+fn after(place: Place, octet: u8) -> Place {
+    match (place, octet) {
+        (Place::Ended, _) => Place::Ended,
+        (_, b'\n') => Place::Start,
+        (Place::Start | Place::Number, b'0'..=b'9') => Place::Number,
+        (Place::Start, b's') => Place::Ended,
+        (Place::Number, b' ') => Place::Words(0),
+        (Place::Words(count), _) if FAULT.get(count) == Some(&octet) => {
+            Place::Words(count.saturating_add(1))
+        }
+        _ => Place::Rest,
+    }
+}
+
+/// What octets are written into.
+#[derive(Drop)]
+pub struct Mouth<'a, 'b, W: Write> {
+    output: &'b RefCell<&'a mut W>,
+    failed: bool,
+    place: Place,
+    /// Whether an event that names nothing was told.
+    has_told_fault: bool,
+}
+
+impl<'a, 'b, W: Write> Mouth<'a, 'b, W> {
+    /// One that has not failed.
+    pub fn new(output: &'b RefCell<&'a mut W>) -> Mouth<'a, 'b, W> {
+        Mouth {
+            output,
+            failed: false,
+            place: Place::Start,
+            has_told_fault: false,
+        }
+    }
+
+    /// Whether an event that names nothing was told.
+    pub fn has_told_fault(&self) -> bool {
+        self.has_told_fault
+    }
+
+    /// Looks at octets that were written.
+    fn look_at(&mut self, octets: &[u8]) {
+        for octet in octets {
+            self.place = after(self.place, *octet);
+            if self.place == Place::Words(FAULT.len()) {
+                self.has_told_fault = true;
+            }
+        }
+    }
+}
+
+/// Writes some octets, and says how many.
+fn write_some<W: Write>(output: &RefCell<&mut W>, octets: &[u8]) -> Option<usize>
+    ensures bound { IfSome result (λ n. n ≤ length octets.now) }
+    ensures some { IfSome result (λ n. 0 < length octets.now → 0 < n) }
+{
+    let Ok(mut output) = output.try_borrow_mut() else {
+        return None;
+    };
+    match output.write(octets) {
+        Ok(count) if count > 0 || octets.is_empty() => Some(count),
+        _ => None,
+    }
+}
+
+/// Flushes an output, and says whether it could be flushed.
+fn flush<W: Write>(output: &RefCell<&mut W>) -> bool {
+    let Ok(mut output) = output.try_borrow_mut() else {
+        return false;
+    };
+    output.flush().is_ok()
+}
+
+impl<W: Write> Sink for Mouth<'_, '_, W> {
+    ghost contents = { λ _. None };
+
+    ghost has_failed = { λ m. m.failed };
+
+    fn write(&mut self, octets: &[u8]) -> Result<usize, DeviceFailed> {
+        match write_some(self.output, octets) {
+            Some(count) => {
+                self.look_at(octets.get(..count).unwrap_or(&[]));
+                Ok(count)
+            }
+            None => {
+                self.failed = true;
+                Err(DeviceFailed)
+            }
+        }
+    }
+
+    fn failed(&self) -> bool {
+        self.failed
+    }
+}
+
+/// What octets are read from.
+#[derive(Drop)]
+pub struct Ear<'a, 'b, R: Read, W: Write> {
+    input: &'b mut R,
+    output: &'b RefCell<&'a mut W>,
+    room: Vec<u8>,
+    /// Where the octets begin that were read and not given.
+    start: usize,
+    /// Where they end.
+    end: usize,
+    failed: bool,
+    /// Whether it was the output that failed, which could not be flushed.
+    is_mute: bool,
+}
+
+impl<'a, 'b, R: Read, W: Write> Ear<'a, 'b, R, W> {
+    /// One that has not failed.
+    pub fn new(
+        alloc: Global,
+        input: &'b mut R,
+        output: &'b RefCell<&'a mut W>,
+    ) -> Result<Ear<'a, 'b, R, W>, AllocError> {
+        Ok(Ear {
+            input,
+            output,
+            room: vec![in alloc; 0; ROOM]?,
+            start: 0,
+            end: 0,
+            failed: false,
+            is_mute: false,
+        })
+    }
+
+    /// Whether the output failed, which could not be flushed.
+    pub fn is_mute(&self) -> bool {
+        self.is_mute
+    }
+
+    /// Reads more, after the output is flushed, and says whether that worked.
+    fn fill(&mut self) -> bool {
+        if !flush(self.output) {
+            self.is_mute = true;
+            return false;
+        }
+        match self.input.read(self.room.as_mut_slice()) {
+            Ok(count) => {
+                self.start = 0;
+                self.end = count;
+                true
+            }
+            Err(_) => false,
+        }
+    }
+}
+
+/// Copies the front of octets into a buffer, and says how many.
+fn copy_front(octets: &[u8], buffer: &mut [u8]) -> usize
+    ensures { result ≤ length buffer.old }
+{
+    let count = octets.len().min(buffer.len());
+    buffer[..count].copy_from_slice(&octets[..count]);
+    count
+}
+
+impl<R: Read, W: Write> Source for Ear<'_, '_, R, W> {
+    ghost remaining = { λ _. None };
+
+    ghost has_failed = { λ e. e.failed };
+
+    fn read(&mut self, buffer: &mut [u8]) -> Result<usize, DeviceFailed> {
+        if self.start >= self.end && !self.fill() {
+            self.failed = true;
+            return Err(DeviceFailed);
+        }
+        let left = self.room.get(self.start..self.end).unwrap_or(&[]);
+        let count = copy_front(left, buffer);
+        self.start = self.start.saturating_add(count);
+        Ok(count)
+    }
+
+    fn failed(&self) -> bool {
+        self.failed
+    }
+}
