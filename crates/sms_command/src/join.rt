@@ -258,13 +258,13 @@ fn put_values(page: &mut Page, moment: Moment, from: Party<'_>, text: &str) {
 }
 
 /// A set of segments that is not whole.
-struct OpenSet<'a> {
+struct OpenSet<'a, 'b, 'c> {
     from: Party<'a>,
-    place: &'a Place,
-    text: &'a OpenText,
+    place: &'b Place,
+    text: &'c OpenText,
 }
 
-impl Drop for OpenSet<'_> {
+impl Drop for OpenSet<'_, '_, '_> {
     fn drop(self) {
         let OpenSet {
             from: _,
@@ -274,7 +274,7 @@ impl Drop for OpenSet<'_> {
     }
 }
 
-impl Printed for OpenSet<'_> {
+impl Printed for OpenSet<'_, '_, '_> {
     fn plain(&self, page: &mut Page) {
         self.from.plain(page);
         for number in [

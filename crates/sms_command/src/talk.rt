@@ -129,8 +129,8 @@ impl<W: Write> Sink for Mouth<'_, '_, W> {
 
 /// What octets are read from.
 #[derive(Drop)]
-pub struct Ear<'a, 'b, R: Read, W: Write> {
-    input: &'b mut R,
+pub struct Ear<'a, 'b, 'c, R: Read, W: Write> {
+    input: &'c mut R,
     output: &'b RefCell<&'a mut W>,
     room: Vec<u8>,
     /// Where the octets begin that were read and not given.
@@ -142,13 +142,13 @@ pub struct Ear<'a, 'b, R: Read, W: Write> {
     is_mute: bool,
 }
 
-impl<'a, 'b, R: Read, W: Write> Ear<'a, 'b, R, W> {
+impl<'a, 'b, 'c, R: Read, W: Write> Ear<'a, 'b, 'c, R, W> {
     /// One that has not failed.
     pub fn new(
         alloc: Global,
-        input: &'b mut R,
+        input: &'c mut R,
         output: &'b RefCell<&'a mut W>,
-    ) -> Result<Ear<'a, 'b, R, W>, AllocError> {
+    ) -> Result<Ear<'a, 'b, 'c, R, W>, AllocError> {
         Ok(Ear {
             input,
             output,
@@ -191,7 +191,7 @@ fn copy_front(octets: &[u8], buffer: &mut [u8]) -> usize
     count
 }
 
-impl<R: Read, W: Write> Source for Ear<'_, '_, R, W> {
+impl<R: Read, W: Write> Source for Ear<'_, '_, '_, R, W> {
     ghost remaining = { λ _. None };
 
     ghost has_failed = { λ e. e.failed };
@@ -201,8 +201,10 @@ impl<R: Read, W: Write> Source for Ear<'_, '_, R, W> {
             self.failed = true;
             return Err(DeviceFailed);
         }
-        let left = self.room.get(self.start..self.end).unwrap_or(&[]);
-        let count = copy_front(left, buffer);
+        let count = match self.room.get(self.start..self.end) {
+            Some(left) => copy_front(left, buffer),
+            None => 0,
+        };
         self.start = self.start.saturating_add(count);
         Ok(count)
     }
