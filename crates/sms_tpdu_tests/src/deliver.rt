@@ -162,8 +162,9 @@ fn is_read(alloc: Global, row: &Delivery) -> Result<bool, Fail> {
 /// The text of the delivery, which is given away.
 fn text_of(alloc: Global, octets: &[u8]) -> Result<Option<String>, Fail> {
     let (deliver, _) = Deliver::read(alloc, octets)?;
-    let alphabet = alphabet_of(deliver.dcs);
-    Ok(deliver.user.body.into_text(alloc, alphabet)?)
+    let Deliver { dcs, user, .. } = deliver;
+    let UserData { body, .. } = user;
+    Ok(body.into_text(alloc, alphabet_of(dcs))?)
 }
 
 /// What is written of the delivery that is read, and read again.
