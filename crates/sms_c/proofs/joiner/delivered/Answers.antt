@@ -5,6 +5,6 @@ pub returns-in-Err-At-clause-refused : goal.returns-in-Err-At-clause-refused
 returns-in-Err-At-clause-refused c =
     λ _. (
       record { place = c.in-Err-At.place; why = c.in-Err-At.why },
-      c.in-Err-At.ensures.refused,
+      rw c.in-Err-At.field-0-is at c.in-Err-At.ensures.refused,
       c.unit_refused.ensures.told,
     )
