@@ -9,7 +9,7 @@ units=${UNITS:-200000}
 room=$(mktemp -d)
 trap 'rm -rf "$room"' EXIT
 trap 'exit 1' HUP INT TERM
-flags="-std=c99 -Wall -Wextra -Wpedantic -Werror -g -O1 -I$prefix/include"
+flags="-std=c99 -Wall -Wextra -Wpedantic -Werror -gdwarf-4 -O1 -I$prefix/include"
 dynamic="-L$prefix/lib -lsms"
 export LD_LIBRARY_PATH="$prefix/lib${LD_LIBRARY_PATH:+:$LD_LIBRARY_PATH}"
 # Python writes nothing beside its files, and cargo nothing but its target folder.
