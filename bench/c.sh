@@ -1,0 +1,11 @@
+#!/bin/sh
+# Times calls of the library for C, which stands below PREFIX, beside the library's own, which run.sh has built.
+set -eu
+here=$(cd "$(dirname "$0")" && pwd)
+prefix=${PREFIX:-/usr/local}
+room=${BENCH_ROOM:-${TMPDIR:-/tmp}/sms-bench}
+archive=$room/crates/sms_bench/out/libsms_bench.a
+[ -f "$archive" ] || { echo "run bench/run.sh first: there is no $archive" >&2; exit 1; }
+${CC:-cc} -O2 -Wall -Wextra "-I$prefix/include" "$here/c/calls.c" "$archive" "$(dirname "$(rt doc)")/c/liblibc_c.a" \
+	"-L$prefix/lib" -lsms "-Wl,-rpath,$prefix/lib" -o "$room/calls"
+"$room/calls"

@@ -1,0 +1,141 @@
+#!/bin/sh
+# Tries the library that stands below PREFIX, as build.sh leaves it, from C, C++, Python and Rust. What is not on this
+# machine is left out, with a line that says so. With UNITS so many random units are read (200,000 if not set); where the
+# program `sms` is built (crates/sms/out/sms, or SMS_PROGRAM), what it shows of them is compared.
+set -eu
+here=$(CDPATH='' cd -- "$(dirname -- "$0")" && pwd -P)
+prefix=${PREFIX:-/usr/local}
+units=${UNITS:-200000}
+room=$(mktemp -d)
+trap 'rm -rf "$room"' EXIT
+trap 'exit 1' HUP INT TERM
+flags="-std=c99 -Wall -Wextra -Wpedantic -Werror -gdwarf-4 -O1 -I$prefix/include"
+dynamic="-L$prefix/lib -lsms"
+export LD_LIBRARY_PATH="$prefix/lib${LD_LIBRARY_PATH:+:$LD_LIBRARY_PATH}"
+# Python writes nothing beside its files, and cargo nothing but its target folder.
+export PYTHONDONTWRITEBYTECODE=1
+
+there() {
+	command -v "$1" >/dev/null 2>&1
+}
+
+left_out() {
+	echo "left out: $1"
+}
+
+# Whether a compiler has what a sanitizer needs to link and run here.
+# shellcheck disable=SC2086
+has() {
+	printf 'int main(void) { return 0; }\n' >"$room/empty.c"
+	$1 $2 "$room/empty.c" -o "$room/empty" >/dev/null 2>&1 && "$room/empty" >/dev/null 2>&1
+}
+
+# shellcheck disable=SC2086
+in_c() {
+	cc=$1
+	guards="-fsanitize=address,undefined -fno-sanitize-recover=all"
+	if ! has "$cc" "$guards"; then
+		left_out "$cc has no address and undefined-behaviour sanitizers here"
+		guards=
+	fi
+	echo "== $cc, libsms.a ${guards:+under the sanitizers}"
+	$cc $flags $guards "$here/tests/promises.c" "$prefix/lib/libsms.a" -o "$room/static"
+	"$room/static" "$units"
+	echo "== $cc, libsms.so"
+	$cc $flags "$here/tests/promises.c" $dynamic -o "$room/shared"
+	"$room/shared" "$units"
+	echo "== $cc, each request for memory refused in turn"
+	$cc $flags "$here/tests/memory.c" "$prefix/lib/libsms.a" -Wl,--wrap=malloc,--wrap=realloc,--wrap=free -o "$room/memory"
+	"$room/memory"
+	echo "== $cc, many threads"
+	guards="-fsanitize=thread"
+	if ! has "$cc" "$guards"; then
+		left_out "$cc has no thread sanitizer here"
+		guards=
+	fi
+	$cc $flags $guards "$here/tests/threads.c" "$prefix/lib/libsms.a" -pthread -o "$room/threads"
+	"$room/threads"
+	for example in "$here"/examples/*.c; do
+		$cc $flags "$example" $dynamic -o "$room/example"
+		"$room/example" >"$room/told"
+		cmp "$room/told" "${example%.c}.out"
+	done
+}
+
+found=
+for cc in ${CCS:-gcc clang}; do
+	if there "$cc"; then
+		found=$cc
+		in_c "$cc"
+	else
+		left_out "there is no $cc"
+	fi
+done
+[ -n "$found" ] || { echo "there is no compiler of C" >&2; exit 1; }
+
+# shellcheck disable=SC2086
+for cxx in ${CXXS:-g++ clang++}; do
+	if there "$cxx"; then
+		echo "== $cxx"
+		$cxx -std=c++11 -Wall -Wextra -Wpedantic -Werror "-I$prefix/include" "$here/tests/compiles.cpp" $dynamic -o "$room/cpp"
+		"$room/cpp"
+	else
+		left_out "there is no $cxx"
+	fi
+done
+
+if there valgrind; then
+	echo "== valgrind"
+	valgrind -q --error-exitcode=9 --leak-check=full "$room/shared" 2000
+else
+	left_out "there is no valgrind"
+fi
+
+# shellcheck disable=SC2086
+$found $flags "$here/tests/layout.c" -o "$room/layout"
+"$room/layout" >"$room/layout.c.txt"
+of_rust=
+if there cargo; then
+	echo "== cargo"
+	export CARGO_TARGET_DIR="$room/target" SMS_LIB_DIR="$prefix/lib" CARGO_HOME="${CARGO_HOME:-$HOME/.cargo}"
+	(cd "$here/../rust" && cargo test --offline --locked --quiet && cargo run --offline --locked --quiet --example layout) >"$room/cargo" ||
+		{ cat "$room/cargo"; exit 1; }
+	for example in read write join; do
+		(cd "$here/../rust" && cargo run --offline --locked --quiet --example "$example") >"$room/told"
+		cmp "$room/told" "$here/examples/$example.out"
+	done
+	grep '^sms_' "$room/cargo" >"$room/layout.rust.txt"
+	grep -v '^sms_' "$room/cargo"
+	of_rust=$room/layout.rust.txt
+else
+	left_out "there is no cargo"
+fi
+
+if there python3; then
+	echo "== python3"
+	export SMS_LIBRARY="$prefix/lib/libsms.so.1" PYTHONPATH="$here/../python/src"
+	python3 -m unittest discover -q -s "$here/../python/tests"
+	for example in read write join; do
+		python3 "$here/../python/examples/$example.py" >"$room/told"
+		cmp "$room/told" "$here/examples/$example.out"
+	done
+	python3 "$here/tests/shown.py" "$here/../docs/C.md"
+	python3 "$here/tests/agree.py" "$room/layout.c.txt" "$SMS_LIBRARY" ${of_rust:+"$of_rust"}
+	program=${SMS_PROGRAM:-$here/../crates/sms/out/sms}
+	if [ -x "$program" ]; then
+		python3 "$here/tests/beside_show.py" "$program" "$units"
+	else
+		left_out "the program is not built at $program, so units are not shown beside it"
+	fi
+	if python3 -m pip --version >/dev/null 2>&1; then
+		cp -r "$here/../python" "$room/python"
+		env -u PYTHONPATH python3 -m pip install -q --no-index --no-deps --no-cache-dir --disable-pip-version-check \
+			--root-user-action=ignore --target "$room/site" "$room/python"
+		env -u SMS_LIBRARY PYTHONPATH="$room/site" python3 -m unittest discover -q -s "$here/../python/tests"
+	else
+		left_out "python3 has no pip"
+	fi
+else
+	left_out "there is no python3"
+fi
+echo "the library below $prefix holds what sms.h promises"

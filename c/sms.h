@@ -1,0 +1,350 @@
+/* sms.h: short messages (3GPP TS 23.038, 23.040, 24.011) read and written in C.
+ *
+ * Octets in, values out. Every call checks what it is given and answers with a status; none aborts,
+ * waits, prints, reads a clock or keeps a global.
+ *
+ * Pointers. What a caller owes is the pointers, and nothing else:
+ *  - a pointer that goes with a count points to that many values; where the count is 0 it may be NULL;
+ *  - every other pointer points to one value and is never NULL; what is written only need not be set;
+ *  - while a call runs, nothing else reads or writes what it may write, nothing else writes what it
+ *    reads, and what it writes overlaps with nothing else that it was given.
+ * Ownership. The library keeps no pointer after a call and gives none out. Structs that are filled
+ * hold numbers, and places in the caller's own octets (sms_span); nothing is to be freed, but for a
+ * joiner, which sms_joiner_close frees.
+ * Memory. sms_*_read, sms_stamp_* and sms_validity_end take none. The others call malloc, realloc
+ * and free of the program, and answer SMS_NO_MEMORY where these refuse; what they had taken is free
+ * again then (a joiner may keep room that it made), and the call may be made again.
+ * Threads. Any number of threads may call at the same time on values of their own. A joiner is one
+ * value: one call at a time, from whichever thread, as far as the program orders the calls. Not from a
+ * signal handler, nor in the forked child of a process with threads.
+ * Text is UTF-8 and has no NUL at its end; its length is told.
+ * Answers of unknown length ("out, room, needed"): where the answer has at most `room` octets they are
+ * written to `out` and the call answers SMS_OK; else nothing is written and the call answers
+ * SMS_NO_ROOM. *needed is the length of the answer in both cases (0 after another status). So a call
+ * with room 0 asks. SMS_TEXT_MAX and SMS_UNIT_MAX are always enough for one unit.
+ * After a status other than SMS_OK what else a call may write is as it was, unless it says more.
+ */
+#ifndef SMS_H
+#define SMS_H
+
+#include <stddef.h>
+#include <stdint.h>
+
+#ifdef __cplusplus
+extern "C" {
+#endif
+
+/* The number of this interface: structs and calls change only with it. */
+#define SMS_ABI 1
+
+/* Enough octets for any text of one unit, any unit, any packet, any text of an address. */
+#define SMS_TEXT_MAX 480
+#define SMS_UNIT_MAX 184
+#define SMS_PACKET_MAX 258
+#define SMS_ADDRESS_TEXT_MAX 33
+
+/* ---- what a call answers */
+
+typedef uint32_t sms_status;
+enum {
+    SMS_OK = 0,
+    SMS_REFUSED = 1,       /* the octets are refused; an sms_refused says where and why */
+    SMS_NO_MEMORY = 2,
+    SMS_NO_ROOM = 3,       /* *needed says how much is wanted */
+    SMS_NOT_UTF8 = 4,
+    SMS_BAD_ADDRESS = 5,   /* the text is no address */
+    SMS_TOO_LONG = 6,      /* more than 255 segments, or more than a packet carries */
+    SMS_OUT_OF_RANGE = 7,  /* a value is none of those that its comment allows */
+    SMS_NOT_THERE = 8,     /* no such date, moment, end, text or segment */
+    SMS_TOO_MANY_OPEN = 9, /* joiner: a segment of one more message than may be open */
+    SMS_CLOSED = 10        /* joiner: it is not open */
+};
+
+/* Why octets are refused. */
+enum {
+    SMS_SHORT = 1,            /* octets are missing at the end */
+    SMS_WRONG_TYPE = 2,       /* of another type of unit */
+    SMS_ADDRESS_TOO_LONG = 3, /* more than 20 digits, or 11 septets */
+    SMS_BAD_DIGIT = 4,
+    SMS_DATA_TOO_LONG = 5,
+    SMS_HEADER_TOO_LONG = 6,
+    SMS_NOT_SMS = 7,          /* CP: another protocol */
+    SMS_BAD_TRANSACTION = 8,  /* CP: the reserved transaction value */
+    SMS_UNKNOWN_TYPE = 9,     /* CP, RP */
+    SMS_BAD_RELAY_ADDRESS = 10,
+    SMS_BAD_CAUSE = 11
+};
+
+/* The first octet that cannot stand where it does: with the octets before it some unit goes on, with
+ * it none. Under SMS_SHORT the place is the number of octets. */
+typedef struct sms_refused {
+    size_t place;
+    uint32_t reason;
+} sms_refused;
+
+/* ---- parts */
+
+/* octets[offset] to octets[offset + length - 1] of the octets that a call was given. */
+typedef struct sms_span {
+    size_t offset;
+    size_t length;
+} sms_span;
+
+typedef struct sms_address {
+    sms_span octets;        /* with the length octet */
+    uint8_t type_of_number; /* 0 to 7: 1 international, 5 a name */
+    uint8_t plan;           /* 0 to 15: 1 telephone */
+} sms_address;
+
+/* A segment's place in its message: information element 00 (width 8) or 08 (width 16). */
+typedef struct sms_place {
+    uint16_t width; /* 0: there is no place */
+    uint16_t reference;
+    uint8_t maximum;
+    uint8_t sequence; /* 1 to maximum */
+} sms_place;
+
+enum { SMS_GSM7 = 0, SMS_EIGHT_BIT = 1, SMS_UCS2 = 2, SMS_COMPRESSED = 3 };
+
+typedef struct sms_user {
+    sms_span header; /* after its length octet */
+    sms_span body;   /* after the header */
+    sms_place place;
+    uint8_t length;     /* TP-UDL */
+    uint8_t alphabet;   /* SMS_GSM7 to SMS_COMPRESSED */
+    uint8_t has_header; /* 0 or 1 */
+    uint8_t fill;       /* SMS_GSM7: the bits of the body before its first septet, 0 to 6; else 0 */
+    uint8_t count;      /* the septets of the body, or its octets */
+} sms_user;
+
+/* TP-SCTS, as it came. */
+typedef struct sms_stamp {
+    uint8_t octets[7];
+} sms_stamp;
+
+enum { SMS_VALIDITY_ABSENT = 0, SMS_VALIDITY_RELATIVE = 1, SMS_VALIDITY_ENHANCED = 2, SMS_VALIDITY_ABSOLUTE = 3 };
+
+/* TP-VP: one octet (relative), seven (enhanced, absolute) or none; the others are 0. */
+typedef struct sms_validity {
+    uint8_t format;
+    uint8_t octets[7];
+} sms_validity;
+
+typedef struct sms_date {
+    uint16_t year; /* 2000 to 2099 */
+    uint8_t month; /* 1 to 12 */
+    uint8_t day;
+    uint8_t hour;
+    uint8_t minute;
+    uint8_t second;
+    int8_t quarters; /* local time less UTC, in quarters of an hour: -79 to 79 */
+} sms_date;
+
+/* ---- units: octets in, a struct out */
+
+typedef struct sms_deliver {
+    sms_address origin; /* TP-OA */
+    sms_user user;
+    size_t used;    /* how many octets the unit takes; what follows them is not looked at */
+    uint8_t more;   /* TP-MMS as its meaning: 1 where more messages wait */
+    uint8_t looped; /* TP-LP */
+    uint8_t report; /* TP-SRI */
+    uint8_t reply;  /* TP-RP */
+    uint8_t pid;
+    uint8_t dcs;
+    sms_stamp stamp;
+} sms_deliver;
+
+typedef struct sms_submit {
+    sms_address target; /* TP-DA */
+    sms_user user;
+    size_t used;
+    uint8_t reject;    /* TP-RD */
+    uint8_t report;    /* TP-SRR */
+    uint8_t reply;     /* TP-RP */
+    uint8_t reference; /* TP-MR */
+    uint8_t pid;
+    uint8_t dcs;
+    sms_validity validity;
+} sms_submit;
+
+typedef struct sms_report {
+    sms_span data; /* TP-UD */
+    size_t used;
+    uint8_t has_header; /* TP-UDHI: the data begin with a header */
+    uint8_t has_cause;
+    uint8_t cause; /* TP-FCS */
+    uint8_t has_stamp;
+    sms_stamp stamp; /* TP-SCTS */
+    uint8_t has_pid;
+    uint8_t pid;
+    uint8_t has_dcs;
+    uint8_t dcs;
+    uint8_t has_data;
+    uint8_t length;   /* TP-UDL */
+    uint8_t alphabet; /* by which TP-UDL counts */
+} sms_report;
+
+/* Reads the unit at the front of the octets. SMS_OK: *out is the unit, *refused as it was.
+ * SMS_REFUSED: *refused says where and why, *out is as it was. No other status, no memory. */
+sms_status sms_deliver_read(const uint8_t *octets, size_t count, sms_deliver *out, sms_refused *refused);
+sms_status sms_submit_read(const uint8_t *octets, size_t count, sms_submit *out, sms_refused *refused);
+/* SMS-DELIVER-REPORT and SMS-SUBMIT-REPORT, in an RP-ACK and in an RP-ERROR. */
+sms_status sms_deliver_ack_read(const uint8_t *octets, size_t count, sms_report *out, sms_refused *refused);
+sms_status sms_deliver_error_read(const uint8_t *octets, size_t count, sms_report *out, sms_refused *refused);
+sms_status sms_submit_ack_read(const uint8_t *octets, size_t count, sms_report *out, sms_refused *refused);
+sms_status sms_submit_error_read(const uint8_t *octets, size_t count, sms_report *out, sms_refused *refused);
+
+/* The text of an address, or of user data, that a call above found in these same octets: its digits
+ * (after a + where the type is 1) or its name; septets or UCS-2 as text, where an unpaired surrogate
+ * becomes U+FFFD. SMS_NOT_THERE: the user data are no text (8-bit, compressed). SMS_OUT_OF_RANGE or
+ * SMS_REFUSED: the struct does not fit these octets. Also SMS_NO_ROOM, SMS_NO_MEMORY. */
+sms_status sms_address_text(const uint8_t *octets, size_t count, const sms_address *address,
+                            uint8_t *out, size_t room, size_t *needed);
+sms_status sms_user_text(const uint8_t *octets, size_t count, const sms_user *user,
+                         uint8_t *out, size_t room, size_t *needed);
+
+/* ---- time: seconds count from 2000-01-01 00:00:00 UTC (Unix time less 946684800) */
+
+/* The date that a stamp says; SMS_NOT_THERE where it says none. */
+sms_status sms_stamp_date(const sms_stamp *stamp, sms_date *out);
+/* Its moment; SMS_NOT_THERE where it is no date or lies before 2000. */
+sms_status sms_stamp_moment(const sms_stamp *stamp, uint64_t *seconds);
+/* The stamp of a moment, told in a zone; SMS_OUT_OF_RANGE where the local time lies outside 2000 to
+ * 2099 or the zone outside -79 to 79. */
+sms_status sms_stamp_at(uint64_t seconds, int8_t quarters, sms_stamp *out);
+/* When a validity period ends of a message that was accepted at a moment below 2^63: absent is two
+ * days. SMS_NOT_THERE: enhanced, or absolute with no moment. SMS_OUT_OF_RANGE: no such format. */
+sms_status sms_validity_end(const sms_validity *validity, uint64_t accepted, uint64_t *seconds);
+
+/* ---- packets */
+
+typedef struct sms_cp {
+    sms_span user; /* kind 0: an RP message */
+    size_t used;
+    uint8_t flag;  /* TI flag: 1 where it goes to the side that opened the transaction */
+    uint8_t value; /* TI value, 0 to 6 */
+    uint8_t kind;  /* 0 CP-DATA, 1 CP-ACK, 2 CP-ERROR */
+    uint8_t cause; /* kind 2 */
+} sms_cp;
+
+typedef struct sms_rp {
+    sms_span address; /* kind 0: the centre's, with its length octet */
+    sms_span user;    /* a unit */
+    size_t used;
+    uint8_t side; /* 0 from the phone, 1 to it */
+    uint8_t reference;
+    uint8_t kind; /* 0 RP-DATA, 1 RP-ACK, 2 RP-ERROR */
+    uint8_t has_address;
+    uint8_t has_user;
+    uint8_t cause; /* kind 2 */
+    uint8_t has_diagnostic;
+    uint8_t diagnostic;
+} sms_rp;
+
+/* As the readers of units. Places in an RP message count from its first octet:
+ * sms_rp_read(octets + cp.user.offset, cp.user.length, ..). */
+sms_status sms_cp_read(const uint8_t *octets, size_t count, sms_cp *out, sms_refused *refused);
+sms_status sms_rp_read(const uint8_t *octets, size_t count, sms_rp *out, sms_refused *refused);
+
+typedef struct sms_envelope {
+    uint8_t flag;  /* 0 or 1 */
+    uint8_t value; /* 0 to 6 */
+    uint8_t side;  /* 0 from the phone, 1 to it */
+    uint8_t reference;
+} sms_envelope;
+
+/* CP-DATA around RP-DATA (address: the centre's, as text, none where it is empty), RP-ACK or RP-ERROR
+ * (cause 0 to 127) around the octets of a unit, at most 233, which are not looked at; none for an
+ * answer where they are empty. CP-ACK and CP-ERROR alone, where side and reference do not count. */
+sms_status sms_wrap_data(const sms_envelope *envelope, const uint8_t *address, size_t address_count,
+                         const uint8_t *unit, size_t unit_count, uint8_t *out, size_t room, size_t *needed);
+sms_status sms_wrap_ack(const sms_envelope *envelope, const uint8_t *unit, size_t unit_count,
+                        uint8_t *out, size_t room, size_t *needed);
+sms_status sms_wrap_error(const sms_envelope *envelope, uint8_t cause, const uint8_t *unit, size_t unit_count,
+                          uint8_t *out, size_t room, size_t *needed);
+sms_status sms_cp_ack(const sms_envelope *envelope, uint8_t *out, size_t room, size_t *needed);
+sms_status sms_cp_error(const sms_envelope *envelope, uint8_t cause, uint8_t *out, size_t room, size_t *needed);
+
+/* ---- texts written. A text is cut into at most 255 segments, of septets where the 7-bit alphabet has
+ * all its letters, else of UCS-2; one that fits a message is one segment, without a place. */
+
+typedef struct sms_reference {
+    uint16_t width;     /* 8 or 16 */
+    uint16_t reference; /* below 256 under 8 */
+} sms_reference;
+
+typedef struct sms_submit_fields {
+    sms_reference segments;
+    uint8_t reject; /* 0 is no, all else yes; so below */
+    uint8_t report;
+    uint8_t reply;
+    uint8_t reference; /* TP-MR */
+    uint8_t pid;
+    sms_validity validity;
+} sms_submit_fields;
+
+typedef struct sms_deliver_fields {
+    sms_reference segments;
+    uint8_t more;
+    uint8_t looped;
+    uint8_t report;
+    uint8_t reply;
+    uint8_t pid;
+    sms_stamp stamp;
+} sms_deliver_fields;
+
+/* The segment of an index, from 0, of a text as a whole unit. *segments is how many there are (0 where
+ * the text was not cut); SMS_NOT_THERE where the index is not below it. target, origin: + and digits,
+ * digits, or a name of at most 11 septets. Also SMS_NOT_UTF8, SMS_BAD_ADDRESS, SMS_TOO_LONG,
+ * SMS_OUT_OF_RANGE, SMS_NO_ROOM, SMS_NO_MEMORY. */
+sms_status sms_submit_write(const sms_submit_fields *fields, const uint8_t *target, size_t target_count,
+                            const uint8_t *text, size_t text_count, size_t index,
+                            uint8_t *out, size_t room, size_t *needed, size_t *segments);
+sms_status sms_deliver_write(const sms_deliver_fields *fields, const uint8_t *origin, size_t origin_count,
+                             const uint8_t *text, size_t text_count, size_t index,
+                             uint8_t *out, size_t room, size_t *needed, size_t *segments);
+
+/* The user data of all segments, each from its TP-UDL on, one after another, and where each lies in
+ * out. *dcs is the TP-DCS of all. Where there is too little room for the octets or for the spans, the
+ * call answers SMS_NO_ROOM and writes no octet; *needed and *segments tell how much is wanted, and of the
+ * spans as many are written as there is room for. */
+sms_status sms_split(const sms_reference *reference, const uint8_t *text, size_t text_count,
+                     uint8_t *out, size_t room, size_t *needed,
+                     sms_span *spans, size_t span_count, size_t *segments, uint8_t *dcs);
+
+/* ---- joining segments. A joiner lies in the caller's memory and holds memory of the library. Begin
+ * with SMS_JOINER_CLOSED, change nothing in it, and never use a copy of an open one. */
+
+typedef struct sms_joiner {
+    uint32_t open;
+    void *inside;
+} sms_joiner;
+#define SMS_JOINER_CLOSED { 0, 0 }
+
+enum { SMS_REPEAT = 0, SMS_KEPT = 1, SMS_FINISHED = 2 };
+
+/* Opens it for at most so many messages at a time that are not whole, and so many finished ones that
+ * are remembered, so that none finishes twice; both from 1 (SMS_OUT_OF_RANGE). An open one is closed
+ * first. SMS_NO_MEMORY: it is closed. */
+sms_status sms_joiner_open(sms_joiner *joiner, size_t open_max, size_t remembered);
+/* Frees what it holds. On a closed one it does nothing. */
+void sms_joiner_close(sms_joiner *joiner);
+/* Offers an SMS-DELIVER that came at a moment. SMS_OK: *outcome is SMS_REPEAT (it was there or finished
+ * lately), SMS_KEPT or SMS_FINISHED. SMS_REFUSED: as sms_deliver_read. SMS_TOO_MANY_OPEN, SMS_NO_MEMORY:
+ * the joiner is as it was, and the same unit may be offered again. SMS_NOT_THERE: no text. SMS_CLOSED. */
+sms_status sms_joiner_offer(sms_joiner *joiner, uint64_t seconds, const uint8_t *octets, size_t count,
+                            uint32_t *outcome, sms_refused *refused);
+/* The text that finished last, as often as one asks; empty before one did. */
+sms_status sms_joiner_text(sms_joiner *joiner, uint8_t *out, size_t room, size_t *needed);
+/* Whether an SMS-DELIVER would finish its message: *finishes is 0 or 1; nothing changes. */
+sms_status sms_joiner_would_finish(sms_joiner *joiner, const uint8_t *octets, size_t count,
+                                   uint8_t *finishes, sms_refused *refused);
+/* Drops the messages whose first segment came 604,800 seconds before the moment, or earlier. */
+sms_status sms_joiner_age(sms_joiner *joiner, uint64_t seconds);
+
+#ifdef __cplusplus
+}
+#endif
+
+#endif

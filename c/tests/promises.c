@@ -1,0 +1,425 @@
+/* What sms.h promises, tried: readers, texts, times, packets, writers, split, joiner, and what is refused. With a number,
+ * so many random units are read after that (200,000 if none is given). */
+#include "sms.h"
+
+#include <stdio.h>
+#include <stdlib.h>
+#include <string.h>
+
+static int failures;
+
+static void check(int holds, const char *what, int line)
+{
+    if (!holds) {
+        printf("line %d: %s\n", line, what);
+        failures++;
+    }
+}
+#define CHECK(x) check((x) ? 1 : 0, #x, __LINE__)
+
+static size_t from_hex(const char *hex, uint8_t *out)
+{
+    size_t n = 0;
+    unsigned v;
+    for (; hex[0] != '\0' && hex[1] != '\0'; hex += 2) {
+        if (sscanf(hex, "%2x", &v) != 1)
+            abort();
+        out[n++] = (uint8_t)v;
+    }
+    return n;
+}
+
+/* octets in a block of their own size, so that a read beyond them is seen */
+static uint8_t *block(const char *hex, size_t *count)
+{
+    uint8_t buffer[512];
+    *count = from_hex(hex, buffer);
+    uint8_t *own = malloc(*count == 0 ? 1 : *count);
+    if (own == NULL)
+        abort();
+    memcpy(own, buffer, *count);
+    return own;
+}
+
+static int is_text(const uint8_t *text, size_t length, const char *wanted)
+{
+    return length == strlen(wanted) && memcmp(text, wanted, length) == 0;
+}
+
+static const char *const HELLO = "040BC87238880900F10000993092516195800AE8329BFD4697D9EC37";
+
+static void reads(void)
+{
+    size_t count, needed;
+    uint8_t *octets = block(HELLO, &count);
+    sms_deliver d;
+    sms_refused refused = {77, 77};
+    uint8_t text[SMS_TEXT_MAX], address[SMS_ADDRESS_TEXT_MAX];
+
+    memset(&d, 0xA5, sizeof d);
+    CHECK(sms_deliver_read(octets, count, &d, &refused) == SMS_OK);
+    CHECK(refused.place == 77 && refused.reason == 77);
+    CHECK(d.used == count && d.more == 0 && d.looped == 0 && d.report == 0 && d.reply == 0);
+    CHECK(d.pid == 0 && d.dcs == 0);
+    CHECK(d.origin.type_of_number == 4 && d.origin.plan == 8);
+    CHECK(d.origin.octets.offset == 1 && d.origin.octets.length == 8);
+    CHECK(d.user.alphabet == SMS_GSM7 && d.user.has_header == 0 && d.user.length == 10);
+    CHECK(d.user.count == 10 && d.user.fill == 0 && d.user.body.offset == 19 && d.user.body.length == 9);
+    CHECK(d.user.place.width == 0);
+    CHECK(memcmp(d.stamp.octets, octets + 11, 7) == 0);
+
+    CHECK(sms_user_text(octets, count, &d.user, NULL, 0, &needed) == SMS_NO_ROOM && needed == 10);
+    CHECK(sms_user_text(octets, count, &d.user, text, 9, &needed) == SMS_NO_ROOM && needed == 10);
+    CHECK(sms_user_text(octets, count, &d.user, text, sizeof text, &needed) == SMS_OK);
+    CHECK(is_text(text, needed, "hellohello"));
+    CHECK(sms_address_text(octets, count, &d.origin, address, sizeof address, &needed) == SMS_OK);
+    CHECK(is_text(address, needed, "27838890001"));
+
+    sms_date date;
+    uint64_t moment;
+    CHECK(sms_stamp_date(&d.stamp, &date) == SMS_OK);
+    CHECK(date.year == 2099 && date.month == 3 && date.day == 29 && date.hour == 15 && date.minute == 16);
+    CHECK(date.second == 59 && date.quarters == 8);
+    CHECK(sms_stamp_moment(&d.stamp, &moment) == SMS_OK);
+    sms_stamp again;
+    CHECK(sms_stamp_at(moment, 8, &again) == SMS_OK && memcmp(&again, &d.stamp, 7) == 0);
+    CHECK(sms_stamp_at(moment, 80, &again) == SMS_OUT_OF_RANGE);
+
+    /* each front is refused at its end, and nothing is written */
+    for (size_t front = 0; front < count; front++) {
+        uint8_t *own = malloc(front == 0 ? 1 : front);
+        sms_deliver same = d;
+        if (own == NULL)
+            abort();
+        memcpy(own, octets, front);
+        CHECK(sms_deliver_read(own, front, &d, &refused) == SMS_REFUSED);
+        CHECK(refused.place == front && refused.reason == SMS_SHORT);
+        CHECK(memcmp(&same, &d, sizeof d) == 0);
+        free(own);
+    }
+    CHECK(sms_deliver_read(NULL, 0, &d, &refused) == SMS_REFUSED && refused.place == 0);
+    octets[0] = 1; /* an SMS-SUBMIT */
+    CHECK(sms_deliver_read(octets, count, &d, &refused) == SMS_REFUSED);
+    CHECK(refused.place == 0 && refused.reason == SMS_WRONG_TYPE);
+    octets[0] = 4;
+    octets[1] = 21;
+    CHECK(sms_deliver_read(octets, count, &d, &refused) == SMS_REFUSED);
+    CHECK(refused.place == 1 && refused.reason == SMS_ADDRESS_TOO_LONG);
+    octets[1] = 11;
+
+    /* structs that no reader made */
+    sms_user user;
+    memset(&user, 0xFF, sizeof user);
+    CHECK(sms_user_text(octets, count, &user, text, sizeof text, &needed) == SMS_OUT_OF_RANGE && needed == 0);
+    user.body.offset = 0;
+    user.body.length = count;
+    user.alphabet = SMS_GSM7;
+    CHECK(sms_user_text(octets, count, &user, text, sizeof text, &needed) == SMS_OUT_OF_RANGE);
+    user.fill = 6;
+    CHECK(sms_user_text(octets, count, &user, text, sizeof text, &needed) == SMS_OUT_OF_RANGE);
+    user.alphabet = SMS_EIGHT_BIT;
+    CHECK(sms_user_text(octets, count, &user, text, sizeof text, &needed) == SMS_NOT_THERE);
+    user.alphabet = SMS_UCS2;
+    CHECK(sms_user_text(octets, count, &user, text, sizeof text, &needed) == SMS_OK);
+    sms_address wild = {{SIZE_MAX, SIZE_MAX}, 255, 255};
+    CHECK(sms_address_text(octets, count, &wild, text, sizeof text, &needed) == SMS_OUT_OF_RANGE);
+    free(octets);
+}
+
+static void writes(void)
+{
+    uint8_t out[SMS_UNIT_MAX], text[SMS_TEXT_MAX];
+    size_t needed, segments;
+    sms_refused refused;
+    sms_submit_fields fields = {{8, 42}, 0, 1, 0, 7, 0, {SMS_VALIDITY_RELATIVE, {0xAA, 0, 0, 0, 0, 0, 0}}};
+    const uint8_t *to = (const uint8_t *)"+46708251358", *hello = (const uint8_t *)"hellohello";
+
+    CHECK(sms_submit_write(&fields, to, 12, hello, 10, 0, out, sizeof out, &needed, &segments) == SMS_OK);
+    CHECK(segments == 1);
+    sms_submit s;
+    CHECK(sms_submit_read(out, needed, &s, &refused) == SMS_OK && s.used == needed);
+    CHECK(s.reference == 7 && s.report == 1 && s.reject == 0 && s.reply == 0 && s.dcs == 0);
+    CHECK(s.validity.format == SMS_VALIDITY_RELATIVE && s.validity.octets[0] == 0xAA);
+    uint64_t end;
+    CHECK(sms_validity_end(&s.validity, 1000, &end) == SMS_OK && end == 1000 + 4 * 86400);
+    CHECK(sms_validity_end(&s.validity, UINT64_MAX, &end) == SMS_OUT_OF_RANGE);
+    CHECK(sms_address_text(out, needed, &s.target, text, sizeof text, &segments) == SMS_OK);
+    CHECK(is_text(text, segments, "+46708251358"));
+    CHECK(sms_user_text(out, s.used, &s.user, text, sizeof text, &segments) == SMS_OK);
+    CHECK(is_text(text, segments, "hellohello"));
+
+    CHECK(sms_submit_write(&fields, to, 12, hello, 10, 1, out, sizeof out, &needed, &segments) == SMS_NOT_THERE);
+    CHECK(segments == 1 && needed == 0);
+    CHECK(sms_submit_write(&fields, (const uint8_t *)"+12x", 4, hello, 10, 0, out, sizeof out, &needed, &segments) == SMS_BAD_ADDRESS);
+    CHECK(sms_submit_write(&fields, to, 12, (const uint8_t *)"\xff", 1, 0, out, sizeof out, &needed, &segments) == SMS_NOT_UTF8);
+    fields.segments.reference = 256;
+    CHECK(sms_submit_write(&fields, to, 12, hello, 10, 0, out, sizeof out, &needed, &segments) == SMS_OUT_OF_RANGE);
+    fields.segments.reference = 42;
+    fields.validity.format = 9;
+    CHECK(sms_submit_write(&fields, to, 12, hello, 10, 0, out, sizeof out, &needed, &segments) == SMS_OUT_OF_RANGE);
+
+    /* UCS-2, in two segments */
+    char cyrillic[2 * 100 + 1];
+    for (size_t i = 0; i < 100; i++)
+        memcpy(cyrillic + 2 * i, "\xd0\x96", 2);
+    uint8_t all[512];
+    sms_span spans[2];
+    uint8_t dcs;
+    sms_reference reference = {16, 0x1234};
+    CHECK(sms_split(&reference, (const uint8_t *)cyrillic, 200, all, sizeof all, &needed, spans, 2, &segments, &dcs) == SMS_OK);
+    CHECK(segments == 2 && dcs == 8 && spans[0].offset == 0 && spans[1].offset == spans[0].length);
+    CHECK(spans[0].length + spans[1].length == needed && all[0] == spans[0].length - 1);
+    CHECK(sms_split(&reference, (const uint8_t *)cyrillic, 200, all, sizeof all, &needed, spans, 1, &segments, &dcs) == SMS_NO_ROOM);
+    CHECK(segments == 2);
+    CHECK(sms_split(&reference, (const uint8_t *)cyrillic, 200, NULL, 0, &needed, NULL, 0, &segments, &dcs) == SMS_NO_ROOM);
+    CHECK(segments == 2 && needed == spans[0].length + spans[1].length);
+}
+
+static void packets(void)
+{
+    uint8_t unit[SMS_UNIT_MAX], packet[SMS_PACKET_MAX], big[234] = {0};
+    size_t count = from_hex(HELLO, unit), needed;
+    sms_envelope envelope = {0, 3, 1, 9};
+    sms_refused refused;
+    sms_cp cp;
+    sms_rp rp;
+
+    CHECK(sms_wrap_data(&envelope, (const uint8_t *)"+1234", 5, unit, count, packet, sizeof packet, &needed) == SMS_OK);
+    CHECK(sms_cp_read(packet, needed, &cp, &refused) == SMS_OK);
+    CHECK(cp.used == needed && cp.flag == 0 && cp.value == 3 && cp.kind == 0);
+    CHECK(cp.user.offset == 3 && cp.user.offset + cp.user.length == needed);
+    const uint8_t *inner = packet + cp.user.offset;
+    CHECK(sms_rp_read(inner, cp.user.length, &rp, &refused) == SMS_OK);
+    CHECK(rp.side == 1 && rp.reference == 9 && rp.kind == 0 && rp.has_address == 1 && rp.has_user == 1);
+    CHECK(rp.address.offset == 2 && inner[2] + 1u == rp.address.length);
+    CHECK(rp.user.length == count && memcmp(inner + rp.user.offset, unit, count) == 0);
+
+    CHECK(sms_wrap_data(&envelope, NULL, 0, big, 234, packet, sizeof packet, &needed) == SMS_TOO_LONG);
+    CHECK(sms_wrap_data(&envelope, NULL, 0, big, 233, packet, sizeof packet, &needed) == SMS_OK);
+    CHECK(sms_wrap_error(&envelope, 128, NULL, 0, packet, sizeof packet, &needed) == SMS_OUT_OF_RANGE);
+    CHECK(sms_wrap_error(&envelope, 22, NULL, 0, packet, sizeof packet, &needed) == SMS_OK);
+    CHECK(sms_cp_read(packet, needed, &cp, &refused) == SMS_OK);
+    CHECK(sms_rp_read(packet + cp.user.offset, cp.user.length, &rp, &refused) == SMS_OK);
+    CHECK(rp.kind == 2 && rp.cause == 22 && rp.has_diagnostic == 0 && rp.has_user == 0);
+    CHECK(sms_wrap_ack(&envelope, NULL, 0, packet, sizeof packet, &needed) == SMS_OK);
+    CHECK(sms_cp_ack(&envelope, packet, sizeof packet, &needed) == SMS_OK && needed == 2);
+    CHECK(sms_cp_error(&envelope, 97, packet, sizeof packet, &needed) == SMS_OK && needed == 3);
+    envelope.value = 7;
+    CHECK(sms_cp_ack(&envelope, packet, sizeof packet, &needed) == SMS_OUT_OF_RANGE);
+    CHECK(sms_cp_read((const uint8_t *)"\x79\x01", 2, &cp, &refused) == SMS_REFUSED);
+    CHECK(refused.place == 0 && refused.reason == SMS_BAD_TRANSACTION);
+}
+
+static void reports(void)
+{
+    size_t count;
+    sms_report r;
+    sms_refused refused;
+    uint8_t *octets = block("0007000003616263", &count);
+    CHECK(sms_deliver_ack_read(octets, count, &r, &refused) == SMS_OK);
+    CHECK(r.has_pid && r.has_dcs && r.has_data && r.length == 3 && !r.has_stamp && !r.has_cause);
+    CHECK(r.data.offset == 5 && r.data.length == 3 && r.used == count);
+    free(octets);
+    octets = block("01D60030217251409080", &count);
+    CHECK(sms_submit_error_read(octets, count, &r, &refused) == SMS_OK);
+    CHECK(r.has_cause && r.cause == 0xD6 && r.has_stamp && r.stamp.octets[0] == 0x30 && !r.has_data);
+    free(octets);
+}
+
+static void joins(void)
+{
+    char text[200];
+    uint8_t out[512], units[2][SMS_UNIT_MAX];
+    size_t sizes[2], needed, segments;
+    sms_joiner joiner = SMS_JOINER_CLOSED;
+    sms_refused refused;
+    uint32_t outcome = 99;
+    uint8_t finishes = 99;
+    sms_deliver_fields fields = {{8, 42}, 0, 0, 0, 0, 0, {{0x99, 0x30, 0x92, 0x51, 0x61, 0x95, 0x80}}};
+
+    for (int i = 0; i < 200; i++)
+        text[i] = (char)('a' + i % 26);
+    for (size_t i = 0; i < 2; i++) {
+        CHECK(sms_deliver_write(&fields, (const uint8_t *)"12345", 5, (const uint8_t *)text, 200, i, units[i],
+                                sizeof units[i], &sizes[i], &segments) == SMS_OK);
+        CHECK(segments == 2);
+        sms_deliver d;
+        CHECK(sms_deliver_read(units[i], sizes[i], &d, &refused) == SMS_OK);
+        CHECK(d.user.has_header == 1 && d.user.place.width == 8 && d.user.place.reference == 42);
+        CHECK(d.user.place.maximum == 2 && d.user.place.sequence == i + 1);
+        CHECK(d.user.header.length == 5 && units[i][d.user.header.offset] == 0 && d.user.fill == 1);
+    }
+    /* closed */
+    CHECK(sms_joiner_offer(&joiner, 0, units[0], sizes[0], &outcome, &refused) == SMS_CLOSED && outcome == 99);
+    CHECK(sms_joiner_text(&joiner, out, sizeof out, &needed) == SMS_CLOSED);
+    CHECK(sms_joiner_age(&joiner, 0) == SMS_CLOSED);
+    sms_joiner_close(&joiner);
+    CHECK(sms_joiner_open(&joiner, 0, 8) == SMS_OUT_OF_RANGE);
+    CHECK(sms_joiner_open(&joiner, 1, SIZE_MAX) == SMS_NO_MEMORY);
+
+    CHECK(sms_joiner_open(&joiner, 1, 8) == SMS_OK);
+    CHECK(sms_joiner_open(&joiner, 1, 8) == SMS_OK); /* an open one is closed first */
+    CHECK(sms_joiner_offer(&joiner, 5, units[1], sizes[1], &outcome, &refused) == SMS_OK && outcome == SMS_KEPT);
+    CHECK(sms_joiner_text(&joiner, out, sizeof out, &needed) == SMS_OK && needed == 0);
+    CHECK(sms_joiner_offer(&joiner, 5, units[1], sizes[1], &outcome, &refused) == SMS_OK && outcome == SMS_REPEAT);
+    CHECK(sms_joiner_would_finish(&joiner, units[0], sizes[0], &finishes, &refused) == SMS_OK && finishes == 1);
+    CHECK(sms_joiner_would_finish(&joiner, units[1], sizes[1], &finishes, &refused) == SMS_OK && finishes == 0);
+    fields.segments.reference = 43;
+    uint8_t other[SMS_UNIT_MAX];
+    size_t size;
+    CHECK(sms_deliver_write(&fields, (const uint8_t *)"12345", 5, (const uint8_t *)text, 200, 0, other, sizeof other, &size, &segments) == SMS_OK);
+    CHECK(sms_joiner_offer(&joiner, 5, other, size, &outcome, &refused) == SMS_TOO_MANY_OPEN);
+    CHECK(sms_joiner_offer(&joiner, 6, units[0], sizes[0], &outcome, &refused) == SMS_OK && outcome == SMS_FINISHED);
+    CHECK(sms_joiner_text(&joiner, out, 10, &needed) == SMS_NO_ROOM && needed == 200);
+    CHECK(sms_joiner_text(&joiner, out, sizeof out, &needed) == SMS_OK && needed == 200);
+    CHECK(memcmp(out, text, 200) == 0);
+    CHECK(sms_joiner_offer(&joiner, 6, units[0], sizes[0], &outcome, &refused) == SMS_OK && outcome == SMS_REPEAT);
+    CHECK(sms_joiner_offer(&joiner, 7, other, size, &outcome, &refused) == SMS_OK && outcome == SMS_KEPT);
+    CHECK(sms_joiner_age(&joiner, 7 + 604800) == SMS_OK);
+    CHECK(sms_joiner_offer(&joiner, 8, other, size, &outcome, &refused) == SMS_OK && outcome == SMS_KEPT);
+    CHECK(sms_joiner_offer(&joiner, 8, other, 3, &outcome, &refused) == SMS_REFUSED);
+    CHECK(refused.place == 3 && refused.reason == SMS_SHORT);
+    sms_joiner_close(&joiner);
+    sms_joiner_close(&joiner);
+    CHECK(joiner.open == 0);
+}
+
+typedef sms_status (*reader)(const uint8_t *, size_t, sms_refused *);
+static sms_status deliver(const uint8_t *octets, size_t count, sms_refused *refused)
+{
+    sms_deliver seen;
+    return sms_deliver_read(octets, count, &seen, refused);
+}
+static sms_status submit(const uint8_t *octets, size_t count, sms_refused *refused)
+{
+    sms_submit seen;
+    return sms_submit_read(octets, count, &seen, refused);
+}
+static sms_status deliver_ack(const uint8_t *octets, size_t count, sms_refused *refused)
+{
+    sms_report seen;
+    return sms_deliver_ack_read(octets, count, &seen, refused);
+}
+static sms_status deliver_error(const uint8_t *octets, size_t count, sms_refused *refused)
+{
+    sms_report seen;
+    return sms_deliver_error_read(octets, count, &seen, refused);
+}
+static sms_status submit_ack(const uint8_t *octets, size_t count, sms_refused *refused)
+{
+    sms_report seen;
+    return sms_submit_ack_read(octets, count, &seen, refused);
+}
+static sms_status submit_error(const uint8_t *octets, size_t count, sms_refused *refused)
+{
+    sms_report seen;
+    return sms_submit_error_read(octets, count, &seen, refused);
+}
+static sms_status cp(const uint8_t *octets, size_t count, sms_refused *refused)
+{
+    sms_cp seen;
+    return sms_cp_read(octets, count, &seen, refused);
+}
+static sms_status rp(const uint8_t *octets, size_t count, sms_refused *refused)
+{
+    sms_rp seen;
+    return sms_rp_read(octets, count, &seen, refused);
+}
+
+/* each worked unit is read whole, and each front of it is refused at its end */
+static void cuts(void)
+{
+    static const struct {
+        reader read;
+        const char *hex;
+    } units[] = {
+        {deliver, "040BC87238880900F10000993092516195800AE8329BFD4697D9EC37"},
+        {submit, "11000B916407281553F80000AA0AE8329BFD4697D9EC37"},
+        {deliver_ack, "0007000003616263"},
+        {deliver_error, "00C10700040302F0A1"},
+        {submit_ack, "010030217251409080"},
+        {submit_error, "01D60030217251409080"},
+        {cp, "390107020900050003C9"},
+        {cp, "3904"},
+        {cp, "391061"},
+        {rp, "0109039112340002AABB"},
+        {rp, "0009000391123402AABB"},
+        {rp, "0205"},
+        {rp, "0405015F"},
+    };
+    for (size_t i = 0; i < sizeof units / sizeof units[0]; i++) {
+        size_t count;
+        uint8_t *octets = block(units[i].hex, &count);
+        sms_refused refused = {99, 99};
+        CHECK(units[i].read(octets, count, &refused) == SMS_OK);
+        for (size_t front = 0; front < count; front++) {
+            uint8_t *own = malloc(front == 0 ? 1 : front);
+            if (own == NULL)
+                abort();
+            memcpy(own, octets, front);
+            if (units[i].read(own, front, &refused) != SMS_REFUSED || refused.place != front || refused.reason != SMS_SHORT) {
+                printf("%s cut at %zu: place %zu, reason %u\n", units[i].hex, front, refused.place, (unsigned)refused.reason);
+                failures++;
+            }
+            free(own);
+        }
+        free(octets);
+    }
+}
+
+/* octets as they come: no answer but a status, and no octet read or written beyond what is given */
+static void rubbish(unsigned turns)
+{
+    uint64_t seed = 0x9E3779B97F4A7C15u;
+    for (unsigned turn = 0; turn < turns; turn++) {
+        size_t count = 0;
+        uint8_t draft[192];
+        for (size_t i = 0; i < sizeof draft; i++) {
+            seed = seed * 6364136223846793005u + 1442695040888963407u;
+            draft[i] = (uint8_t)(seed >> 56);
+            if (i == 1)
+                count = (size_t)(seed >> 33) % sizeof draft;
+        }
+        draft[0] &= 0xC5;
+        draft[1] %= 12;
+        uint8_t *own = malloc(count == 0 ? 1 : count), text[SMS_TEXT_MAX];
+        if (own == NULL)
+            abort();
+        memcpy(own, draft, count);
+        sms_deliver d;
+        sms_submit s;
+        sms_report r;
+        sms_cp cp;
+        sms_rp rp;
+        sms_refused refused;
+        size_t needed;
+        if (sms_deliver_read(own, count, &d, &refused) == SMS_OK) {
+            CHECK(d.used <= count && d.user.body.offset + d.user.body.length == d.used);
+            (void)sms_user_text(own, count, &d.user, text, sizeof text, &needed);
+            CHECK(needed <= sizeof text);
+            CHECK(sms_address_text(own, count, &d.origin, text, SMS_ADDRESS_TEXT_MAX, &needed) == SMS_OK);
+        } else
+            CHECK(refused.place <= count);
+        (void)sms_submit_read(own, count, &s, &refused);
+        (void)sms_deliver_ack_read(own, count, &r, &refused);
+        (void)sms_deliver_error_read(own, count, &r, &refused);
+        (void)sms_submit_ack_read(own, count, &r, &refused);
+        (void)sms_submit_error_read(own, count, &r, &refused);
+        (void)sms_cp_read(own, count, &cp, &refused);
+        (void)sms_rp_read(own, count, &rp, &refused);
+        free(own);
+    }
+}
+
+int main(int argc, char **argv)
+{
+    reads();
+    writes();
+    packets();
+    reports();
+    joins();
+    cuts();
+    rubbish(argc > 1 ? (unsigned)strtoul(argv[1], NULL, 10) : 200000);
+    printf("%d failures\n", failures);
+    return failures != 0;
+}

@@ -1,0 +1,11 @@
+pub mod HandedOut
+pub mod Kept
+pub mod Offers
+pub mod Parts
+pub mod Seen
+pub mod SeenRelay
+pub mod SeenReport
+pub mod Status
+pub mod Times
+pub mod Wrapping
+pub mod Writing

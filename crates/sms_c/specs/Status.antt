@@ -1,0 +1,66 @@
+-- The numbers that C sees.
+use Rattle.std.specs.Prelude.{ℕ, Result, Ok, Err}
+use Rattle.sms_field.specs.declared.refusal.Fault.{Fault}
+use Rattle.sms_field.specs.declared.fault.TextFault.{TextFault}
+use Rattle.sms_field.specs.declared.fault.TextFault.TheVariants as text
+use Rattle.sms_join.specs.declared.cut.SplitFault.{SplitFault}
+use Rattle.sms_join.specs.declared.cut.SplitFault.TheVariants as split
+use Rattle.sms_tpdu.specs.declared.fault.UnitFault.{UnitFault}
+use Rattle.sms_tpdu.specs.declared.fault.UnitFault.TheVariants as unit
+use Rattle.sms_relay.specs.declared.fault.RelayFault.{RelayFault}
+use Rattle.sms_relay.specs.declared.fault.RelayFault.TheVariants as relay
+use Rattle.sms_c.specs.declared.status.Failure.{Failure}
+use Rattle.sms_c.specs.declared.status.Failure.TheVariants as why
+use Rattle.sms_c.specs.declared.status.Refused.{Refused}
+
+abbrev pub status_of : Failure → ℕ
+status_of why.Refused = 1
+status_of why.Memory = 2
+status_of why.NoRoom = 3
+status_of why.NotUtf8 = 4
+status_of why.BadAddress = 5
+status_of why.TooLong = 6
+status_of why.OutOfRange = 7
+status_of why.NotThere = 8
+status_of why.TooManyOpen = 9
+status_of why.Closed = 10
+
+abbrev pub status_in : Result (Unit {0}) Failure → ℕ
+status_in (Ok _) = 0
+status_in (Err failure) = status_of failure
+
+-- ---- what a call answers where one that it makes fails
+
+abbrev pub of_text : TextFault → Failure
+of_text text.Memory = why.Memory
+of_text (text.Address _) = why.BadAddress
+
+abbrev pub of_split : SplitFault → Failure
+of_split split.Memory = why.Memory
+of_split split.TooManySegments = why.TooLong
+
+-- ---- why octets are refused
+
+abbrev pub unit_reason : UnitFault → ℕ
+unit_reason unit.Short = 1
+unit_reason unit.WrongType = 2
+unit_reason unit.AddressTooLong = 3
+unit_reason unit.BadDigit = 4
+unit_reason unit.DataTooLong = 5
+unit_reason unit.HeaderTooLong = 6
+
+abbrev pub relay_reason : RelayFault → ℕ
+relay_reason relay.Short = 1
+relay_reason relay.DataTooLong = 5
+relay_reason relay.NotSms = 7
+relay_reason relay.BadTransaction = 8
+relay_reason relay.UnknownType = 9
+relay_reason relay.BadAddress = 10
+relay_reason relay.BadCause = 11
+
+-- what C is told of a fault
+abbrev pub unit_refused : Fault UnitFault → Refused
+unit_refused fault = record { place = fault.place; reason = unit_reason fault.why }
+
+abbrev pub relay_refused : Fault RelayFault → Refused
+relay_refused fault = record { place = fault.place; reason = relay_reason fault.why }

@@ -1,0 +1,327 @@
+//! A joiner that C keeps.
+
+ghost use Rattle.std.specs.Prelude.{◌≡◌, ℕ, ◌++◌, length, drop, Some, None, MatchOption, IfSome, IfOk, IfErr, OnErr};
+ghost use Rattle.std.specs.String.{string_bytes};
+ghost use Rattle.sms_field.specs.Reading.{Reads};
+ghost use Rattle.sms_tpdu.specs.Deliver.{deliver};
+ghost use Rattle.sms_join.specs.Aging.{aged};
+ghost use Rattle.sms_join.specs.Joiner.{new_joiner};
+ghost use Rattle.sms_join.specs.JoinerValue.{SameLimits};
+ghost use Rattle.sms_join.specs.Same.{IsSame};
+ghost use Rattle.sms_c.specs.Offers.{Offers, OnOkIs, RefusesUnit, WouldFinish, units_in};
+ghost use Rattle.sms_c.specs.Kept.{count};
+ghost use Rattle.sms_c.specs.Status as numbers;
+ghost use Rattle.sms_tpdu.specs.UserData.ConcatenationFound.{IsPlace, concat_of_header};
+
+pub mod inside;
+pub mod kept;
+pub mod parts;
+
+use crate::joiner::inside::Inside;
+use crate::joiner::kept::Kept;
+use crate::joiner::parts::Parts;
+use crate::out::hand_out;
+use crate::parts::bit;
+use crate::status::{Failure, OK, Refused, status_of, unit_refused};
+use sms_field::{Address, Alphabet, Fault, Refusal, Stamp, alphabet_of};
+use sms_join::{Joiner, Offer, OfferFault, Ucs2Units, Units};
+use sms_text::units_of_octets;
+use sms_tpdu::{Body, Concat, Deliver, Header, Unit, UserData};
+use std::alloc::{AllocError, Global};
+use std::mem;
+
+/// A joiner in C's memory: closed, or with what it holds.
+#[repr(C)]
+#[derive(Drop)]
+pub struct Handle {
+    open: u32,
+    kept: Kept,
+    ghost fits: { «open» ≡ count kept.held },
+}
+
+impl Handle {
+    fn closed(alloc: Global) -> Handle
+        ensures { result.kept.held ≡ None }
+    {
+        Handle {
+            open: 0,
+            kept: Kept::nothing(alloc),
+        }
+    }
+
+    fn of(inside: Box<Inside, Global>) -> Handle
+        ensures { result.kept.held ≡ Some inside.value }
+    {
+        Handle {
+            open: 1,
+            kept: Kept::of_parts(Parts::of(inside)),
+        }
+    }
+
+    fn into_box(self) -> Option<Box<Inside, Global>>
+        ensures { MatchOption result (self.kept.held ≡ None)
+            (λ inside. self.kept.held ≡ Some inside.value) }
+    {
+        let Handle { open, kept } = self;
+        if open == 0 {
+            return None;
+        }
+        Some(kept.into_parts().into_box())
+    }
+}
+
+/// A box with a joiner that holds nothing.
+fn opened(alloc: Global, open_max: usize, remembered: usize) -> Result<Box<Inside, Global>, Failure>
+    ensures { IfOk result (λ inside. inside.value.joiner
+        ≡ record { open_max = open_max; remembered = remembered; holds = new_joiner }) }
+{
+    if open_max == 0 || remembered == 0 {
+        return Err(Failure::OutOfRange);
+    }
+    let joiner = Joiner::new(alloc, open_max, remembered)?;
+    let text = String::new(alloc);
+    Ok(Box::new(alloc, Inside { joiner, text })?)
+}
+
+/// Opens a joiner, which is closed first.
+#[unsafe(no_mangle)]
+pub extern "C" fn sms_joiner_open(
+    alloc: Global,
+    handle: &mut Handle,
+    open_max: usize,
+    remembered: usize,
+) -> u32
+    ensures { result ≡ 0 → IfSome handle.new.kept.held (λ inside. inside.joiner
+        ≡ record { open_max = open_max; remembered = remembered; holds = new_joiner }) }
+{
+    let old = mem::replace(handle, Handle::closed(alloc)).into_box();
+    drop(old);
+    match opened(alloc, open_max, remembered) {
+        Ok(inside) => {
+            *handle = Handle::of(inside);
+            OK
+        }
+        Err(failure) => failure.status(),
+    }
+}
+
+/// Frees what a joiner holds.
+#[unsafe(no_mangle)]
+pub extern "C" fn sms_joiner_close(alloc: Global, handle: &mut Handle)
+    ensures { handle.new.kept.held ≡ None }
+{
+    let held = mem::replace(handle, Handle::closed(alloc)).into_box();
+    drop(held);
+}
+
+/// The place that a header tells.
+fn place_of(header: &Option<Header>) -> Option<Concat>
+    ensures place { IsPlace result }
+    ensures value { result ≡ concat_of_header header.now }
+{
+    match header {
+        Some(header) => header.concat(),
+        None => None,
+    }
+}
+
+/// The units of user data, where they are text.
+fn units_of(alloc: Global, dcs: u8, body: Body) -> Result<Units, Failure>
+    ensures units { IfOk result (λ units. units ≡ units_in body) }
+    ensures read { IfErr result (λ why. numbers.status_of why ≡ 1 → ⊥) }
+{
+    match body {
+        Body::Septets(septets) => Ok(Units::Gsm(septets)),
+        Body::Octets(octets) => {
+            if alphabet_of(dcs) != Alphabet::Ucs2 {
+                return Err(Failure::NotThere);
+            }
+            let units = units_of_octets(alloc, octets.as_slice())?;
+            Ok(Units::Ucs2(Ucs2Units::new(units)))
+        }
+    }
+}
+
+/// An SMS-DELIVER.
+fn delivered(alloc: Global, octets: &[u8], refused: &mut Refused) -> Result<Deliver, Failure>
+    ensures read { IfOk result (λ value. (used : ℕ) × Reads deliver value octets.now used) }
+    ensures refused { IfErr result (λ why. RefusesUnit (numbers.status_of why) octets.now
+        refused.new) }
+{
+    match Deliver::read(alloc, octets) {
+        Ok((deliver, _)) => Ok(deliver),
+        Err(Refusal::Memory) => Err(Failure::Memory),
+        Err(Refusal::At { place, why }) => {
+            unit_refused(refused, Fault { place, why });
+            Err(Failure::Refused)
+        }
+    }
+}
+
+/// The parts of an SMS-DELIVER that tell which piece it carries.
+fn parts_of(deliver: Deliver) -> (Address, u8, Stamp, Option<Header>, Body)
+    ensures origin { result.0 ≡ deliver.origin }
+    ensures stamp { result.2 ≡ deliver.stamp }
+    ensures header { result.3 ≡ deliver.user.header }
+    ensures body { result.4 ≡ deliver.user.body }
+{
+    let Deliver {
+        origin,
+        dcs,
+        stamp,
+        user,
+        ..
+    } = deliver;
+    let UserData { header, body } = user;
+    (origin, dcs, stamp, header, body)
+}
+
+/// Offers an SMS-DELIVER, and says what becomes of it.
+fn offered(
+    alloc: Global,
+    inside: &mut Inside,
+    seconds: u64,
+    octets: &[u8],
+    refused: &mut Refused,
+) -> Result<u32, Failure>
+    ensures same { OnErr result (inside.new ≡ inside.old) }
+    ensures refused { IfErr result (λ why. RefusesUnit (numbers.status_of why) octets.now
+        refused.new) }
+    ensures offers { OnOkIs result (Offers inside.old inside.new seconds octets.now) }
+{
+    let deliver = delivered(alloc, octets, refused)?;
+    let (origin, dcs, stamp, header, body) = parts_of(deliver);
+    let place = place_of(&header);
+    let units = units_of(alloc, dcs, body)?;
+    match inside.joiner.offer(seconds, &origin, stamp, place, units) {
+        Ok(Offer::Repeat) => Ok(0),
+        Ok(Offer::Kept) => Ok(1),
+        Ok(Offer::Finished(text)) => {
+            inside.text = text;
+            Ok(2)
+        }
+        Err(OfferFault::TooManyOpen) => Err(Failure::TooManyOpen),
+        Err(OfferFault::Memory) => Err(Failure::Memory),
+    }
+}
+
+/// Offers a joiner an SMS-DELIVER that came at a moment.
+#[unsafe(no_mangle)]
+pub extern "C" fn sms_joiner_offer(
+    alloc: Global,
+    handle: &mut Handle,
+    seconds: u64,
+    octets: &[u8],
+    outcome: &mut u32,
+    refused: &mut Refused,
+) -> u32
+    ensures closed { handle.old.kept.held ≡ None → result ≡ 10 }
+    ensures same { (result ≡ 0 → ⊥) → handle.new.kept.held ≡ handle.old.kept.held }
+    ensures outcome { (result ≡ 0 → ⊥) → outcome.new ≡ outcome.old }
+    ensures refused { RefusesUnit result octets.now refused.new }
+    ensures offers { result ≡ 0 → IfSome handle.old.kept.held (λ before.
+        IfSome handle.new.kept.held (λ after.
+        Offers before after seconds octets.now outcome.new)) }
+{
+    let Some(mut inside) = mem::replace(handle, Handle::closed(alloc)).into_box() else {
+        return Failure::Closed.status();
+    };
+    let answer = offered(alloc, &mut inside, seconds, octets, refused);
+    *handle = Handle::of(inside);
+    match answer {
+        Ok(what) => {
+            *outcome = what;
+            OK
+        }
+        Err(failure) => failure.status(),
+    }
+}
+
+/// Hands out the text that finished last.
+#[unsafe(no_mangle)]
+pub extern "C" fn sms_joiner_text(
+    alloc: Global,
+    handle: &mut Handle,
+    out: &mut [u8],
+    needed: &mut usize,
+) -> u32
+    ensures closed { handle.old.kept.held ≡ None → result ≡ 10 }
+    ensures same { handle.new.kept.held ≡ handle.old.kept.held }
+    ensures none { (result ≡ 0 → ⊥) → out.new ≡ out.old }
+    ensures needed { IfSome handle.old.kept.held (λ inside.
+        needed.new ≡ length (string_bytes inside.text)) }
+    ensures text { result ≡ 0 → IfSome handle.old.kept.held (λ inside.
+        out.new ≡ string_bytes inside.text ++ drop needed.new out.old) }
+{
+    *needed = 0;
+    let Some(inside) = mem::replace(handle, Handle::closed(alloc)).into_box() else {
+        return Failure::Closed.status();
+    };
+    let answer = hand_out(inside.text.as_bytes(), out, needed);
+    *handle = Handle::of(inside);
+    status_of(answer)
+}
+
+/// Whether an SMS-DELIVER would finish its message: 1, or 0.
+fn finishes(
+    alloc: Global,
+    inside: &Inside,
+    octets: &[u8],
+    refused: &mut Refused,
+) -> Result<u8, Failure>
+    ensures refused { IfErr result (λ why. RefusesUnit (numbers.status_of why) octets.now
+        refused.new) }
+    ensures finishes { OnOkIs result (WouldFinish inside.now octets.now) }
+{
+    let deliver = delivered(alloc, octets, refused)?;
+    let (origin, _, stamp, header, _) = parts_of(deliver);
+    let place = place_of(&header);
+    Ok(bit(inside.joiner.would_finish(&origin, stamp, place)))
+}
+
+/// Tells whether an SMS-DELIVER would finish its message.
+#[unsafe(no_mangle)]
+pub extern "C" fn sms_joiner_would_finish(
+    alloc: Global,
+    handle: &mut Handle,
+    octets: &[u8],
+    answer: &mut u8,
+    refused: &mut Refused,
+) -> u32
+    ensures closed { handle.old.kept.held ≡ None → result ≡ 10 }
+    ensures same { handle.new.kept.held ≡ handle.old.kept.held }
+    ensures none { (result ≡ 0 → ⊥) → answer.new ≡ answer.old }
+    ensures refused { RefusesUnit result octets.now refused.new }
+    ensures finishes { result ≡ 0 → IfSome handle.old.kept.held (λ inside.
+        WouldFinish inside octets.now answer.new) }
+{
+    let Some(inside) = mem::replace(handle, Handle::closed(alloc)).into_box() else {
+        return Failure::Closed.status();
+    };
+    let found = finishes(alloc, &inside, octets, refused);
+    *handle = Handle::of(inside);
+    match found {
+        Ok(finishes) => {
+            *answer = finishes;
+            OK
+        }
+        Err(failure) => failure.status(),
+    }
+}
+
+/// Drops the messages that have waited for a week.
+#[unsafe(no_mangle)]
+pub extern "C" fn sms_joiner_age(alloc: Global, handle: &mut Handle, seconds: u64) -> u32
+    ensures closed { handle.old.kept.held ≡ None → result ≡ 10 }
+    ensures aged { IfSome handle.old.kept.held (λ before. (result ≡ 0)
+        × IfSome handle.new.kept.held (λ after.
+        IsSame after.joiner.holds (aged seconds before.joiner.holds)
+        × SameLimits after.joiner before.joiner)) }
+{
+    let Some(mut inside) = mem::replace(handle, Handle::closed(alloc)).into_box() else {
+        return Failure::Closed.status();
+    };
+    inside.joiner.age(seconds);
+    *handle = Handle::of(inside);
+    OK
+}

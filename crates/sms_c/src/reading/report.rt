@@ -1,0 +1,260 @@
+//! The four reports (3GPP TS 23.040, 9.2.2.1a and 9.2.2.2a).
+
+ghost use Rattle.std.specs.Prelude.{◌≡◌, ◌<◌, is_some, unwrap_or};
+ghost use Rattle.sms_field.specs.Reading.{Reads};
+ghost use Rattle.sms_field.specs.WholeAnswer.{IsFaultOf};
+ghost use Rattle.sms_field.specs.declared.refusal.Fault.{Fault as TheFault};
+ghost use Rattle.sms_tpdu.specs.Report.{report_alphabet};
+ghost use Rattle.sms_tpdu.specs.Report.DeliverAck.{DeliverAckValue, deliver_ack};
+ghost use Rattle.sms_tpdu.specs.Report.DeliverError.{DeliverErrorValue, deliver_error};
+ghost use Rattle.sms_tpdu.specs.Report.SubmitAck.{SubmitAckValue, submit_ack};
+ghost use Rattle.sms_tpdu.specs.Report.SubmitError.{SubmitErrorValue, submit_error};
+ghost use Rattle.sms_tpdu.specs.declared.fault.UnitFault.{UnitFault};
+ghost use Rattle.sms_tpdu.specs.declared.fault.UnitFault.TheVariants.{Short};
+ghost use Rattle.sms_c.specs.Parts as seen;
+ghost use Rattle.sms_c.specs.Status.{unit_refused as told};
+ghost use Rattle.sms_c.specs.SeenReport.{length_of, ShowsParts, ShowsDeliverAck, ShowsDeliverError, ShowsSubmitAck, ShowsSubmitError};
+
+use crate::parts::{Span, alphabet_number, bit};
+use crate::status::{OK, Refused, unit_refused};
+use crate::times::StampOctets;
+use sms_field::{Alphabet, alphabet_of};
+use sms_tpdu::{DeliverAckView, DeliverErrorView, ReportDataView, SubmitAckView, SubmitErrorView};
+
+/// A report, and where its data lie.
+#[repr(C)]
+#[derive(Clone, Copy)]
+pub struct ReportSeen {
+    /// The octets of TP-UD.
+    pub data: Span,
+    /// How many octets the report takes.
+    pub used: usize,
+    /// TP-UDHI.
+    pub has_header: u8,
+    pub has_cause: u8,
+    /// TP-FCS.
+    pub cause: u8,
+    pub has_stamp: u8,
+    /// TP-SCTS.
+    pub stamp: StampOctets,
+    pub has_pid: u8,
+    /// TP-PID.
+    pub pid: u8,
+    pub has_dcs: u8,
+    /// TP-DCS.
+    pub dcs: u8,
+    pub has_data: u8,
+    /// TP-UDL.
+    pub length: u8,
+    /// The number of the alphabet by which TP-UDL counts.
+    pub alphabet: u8,
+}
+
+/// 1 and an octet that is there; 0 and 0 where it is not.
+fn octet_seen(octet: Option<u8>) -> (u8, u8)
+    ensures there { result.0 ≡ seen.bit (is_some octet) }
+    ensures value { result.1 ≡ unwrap_or octet 0 }
+{
+    match octet {
+        Some(octet) => (1, octet),
+        None => (0, 0),
+    }
+}
+
+/// Where the data of a report lie that takes so many octets, that they are there, and their length.
+fn data_seen(user: &Option<ReportDataView>, used: usize) -> (Span, u8, u8)
+    ensures there { result.1 ≡ seen.bit (is_some user.now) }
+    ensures length { result.2 ≡ length_of user.now }
+{
+    match user {
+        Some(user) => {
+            let length = user.octets.len();
+            let offset = used.saturating_sub(length);
+            (Span { offset, length }, 1, user.length)
+        }
+        None => (Span::NONE, 0, 0),
+    }
+}
+
+/// The number of the alphabet by which the data are counted.
+fn counted_by(dcs: Option<u8>) -> u8
+    ensures { result ≡ seen.alphabet_number (report_alphabet dcs) }
+{
+    match dcs {
+        Some(dcs) => alphabet_number(alphabet_of(dcs)),
+        None => alphabet_number(Alphabet::Gsm7),
+    }
+}
+
+/// The parts that each report may have.
+fn parts_seen(
+    has_header: bool,
+    pid: Option<u8>,
+    dcs: Option<u8>,
+    user: &Option<ReportDataView>,
+    used: usize,
+) -> ReportSeen
+    ensures used { result.used ≡ used }
+    ensures has_header { result.has_header ≡ seen.bit has_header }
+    ensures no_cause { result.has_cause ≡ 0 }
+    ensures no_stamp { result.has_stamp ≡ 0 }
+    ensures parts { ShowsParts pid dcs user.now result }
+{
+    let alphabet = counted_by(dcs);
+    let (has_pid, pid) = octet_seen(pid);
+    let (has_dcs, dcs) = octet_seen(dcs);
+    let (data, has_data, length) = data_seen(user, used);
+    ReportSeen {
+        data,
+        used,
+        has_header: bit(has_header),
+        has_cause: 0,
+        cause: 0,
+        has_stamp: 0,
+        stamp: StampOctets {
+            octets: [0, 0, 0, 0, 0, 0, 0],
+        },
+        has_pid,
+        pid,
+        has_dcs,
+        dcs,
+        has_data,
+        length,
+        alphabet,
+    }
+}
+
+/// What C sees of an SMS-DELIVER-REPORT of an RP-ACK that takes so many octets.
+fn deliver_ack_seen(view: &DeliverAckView, used: usize) -> ReportSeen
+    ensures used { result.used ≡ used }
+    ensures shows { ShowsDeliverAck view.now result }
+{
+    parts_seen(view.has_header, view.pid, view.dcs, &view.user, used)
+}
+
+/// Sees an SMS-DELIVER-REPORT of an RP-ACK at the front of the octets.
+#[unsafe(no_mangle)]
+pub extern "C" fn sms_deliver_ack_read(
+    octets: &[u8],
+    out: &mut ReportSeen,
+    refused: &mut Refused,
+) -> u32
+    ensures status { result < 2 }
+    ensures read { result ≡ 0 → (value : DeliverAckValue)
+        × Reads deliver_ack value octets.now out.new.used × ShowsDeliverAck value out.new }
+    ensures refused { result ≡ 1 → (fault : TheFault UnitFault)
+        × IsFaultOf deliver_ack Short octets.now fault × (refused.new ≡ told fault)
+        × (out.new ≡ out.old) }
+{
+    match DeliverAckView::read(octets) {
+        Ok((view, used)) => {
+            *out = deliver_ack_seen(&view, used);
+            OK
+        }
+        Err(fault) => unit_refused(refused, fault),
+    }
+}
+
+/// What C sees of an SMS-DELIVER-REPORT of an RP-ERROR that takes so many octets.
+fn deliver_error_seen(view: &DeliverErrorView, used: usize) -> ReportSeen
+    ensures used { result.used ≡ used }
+    ensures shows { ShowsDeliverError view.now result }
+{
+    let mut seen = parts_seen(view.has_header, view.pid, view.dcs, &view.user, used);
+    seen.has_cause = 1;
+    seen.cause = view.cause;
+    seen
+}
+
+/// Sees an SMS-DELIVER-REPORT of an RP-ERROR at the front of the octets.
+#[unsafe(no_mangle)]
+pub extern "C" fn sms_deliver_error_read(
+    octets: &[u8],
+    out: &mut ReportSeen,
+    refused: &mut Refused,
+) -> u32
+    ensures status { result < 2 }
+    ensures read { result ≡ 0 → (value : DeliverErrorValue)
+        × Reads deliver_error value octets.now out.new.used × ShowsDeliverError value out.new }
+    ensures refused { result ≡ 1 → (fault : TheFault UnitFault)
+        × IsFaultOf deliver_error Short octets.now fault × (refused.new ≡ told fault)
+        × (out.new ≡ out.old) }
+{
+    match DeliverErrorView::read(octets) {
+        Ok((view, used)) => {
+            *out = deliver_error_seen(&view, used);
+            OK
+        }
+        Err(fault) => unit_refused(refused, fault),
+    }
+}
+
+/// What C sees of an SMS-SUBMIT-REPORT of an RP-ACK that takes so many octets.
+fn submit_ack_seen(view: &SubmitAckView, used: usize) -> ReportSeen
+    ensures used { result.used ≡ used }
+    ensures shows { ShowsSubmitAck view.now result }
+{
+    let mut seen = parts_seen(view.has_header, view.pid, view.dcs, &view.user, used);
+    seen.has_stamp = 1;
+    seen.stamp = StampOctets::of(view.stamp);
+    seen
+}
+
+/// Sees an SMS-SUBMIT-REPORT of an RP-ACK at the front of the octets.
+#[unsafe(no_mangle)]
+pub extern "C" fn sms_submit_ack_read(
+    octets: &[u8],
+    out: &mut ReportSeen,
+    refused: &mut Refused,
+) -> u32
+    ensures status { result < 2 }
+    ensures read { result ≡ 0 → (value : SubmitAckValue)
+        × Reads submit_ack value octets.now out.new.used × ShowsSubmitAck value out.new }
+    ensures refused { result ≡ 1 → (fault : TheFault UnitFault)
+        × IsFaultOf submit_ack Short octets.now fault × (refused.new ≡ told fault)
+        × (out.new ≡ out.old) }
+{
+    match SubmitAckView::read(octets) {
+        Ok((view, used)) => {
+            *out = submit_ack_seen(&view, used);
+            OK
+        }
+        Err(fault) => unit_refused(refused, fault),
+    }
+}
+
+/// What C sees of an SMS-SUBMIT-REPORT of an RP-ERROR that takes so many octets.
+fn submit_error_seen(view: &SubmitErrorView, used: usize) -> ReportSeen
+    ensures used { result.used ≡ used }
+    ensures shows { ShowsSubmitError view.now result }
+{
+    let mut seen = parts_seen(view.has_header, view.pid, view.dcs, &view.user, used);
+    seen.has_cause = 1;
+    seen.cause = view.cause;
+    seen.has_stamp = 1;
+    seen.stamp = StampOctets::of(view.stamp);
+    seen
+}
+
+/// Sees an SMS-SUBMIT-REPORT of an RP-ERROR at the front of the octets.
+#[unsafe(no_mangle)]
+pub extern "C" fn sms_submit_error_read(
+    octets: &[u8],
+    out: &mut ReportSeen,
+    refused: &mut Refused,
+) -> u32
+    ensures status { result < 2 }
+    ensures read { result ≡ 0 → (value : SubmitErrorValue)
+        × Reads submit_error value octets.now out.new.used × ShowsSubmitError value out.new }
+    ensures refused { result ≡ 1 → (fault : TheFault UnitFault)
+        × IsFaultOf submit_error Short octets.now fault × (refused.new ≡ told fault)
+        × (out.new ≡ out.old) }
+{
+    match SubmitErrorView::read(octets) {
+        Ok((view, used)) => {
+            *out = submit_error_seen(&view, used);
+            OK
+        }
+        Err(fault) => unit_refused(refused, fault),
+    }
+}

@@ -1,0 +1,170 @@
+//! What a call answers, and why octets are refused.
+
+ghost use Rattle.std.specs.Prelude.{◌≡◌};
+ghost use Rattle.sms_c.specs.Status as numbers;
+ghost use Rattle.sms_c.specs.declared.status.Failure.TheVariants.{Memory};
+
+use sms_field::{Fault, TextFault};
+use sms_join::SplitFault;
+use sms_relay::RelayFault;
+use sms_tpdu::UnitFault;
+use std::alloc::{AllocError, AllocFailed};
+
+/// What a call answers that did what it is for.
+pub const OK: u32 = 0;
+
+/// Why a call did not do what it is for.
+#[derive(Clone, Copy)]
+pub enum Failure {
+    /// The octets are refused.
+    Refused,
+    /// Memory ran out.
+    Memory,
+    /// There is no room for the answer.
+    NoRoom,
+    /// The text is not in UTF-8.
+    NotUtf8,
+    /// The text is no address.
+    BadAddress,
+    /// There is more than a message or a packet can carry.
+    TooLong,
+    /// A value is none of those that may be given.
+    OutOfRange,
+    /// What is asked for is not there.
+    NotThere,
+    /// As many sets of segments are open as may be.
+    TooManyOpen,
+    /// The joiner is not open.
+    Closed,
+}
+
+impl Failure {
+    /// Its number.
+    pub fn status(self) -> u32
+        ensures { result ≡ numbers.status_of self }
+    {
+        match self {
+            Failure::Refused => 1,
+            Failure::Memory => 2,
+            Failure::NoRoom => 3,
+            Failure::NotUtf8 => 4,
+            Failure::BadAddress => 5,
+            Failure::TooLong => 6,
+            Failure::OutOfRange => 7,
+            Failure::NotThere => 8,
+            Failure::TooManyOpen => 9,
+            Failure::Closed => 10,
+        }
+    }
+}
+
+/// The number of what a call answers.
+pub fn status_of(answer: Result<(), Failure>) -> u32
+    ensures { result ≡ numbers.status_in answer }
+{
+    match answer {
+        Ok(()) => OK,
+        Err(failure) => failure.status(),
+    }
+}
+
+impl From<AllocError> for Failure {
+    ghost from_gives = { λ _ e. e ≡ Memory };
+
+    fn from(_error: AllocError) -> Failure {
+        Failure::Memory
+    }
+}
+
+impl<T: Drop> From<AllocFailed<T>> for Failure {
+    ghost from_gives = { λ _ e. e ≡ Memory };
+
+    fn from(_error: AllocFailed<T>) -> Failure {
+        Failure::Memory
+    }
+}
+
+impl From<TextFault> for Failure {
+    ghost from_gives = { λ fault e. e ≡ numbers.of_text fault };
+
+    fn from(fault: TextFault) -> Failure {
+        match fault {
+            TextFault::Memory => Failure::Memory,
+            TextFault::Address(_) => Failure::BadAddress,
+        }
+    }
+}
+
+impl From<SplitFault> for Failure {
+    ghost from_gives = { λ fault e. e ≡ numbers.of_split fault };
+
+    fn from(fault: SplitFault) -> Failure {
+        match fault {
+            SplitFault::Memory => Failure::Memory,
+            SplitFault::TooManySegments => Failure::TooLong,
+        }
+    }
+}
+
+/// Where octets are refused, and why.
+#[repr(C)]
+#[derive(Clone, Copy)]
+pub struct Refused {
+    /// The place of the first octet that cannot stand there, or the length where octets are
+    /// missing at the end.
+    pub place: usize,
+    /// The number of the reason.
+    pub reason: u32,
+}
+
+/// The number of what is wrong with a unit.
+pub fn unit_reason(fault: UnitFault) -> u32
+    ensures { result ≡ numbers.unit_reason fault }
+{
+    match fault {
+        UnitFault::Short => 1,
+        UnitFault::WrongType => 2,
+        UnitFault::AddressTooLong => 3,
+        UnitFault::BadDigit => 4,
+        UnitFault::DataTooLong => 5,
+        UnitFault::HeaderTooLong => 6,
+    }
+}
+
+/// The number of what is wrong with a message of the relay or the connection.
+pub fn relay_reason(fault: RelayFault) -> u32
+    ensures { result ≡ numbers.relay_reason fault }
+{
+    match fault {
+        RelayFault::Short => 1,
+        RelayFault::DataTooLong => 5,
+        RelayFault::NotSms => 7,
+        RelayFault::BadTransaction => 8,
+        RelayFault::UnknownType => 9,
+        RelayFault::BadAddress => 10,
+        RelayFault::BadCause => 11,
+    }
+}
+
+/// Tells where a unit is refused, and why.
+pub fn unit_refused(out: &mut Refused, fault: Fault<UnitFault>) -> u32
+    ensures status { result ≡ 1 }
+    ensures told { out.new ≡ numbers.unit_refused fault }
+{
+    *out = Refused {
+        place: fault.place,
+        reason: unit_reason(fault.why),
+    };
+    Failure::Refused.status()
+}
+
+/// Tells where a message is refused, and why.
+pub fn relay_refused(out: &mut Refused, fault: Fault<RelayFault>) -> u32
+    ensures status { result ≡ 1 }
+    ensures told { out.new ≡ numbers.relay_refused fault }
+{
+    let Fault { place, why } = fault;
+    let reason = relay_reason(why);
+    *out = Refused { place, reason };
+    Failure::Refused.status()
+}

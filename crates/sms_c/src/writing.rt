@@ -1,0 +1,337 @@
+//! Texts written as user data and as units.
+
+ghost use Rattle.std.specs.Prelude.{◌≡◌, ◌<◌, All, IfOk, OnErr};
+ghost use Rattle.std.specs.Str.{chars};
+ghost use Rattle.sms_field.specs.AddressText.{address_of_text};
+ghost use Rattle.sms_tpdu.specs.Deliver.{SpellsDeliver};
+ghost use Rattle.sms_tpdu.specs.Submit.{SpellsSubmit};
+ghost use Rattle.sms_tpdu.specs.Submit.ValidityPeriod.{IsInRange};
+ghost use Rattle.sms_tpdu.specs.declared.user_data.concat.Width.TheVariants.{Eight};
+ghost use Rattle.sms_join.specs.SegmentUser.{IsSendable};
+ghost use Rattle.sms_join.specs.Segments.{AreSegments};
+ghost use Rattle.sms_c.specs.Writing as seen;
+ghost use Rattle.sms_c.specs.Writing.{IsCutInto, WritesDeliver, WritesSubmit};
+
+use crate::out::{hand_out, text_of};
+use crate::parts::Span;
+use crate::status::{Failure, status_of};
+use crate::times::{StampOctets, ValidityOctets};
+use sms_field::{Address, Stamp, Validity};
+use sms_join::{SegmentView, Segments, cut_text};
+use sms_tpdu::{Deliver, Submit, Unit, Width};
+use std::alloc::{AllocError, Global};
+
+/// How the segments of a text tell their place.
+#[repr(C)]
+#[derive(Clone, Copy)]
+pub struct Reference {
+    /// The bits of the reference, 8 or 16.
+    pub width: u16,
+    /// The reference, below 256 where it has 8 bits.
+    pub reference: u16,
+}
+
+/// The width of a reference that it can hold.
+fn width_of(reference: Reference) -> Result<Width, Failure>
+    ensures width { IfOk result (λ width. reference.width ≡ seen.bits_of width) }
+    ensures in_range { IfOk result (λ width. width ≡ Eight → reference.reference < 256) }
+{
+    match reference.width {
+        8 if reference.reference < 256 => Ok(Width::Eight),
+        16 => Ok(Width::Sixteen),
+        _ => Err(Failure::OutOfRange),
+    }
+}
+
+/// What an SMS-SUBMIT has besides a recipient and a text.
+#[repr(C)]
+#[derive(Clone, Copy)]
+pub struct SubmitFields {
+    pub segments: Reference,
+    pub reject: u8,
+    pub report: u8,
+    pub reply: u8,
+    /// TP-MR.
+    pub reference: u8,
+    pub pid: u8,
+    pub validity: ValidityOctets,
+}
+
+/// What an SMS-DELIVER has besides a sender and a text.
+#[repr(C)]
+#[derive(Clone, Copy)]
+pub struct DeliverFields {
+    pub segments: Reference,
+    pub more: u8,
+    pub looped: u8,
+    pub report: u8,
+    pub reply: u8,
+    pub pid: u8,
+    pub stamp: StampOctets,
+}
+
+/// Whether a field that is told as an octet is set.
+fn is_set(octet: u8) -> bool
+    ensures { result ≡ seen.is_set octet }
+{
+    if octet == 0 { false } else { true }
+}
+
+/// The address that a text spells.
+fn address_of(alloc: Global, text: &[u8]) -> Result<Address, Failure>
+    ensures { IfOk result (λ address. address_of_text (chars text.now) ≡ Ok address) }
+{
+    let text = text_of(text)?;
+    Ok(Address::from_text(alloc, text)?)
+}
+
+/// The segments of a text.
+fn segments_of(alloc: Global, text: &[u8], width: Width) -> Result<Segments, Failure>
+    ensures segments { IfOk result (AreSegments width (chars text.now)) }
+    ensures sendable { IfOk result (All (IsSendable width)) }
+{
+    let text = text_of(text)?;
+    Ok(cut_text(alloc, text, width)?)
+}
+
+/// The octets of a segment as an SMS-SUBMIT.
+fn submitted(
+    alloc: Global,
+    fields: SubmitFields,
+    validity: Validity,
+    target: Address,
+    width: Width,
+    segment: &SegmentView,
+) -> Result<Vec<u8>, AllocError>
+    requires validity { IsInRange validity }
+    requires sendable { IsSendable width segment.now }
+    requires reference { width ≡ Eight → fields.segments.reference < 256 }
+    ensures { IfOk result (λ octets. SpellsSubmit
+        (seen.submission fields validity target width segment.now) octets.items) }
+{
+    let user = segment.user(alloc, width, fields.segments.reference)?;
+    let submit = Submit {
+        reject: is_set(fields.reject),
+        validity,
+        report: is_set(fields.report),
+        reply: is_set(fields.reply),
+        reference: fields.reference,
+        target,
+        pid: fields.pid,
+        dcs: segment.coding_scheme(),
+        user,
+    };
+    submit.write(alloc)
+}
+
+/// Hands out the segment of an index as an SMS-SUBMIT.
+fn put_submit(
+    alloc: Global,
+    fields: SubmitFields,
+    target: &[u8],
+    text: &[u8],
+    index: usize,
+    out: &mut [u8],
+    needed: &mut usize,
+    count: &mut usize,
+) -> Result<(), Failure>
+    ensures written { IfOk result (λ _. WritesSubmit fields target.now text.now index
+        out.old out.new needed.new count.new) }
+    ensures none { OnErr result (out.new ≡ out.old) }
+{
+    let width = width_of(fields.segments)?;
+    let Some(validity) = fields.validity.validity() else {
+        return Err(Failure::OutOfRange);
+    };
+    let target = address_of(alloc, target)?;
+    let segments = segments_of(alloc, text, width)?;
+    *count = segments.len();
+    let Some(segment) = segments.get(index) else {
+        return Err(Failure::NotThere);
+    };
+    let octets = submitted(alloc, fields, validity, target, width, &segment)?;
+    hand_out(&octets, out, needed)
+}
+
+/// Writes the segment of an index of a text as an SMS-SUBMIT, and tells how many there are.
+#[unsafe(no_mangle)]
+pub extern "C" fn sms_submit_write(
+    alloc: Global,
+    fields: &SubmitFields,
+    target: &[u8],
+    text: &[u8],
+    index: usize,
+    out: &mut [u8],
+    needed: &mut usize,
+    count: &mut usize,
+) -> u32
+    ensures written { result ≡ 0 → WritesSubmit fields.now target.now text.now index
+        out.old out.new needed.new count.new }
+    ensures none { (result ≡ 0 → ⊥) → out.new ≡ out.old }
+{
+    *needed = 0;
+    *count = 0;
+    status_of(put_submit(alloc, *fields, target, text, index, out, needed, count))
+}
+
+/// The octets of a segment as an SMS-DELIVER.
+fn delivered(
+    alloc: Global,
+    fields: DeliverFields,
+    origin: Address,
+    width: Width,
+    segment: &SegmentView,
+) -> Result<Vec<u8>, AllocError>
+    requires sendable { IsSendable width segment.now }
+    requires reference { width ≡ Eight → fields.segments.reference < 256 }
+    ensures { IfOk result (λ octets. SpellsDeliver
+        (seen.delivery fields origin width segment.now) octets.items) }
+{
+    let user = segment.user(alloc, width, fields.segments.reference)?;
+    let deliver = Deliver {
+        more: is_set(fields.more),
+        looped: is_set(fields.looped),
+        report: is_set(fields.report),
+        reply: is_set(fields.reply),
+        origin,
+        pid: fields.pid,
+        dcs: segment.coding_scheme(),
+        stamp: Stamp::new(fields.stamp.octets),
+        user,
+    };
+    deliver.write(alloc)
+}
+
+/// Hands out the segment of an index as an SMS-DELIVER.
+fn put_deliver(
+    alloc: Global,
+    fields: DeliverFields,
+    origin: &[u8],
+    text: &[u8],
+    index: usize,
+    out: &mut [u8],
+    needed: &mut usize,
+    count: &mut usize,
+) -> Result<(), Failure>
+    ensures written { IfOk result (λ _. WritesDeliver fields origin.now text.now index
+        out.old out.new needed.new count.new) }
+    ensures none { OnErr result (out.new ≡ out.old) }
+{
+    let width = width_of(fields.segments)?;
+    let origin = address_of(alloc, origin)?;
+    let segments = segments_of(alloc, text, width)?;
+    *count = segments.len();
+    let Some(segment) = segments.get(index) else {
+        return Err(Failure::NotThere);
+    };
+    let octets = delivered(alloc, fields, origin, width, &segment)?;
+    hand_out(&octets, out, needed)
+}
+
+/// Writes the segment of an index of a text as an SMS-DELIVER, and tells how many there are.
+#[unsafe(no_mangle)]
+pub extern "C" fn sms_deliver_write(
+    alloc: Global,
+    fields: &DeliverFields,
+    origin: &[u8],
+    text: &[u8],
+    index: usize,
+    out: &mut [u8],
+    needed: &mut usize,
+    count: &mut usize,
+) -> u32
+    ensures written { result ≡ 0 → WritesDeliver fields.now origin.now text.now index
+        out.old out.new needed.new count.new }
+    ensures none { (result ≡ 0 → ⊥) → out.new ≡ out.old }
+{
+    *needed = 0;
+    *count = 0;
+    status_of(put_deliver(alloc, *fields, origin, text, index, out, needed, count))
+}
+
+/// Hands out the user data of each segment, one after another, and where each lies.
+fn put_users(
+    alloc: Global,
+    segments: &Segments,
+    width: Width,
+    reference: u16,
+    out: &mut [u8],
+    needed: &mut usize,
+    spans: &mut [Span],
+    dcs: &mut u8,
+) -> Result<(), Failure>
+    requires sendable { All (IsSendable width) segments.now }
+    requires reference { width ≡ Eight → reference < 256 }
+    ensures none { OnErr result (out.new ≡ out.old) }
+{
+    let mut all = Vec::new(alloc);
+    for index in 0..segments.len() {
+        let Some(segment) = segments.get(index) else {
+            break;
+        };
+        *dcs = segment.coding_scheme();
+        let user = segment.write_user(alloc, width, reference)?;
+        if let Some(span) = spans.get_mut(index) {
+            *span = Span {
+                offset: all.len(),
+                length: user.len(),
+            };
+        }
+        all.extend_from_slice(&user)?;
+    }
+    if segments.len() > spans.len() {
+        *needed = all.len();
+        return Err(Failure::NoRoom);
+    }
+    hand_out(&all, out, needed)
+}
+
+/// Cuts a text, and hands out the user data of its segments.
+fn put_split(
+    alloc: Global,
+    reference: Reference,
+    text: &[u8],
+    out: &mut [u8],
+    needed: &mut usize,
+    spans: &mut [Span],
+    count: &mut usize,
+    dcs: &mut u8,
+) -> Result<(), Failure>
+    ensures cut { IfOk result (λ _. IsCutInto reference text.now count.new) }
+    ensures none { OnErr result (out.new ≡ out.old) }
+{
+    let width = width_of(reference)?;
+    let segments = segments_of(alloc, text, width)?;
+    *count = segments.len();
+    put_users(
+        alloc,
+        &segments,
+        width,
+        reference.reference,
+        out,
+        needed,
+        spans,
+        dcs,
+    )
+}
+
+/// Writes the user data of the segments of a text, each with its TP-UDL, one after another.
+#[unsafe(no_mangle)]
+pub extern "C" fn sms_split(
+    alloc: Global,
+    reference: &Reference,
+    text: &[u8],
+    out: &mut [u8],
+    needed: &mut usize,
+    spans: &mut [Span],
+    count: &mut usize,
+    dcs: &mut u8,
+) -> u32
+    ensures cut { result ≡ 0 → IsCutInto reference.now text.now count.new }
+    ensures none { (result ≡ 0 → ⊥) → out.new ≡ out.old }
+{
+    *needed = 0;
+    *count = 0;
+    *dcs = 0;
+    status_of(put_split(alloc, *reference, text, out, needed, spans, count, dcs))
+}

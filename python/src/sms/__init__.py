@@ -1,0 +1,709 @@
+"""Short messages (3GPP TS 23.038, 23.040, 24.011): read, written and joined.
+
+    import sms
+
+    unit = bytes.fromhex("040BC87238880900F10000993092516195800AE8329BFD4697D9EC37")
+    message = sms.Deliver.read(unit)
+    print(message.origin, message.text)
+
+    with sms.Joiner() as joiner:
+        for segment in segments:
+            text = joiner.offer(segment)
+
+What is read is checked by the library, whose answers are proved; a refusal is an exception with the place and the
+reason. Octets are `bytes`, text is `str`, and moments are aware `datetime` values.
+"""
+
+from __future__ import annotations
+
+import enum
+from ctypes import byref, c_size_t, c_uint8, c_uint32, c_uint64
+from dataclasses import dataclass, field
+from datetime import datetime, timedelta, timezone
+from typing import Any, Callable, List, Optional, Union
+
+from . import raw
+
+__all__ = [
+    "Alphabet",
+    "BadAddress",
+    "Closed",
+    "Cp",
+    "Date",
+    "Deliver",
+    "DeliverReport",
+    "Error",
+    "Joiner",
+    "NoMemory",
+    "NotThere",
+    "NotUtf8",
+    "Offer",
+    "OutOfRange",
+    "Place",
+    "Reason",
+    "Refused",
+    "Report",
+    "Rp",
+    "Segment",
+    "Stamp",
+    "Submit",
+    "SubmitReport",
+    "TooLong",
+    "TooManyOpen",
+    "Validity",
+    "split",
+    "wrap",
+    "wrap_answer",
+    "wrap_acknowledgement",
+]
+
+Octets = Union[bytes, bytearray, memoryview]
+
+TEXT_MAX, UNIT_MAX, PACKET_MAX, ADDRESS_TEXT_MAX = 480, 184, 258, 33
+_BEGIN = datetime(2000, 1, 1, tzinfo=timezone.utc)
+
+
+# ---- what is refused
+
+
+class Reason(enum.IntEnum):
+    """Why octets are refused."""
+
+    SHORT = 1
+    WRONG_TYPE = 2
+    ADDRESS_TOO_LONG = 3
+    BAD_DIGIT = 4
+    DATA_TOO_LONG = 5
+    HEADER_TOO_LONG = 6
+    NOT_SMS = 7
+    BAD_TRANSACTION = 8
+    UNKNOWN_TYPE = 9
+    BAD_RELAY_ADDRESS = 10
+    BAD_CAUSE = 11
+
+
+class Error(Exception):
+    """A call of the library did not do what it is for."""
+
+
+class Refused(Error, ValueError):
+    """Octets are refused: `place` is the first octet that cannot stand where it does, from 0, or the number of octets
+    where some are missing (`Reason.SHORT`)."""
+
+    def __init__(self, place: int, reason: Reason):
+        super().__init__(f"at {place}: {reason.name.lower().replace('_', ' ')}")
+        self.place = place
+        self.reason = reason
+
+
+class NoMemory(Error, MemoryError):
+    """Memory ran out; the call may be made again."""
+
+
+class NotUtf8(Error, ValueError):
+    """A text has a lone surrogate, so it has no UTF-8."""
+
+
+class BadAddress(Error, ValueError):
+    """A text is no address: + and digits, digits, or a name of at most 11 septets."""
+
+
+class TooLong(Error, ValueError):
+    """A text wants more than 255 segments, or a unit has more than 233 octets."""
+
+
+class OutOfRange(Error, ValueError):
+    """A value is none of those that may be given."""
+
+
+class NotThere(Error, LookupError):
+    """There is no such text, moment or end."""
+
+
+class TooManyOpen(Error):
+    """As many messages are open as may be; the joiner is as it was."""
+
+
+class Closed(Error, ValueError):
+    """The joiner is closed."""
+
+
+_ERRORS = {
+    2: NoMemory,
+    4: NotUtf8,
+    5: BadAddress,
+    6: TooLong,
+    7: OutOfRange,
+    8: NotThere,
+    9: TooManyOpen,
+    10: Closed,
+}
+_OK, _REFUSED, _NO_ROOM = 0, 1, 3
+
+
+def _raise(status: int, refused: Optional[raw.Refused] = None) -> None:
+    if status == _OK:
+        return
+    if status == _REFUSED and refused is not None:
+        raise Refused(refused.place, Reason(refused.reason))
+    if status in _ERRORS:
+        raise _ERRORS[status]()
+    raise Error(f"status {status}")
+
+
+def _read(call: Callable[..., int], octets: bytes, seen: Any) -> Any:
+    refused = raw.Refused()
+    _raise(call(octets, len(octets), byref(seen), byref(refused)), refused)
+    return seen
+
+
+def _answer(room: int, call: Callable[..., int], *given: Any, after: tuple = ()) -> bytes:
+    """What a call of the form (.., out, room, needed, ..) writes, with room made where it wants more."""
+    while True:
+        out, needed = (c_uint8 * max(room, 1))(), c_size_t()
+        status = call(*given, out, room, byref(needed), *after)
+        if status == _NO_ROOM and needed.value > room:
+            room = needed.value
+            continue
+        _raise(status)
+        return bytes(memoryview(out)[: needed.value])
+
+
+def _at(octets: bytes, span: raw.Span) -> bytes:
+    return octets[span.offset : span.offset + span.length]
+
+
+def _utf8(text: str) -> bytes:
+    try:
+        return text.encode()
+    except UnicodeEncodeError:
+        raise NotUtf8() from None
+
+
+def _seconds(moment: datetime) -> int:
+    if moment.tzinfo is None:
+        raise OutOfRange("a moment has a time zone")
+    seconds = (moment - _BEGIN) // timedelta(seconds=1)
+    if seconds < 0:
+        raise OutOfRange("a moment does not lie before 2000")
+    return seconds
+
+
+# ---- parts
+
+
+class Alphabet(enum.IntEnum):
+    """How user data are spelled."""
+
+    GSM7 = 0
+    EIGHT_BIT = 1
+    UCS2 = 2
+    COMPRESSED = 3
+
+
+@dataclass(frozen=True)
+class Place:
+    """A segment's place in its message: information element 00 (width 8) or 08 (width 16)."""
+
+    width: int
+    reference: int
+    maximum: int
+    sequence: int
+
+
+@dataclass(frozen=True)
+class Date:
+    """The local date and time of a stamp; `quarters` is its zone, in quarters of an hour east of UTC."""
+
+    year: int
+    month: int
+    day: int
+    hour: int
+    minute: int
+    second: int
+    quarters: int
+
+
+@dataclass(frozen=True)
+class Stamp:
+    """TP-SCTS: seven octets, as they came, which need not be a date."""
+
+    octets: bytes
+
+    def __post_init__(self) -> None:
+        if len(self.octets) != 7:
+            raise OutOfRange("a stamp has seven octets")
+
+    def _raw(self) -> raw.Stamp:
+        return raw.Stamp.from_buffer_copy(self.octets)
+
+    @property
+    def date(self) -> Optional[Date]:
+        """The date that the octets say; None where they say none."""
+        date = raw.Date()
+        if raw.lib.sms_stamp_date(byref(self._raw()), byref(date)) != _OK:
+            return None
+        return Date(*(getattr(date, name) for name, _ in raw.Date._fields_))
+
+    @property
+    def moment(self) -> Optional[datetime]:
+        """The moment, in UTC; None where the octets are no date, or lie before 2000."""
+        seconds = c_uint64()
+        if raw.lib.sms_stamp_moment(byref(self._raw()), byref(seconds)) != _OK:
+            return None
+        return _BEGIN + timedelta(seconds=seconds.value)
+
+    @classmethod
+    def at(cls, moment: datetime) -> Stamp:
+        """The stamp of a moment, told in its zone."""
+        seconds, stamp = _seconds(moment), raw.Stamp()
+        offset = moment.utcoffset() or timedelta()
+        quarters, rest = divmod(offset, timedelta(minutes=15))
+        if rest or not -79 <= quarters <= 79:
+            raise OutOfRange("a zone is told in quarters of an hour, -79 to 79")
+        _raise(raw.lib.sms_stamp_at(seconds, quarters, byref(stamp)))
+        return cls(bytes(stamp.octets))
+
+
+@dataclass(frozen=True)
+class Validity:
+    """TP-VP. Formats: 0 absent, 1 relative (one octet), 2 enhanced, 3 absolute (seven octets)."""
+
+    format: int = 0
+    octets: bytes = b""
+
+    def _raw(self) -> raw.Validity:
+        if not 0 <= self.format <= 3 or len(self.octets) != (0, 1, 7, 7)[self.format]:
+            raise OutOfRange("a validity period has one octet (1), seven (2, 3) or none (0)")
+        return raw.Validity.from_buffer_copy(bytes([self.format]) + self.octets.ljust(7, b"\0"))
+
+    def end(self, accepted: datetime) -> datetime:
+        """When it ends, of a message that was accepted at a moment."""
+        end = c_uint64()
+        _raise(raw.lib.sms_validity_end(byref(self._raw()), _seconds(accepted), byref(end)))
+        return _BEGIN + timedelta(seconds=end.value)
+
+    @classmethod
+    def relative(cls, octet: int) -> Validity:
+        if not 0 <= octet <= 255:
+            raise OutOfRange("a relative validity period is one octet")
+        return cls(1, bytes([octet]))
+
+    @classmethod
+    def absolute(cls, stamp: Stamp) -> Validity:
+        return cls(3, stamp.octets)
+
+
+@dataclass(frozen=True)
+class _Unit:
+    """What SMS-DELIVER and SMS-SUBMIT have both."""
+
+    octets: bytes = field(repr=False)
+    used: int
+    pid: int
+    dcs: int
+    alphabet: Alphabet
+    length: int
+    header: Optional[bytes]
+    body: bytes
+    place: Optional[Place]
+    _user: raw.User = field(repr=False, compare=False)
+
+    @property
+    def text(self) -> str:
+        """The text of the user data; NotThere where they are none (8-bit, compressed)."""
+        out = _answer(TEXT_MAX, raw.lib.sms_user_text, self.octets, len(self.octets), byref(self._user))
+        return out.decode()
+
+
+def _common(octets: bytes, seen: Any) -> dict:
+    user, place = seen.user, seen.user.place
+    return {
+        "octets": octets,
+        "used": seen.used,
+        "pid": seen.pid,
+        "dcs": seen.dcs,
+        "alphabet": Alphabet(user.alphabet),
+        "length": user.length,
+        "header": _at(octets, user.header) if user.has_header else None,
+        "body": _at(octets, user.body),
+        "place": Place(place.width, place.reference, place.maximum, place.sequence) if place.width else None,
+        "_user": user,
+    }
+
+
+def _address(octets: bytes, address: raw.Address) -> str:
+    return _answer(ADDRESS_TEXT_MAX, raw.lib.sms_address_text, octets, len(octets), byref(address)).decode()
+
+
+def _segments(call: Callable[..., int], fields: Any, address: str, text: str) -> List[bytes]:
+    """Each segment of a text as a unit."""
+    to, octets, count, units = _utf8(address), _utf8(text), c_size_t(1), []
+    while len(units) < count.value:
+        given = byref(fields), to, len(to), octets, len(octets), len(units)
+        units.append(_answer(UNIT_MAX, call, *given, after=(byref(count),)))
+    return units
+
+
+@dataclass(frozen=True)
+class Deliver(_Unit):
+    """SMS-DELIVER: a message on its way from a centre to a phone (3GPP TS 23.040, 9.2.2.1)."""
+
+    origin: str
+    type_of_number: int
+    plan: int
+    more: bool
+    looped: bool
+    report: bool
+    reply: bool
+    stamp: Stamp
+
+    @classmethod
+    def read(cls, octets: Octets) -> Deliver:
+        """Reads the unit at the front of the octets, of which it takes `used`; raises `Refused`."""
+        octets = bytes(octets)
+        seen = _read(raw.lib.sms_deliver_read, octets, raw.Deliver())
+        return cls(
+            **_common(octets, seen),
+            origin=_address(octets, seen.origin),
+            type_of_number=seen.origin.type_of_number,
+            plan=seen.origin.plan,
+            more=bool(seen.more),
+            looped=bool(seen.looped),
+            report=bool(seen.report),
+            reply=bool(seen.reply),
+            stamp=Stamp(bytes(seen.stamp.octets)),
+        )
+
+    @staticmethod
+    def write(
+        origin: str,
+        text: str,
+        stamp: Stamp,
+        *,
+        reference: int = 0,
+        width: int = 8,
+        more: bool = False,
+        looped: bool = False,
+        report: bool = False,
+        reply: bool = False,
+        pid: int = 0,
+    ) -> List[bytes]:
+        """The text as units: one, or a segment each."""
+        fields = raw.DeliverFields(
+            segments=_reference(reference, width),
+            more=more,
+            looped=looped,
+            report=report,
+            reply=reply,
+            pid=_octet(pid),
+            stamp=stamp._raw(),
+        )
+        return _segments(raw.lib.sms_deliver_write, fields, origin, text)
+
+
+@dataclass(frozen=True)
+class Submit(_Unit):
+    """SMS-SUBMIT: a message on its way from a phone to a centre (3GPP TS 23.040, 9.2.2.2)."""
+
+    target: str
+    type_of_number: int
+    plan: int
+    reject: bool
+    report: bool
+    reply: bool
+    reference: int
+    validity: Validity
+
+    @classmethod
+    def read(cls, octets: Octets) -> Submit:
+        """Reads the unit at the front of the octets, of which it takes `used`; raises `Refused`."""
+        octets = bytes(octets)
+        seen = _read(raw.lib.sms_submit_read, octets, raw.Submit())
+        period = seen.validity
+        return cls(
+            **_common(octets, seen),
+            target=_address(octets, seen.target),
+            type_of_number=seen.target.type_of_number,
+            plan=seen.target.plan,
+            reject=bool(seen.reject),
+            report=bool(seen.report),
+            reply=bool(seen.reply),
+            reference=seen.reference,
+            validity=Validity(period.format, bytes(period.octets)[: (0, 1, 7, 7)[period.format]]),
+        )
+
+    @staticmethod
+    def write(
+        target: str,
+        text: str,
+        *,
+        reference: int = 0,
+        width: int = 8,
+        message_reference: int = 0,
+        validity: Validity = Validity(),
+        reject: bool = False,
+        report: bool = False,
+        reply: bool = False,
+        pid: int = 0,
+    ) -> List[bytes]:
+        """The text as units: one, or a segment each. TP-MR is the same in all."""
+        fields = raw.SubmitFields(
+            segments=_reference(reference, width),
+            reject=reject,
+            report=report,
+            reply=reply,
+            reference=_octet(message_reference),
+            pid=_octet(pid),
+            validity=validity._raw(),
+        )
+        return _segments(raw.lib.sms_submit_write, fields, target, text)
+
+
+def _reference(reference: int, width: int) -> raw.Reference:
+    if width not in (8, 16) or not 0 <= reference < 2**width:
+        raise OutOfRange("a reference has 8 or 16 bits")
+    return raw.Reference(width, reference)
+
+
+def _octet(value: int) -> int:
+    if not 0 <= value <= 255:
+        raise OutOfRange("an octet is 0 to 255")
+    return value
+
+
+@dataclass(frozen=True)
+class Report:
+    """SMS-DELIVER-REPORT or SMS-SUBMIT-REPORT (3GPP TS 23.040, 9.2.2.1a and 9.2.2.2a)."""
+
+    used: int
+    has_header: bool
+    cause: Optional[int]
+    stamp: Optional[Stamp]
+    pid: Optional[int]
+    dcs: Optional[int]
+    data: Optional[bytes]
+    length: int
+    alphabet: Alphabet
+
+
+def _report(call: Callable[..., int], octets: Octets) -> Report:
+    octets = bytes(octets)
+    seen = _read(call, octets, raw.Report())
+    return Report(
+        used=seen.used,
+        has_header=bool(seen.has_header),
+        cause=seen.cause if seen.has_cause else None,
+        stamp=Stamp(bytes(seen.stamp.octets)) if seen.has_stamp else None,
+        pid=seen.pid if seen.has_pid else None,
+        dcs=seen.dcs if seen.has_dcs else None,
+        data=_at(octets, seen.data) if seen.has_data else None,
+        length=seen.length,
+        alphabet=Alphabet(seen.alphabet),
+    )
+
+
+class DeliverReport:
+    """Readers of SMS-DELIVER-REPORT."""
+
+    @staticmethod
+    def read_ack(octets: Octets) -> Report:
+        """As it stands in an RP-ACK."""
+        return _report(raw.lib.sms_deliver_ack_read, octets)
+
+    @staticmethod
+    def read_error(octets: Octets) -> Report:
+        """As it stands in an RP-ERROR."""
+        return _report(raw.lib.sms_deliver_error_read, octets)
+
+
+class SubmitReport:
+    """Readers of SMS-SUBMIT-REPORT."""
+
+    @staticmethod
+    def read_ack(octets: Octets) -> Report:
+        """As it stands in an RP-ACK."""
+        return _report(raw.lib.sms_submit_ack_read, octets)
+
+    @staticmethod
+    def read_error(octets: Octets) -> Report:
+        """As it stands in an RP-ERROR."""
+        return _report(raw.lib.sms_submit_error_read, octets)
+
+
+# ---- packets
+
+
+@dataclass(frozen=True)
+class Cp:
+    """A message of the connection (3GPP TS 24.011, 7.2): `kind` is "data", "ack" or "error"."""
+
+    used: int
+    flag: bool
+    value: int
+    kind: str
+    user: Optional[bytes]
+    cause: Optional[int]
+
+    @classmethod
+    def read(cls, octets: Octets) -> Cp:
+        octets = bytes(octets)
+        seen = _read(raw.lib.sms_cp_read, octets, raw.Cp())
+        return cls(
+            used=seen.used,
+            flag=bool(seen.flag),
+            value=seen.value,
+            kind=("data", "ack", "error")[seen.kind],
+            user=_at(octets, seen.user) if seen.kind == 0 else None,
+            cause=seen.cause if seen.kind == 2 else None,
+        )
+
+
+@dataclass(frozen=True)
+class Rp:
+    """A message of the relay (3GPP TS 24.011, 7.3): `kind` is "data", "ack" or "error"."""
+
+    used: int
+    to_phone: bool
+    reference: int
+    kind: str
+    address: Optional[bytes]
+    user: Optional[bytes]
+    cause: Optional[int]
+    diagnostic: Optional[int]
+
+    @classmethod
+    def read(cls, octets: Octets) -> Rp:
+        octets = bytes(octets)
+        seen = _read(raw.lib.sms_rp_read, octets, raw.Rp())
+        return cls(
+            used=seen.used,
+            to_phone=seen.side == 1,
+            reference=seen.reference,
+            kind=("data", "ack", "error")[seen.kind],
+            address=_at(octets, seen.address) if seen.has_address else None,
+            user=_at(octets, seen.user) if seen.has_user else None,
+            cause=seen.cause if seen.kind == 2 else None,
+            diagnostic=seen.diagnostic if seen.has_diagnostic else None,
+        )
+
+
+def _envelope(flag: bool, value: int, to_phone: bool, reference: int) -> raw.Envelope:
+    if not 0 <= value <= 6:
+        raise OutOfRange("a transaction's value is 0 to 6")
+    return raw.Envelope(bool(flag), value, bool(to_phone), _octet(reference))
+
+
+def wrap(unit: Octets, *, flag: bool, value: int, to_phone: bool, reference: int, centre: str = "") -> bytes:
+    """A CP-DATA around an RP-DATA around the octets of a unit, at most 233, which are not looked at."""
+    unit, address = bytes(unit), _utf8(centre)
+    envelope = _envelope(flag, value, to_phone, reference)
+    given = byref(envelope), address, len(address), unit, len(unit)
+    return _answer(PACKET_MAX, raw.lib.sms_wrap_data, *given)
+
+
+def wrap_answer(
+    unit: Octets = b"", *, flag: bool, value: int, to_phone: bool, reference: int, cause: Optional[int] = None
+) -> bytes:
+    """A CP-DATA around an RP-ACK, or with a cause (0 to 127) an RP-ERROR, and a unit if it has one."""
+    unit = bytes(unit)
+    envelope = _envelope(flag, value, to_phone, reference)
+    if cause is None:
+        return _answer(PACKET_MAX, raw.lib.sms_wrap_ack, byref(envelope), unit, len(unit))
+    return _answer(PACKET_MAX, raw.lib.sms_wrap_error, byref(envelope), _octet(cause), unit, len(unit))
+
+
+def wrap_acknowledgement(*, flag: bool, value: int, cause: Optional[int] = None) -> bytes:
+    """A CP-ACK, or with a cause a CP-ERROR."""
+    envelope = _envelope(flag, value, False, 0)
+    if cause is None:
+        return _answer(PACKET_MAX, raw.lib.sms_cp_ack, byref(envelope))
+    return _answer(PACKET_MAX, raw.lib.sms_cp_error, byref(envelope), _octet(cause))
+
+
+# ---- texts cut, and segments joined
+
+
+@dataclass(frozen=True)
+class Segment:
+    """The user data of a segment, from TP-UDL on, and the TP-DCS under which they are sent."""
+
+    octets: bytes
+    dcs: int
+
+
+def split(text: str, *, reference: int = 0, width: int = 8) -> List[Segment]:
+    """The text cut into segments: septets where the 7-bit alphabet has all its letters, else UCS-2."""
+    octets, told = _utf8(text), _reference(reference, width)
+    spans, count, dcs = (raw.Span * 255)(), c_size_t(), c_uint8()
+    given = byref(told), octets, len(octets)
+    out = _answer(1024, raw.lib.sms_split, *given, after=(spans, 255, byref(count), byref(dcs)))
+    return [Segment(_at(out, span), dcs.value) for span in spans[: count.value]]
+
+
+class Offer(enum.IntEnum):
+    """What becomes of a segment that is offered."""
+
+    REPEAT = 0
+    KEPT = 1
+    FINISHED = 2
+
+
+class Joiner:
+    """Joins segments, whichever way they come, to texts, each once.
+
+    At most `open_max` messages at a time are not whole, and so many finished ones are remembered, so that none finishes
+    twice. One call at a time; any thread.
+    """
+
+    def __init__(self, open_max: int = 1024, remembered: int = 4096):
+        self._handle = raw.Joiner()
+        if open_max < 1 or remembered < 1:
+            raise OutOfRange("both limits are from 1 on")
+        _raise(raw.lib.sms_joiner_open(byref(self._handle), open_max, remembered))
+
+    def offer(self, octets: Octets, at: Optional[datetime] = None) -> Optional[str]:
+        """Offers an SMS-DELIVER that came at a moment (now, if none is given): the text where it finishes its message.
+        None where others are missing, or it is a repeat; `outcome` tells which."""
+        return self._text() if self.outcome(octets, at) == Offer.FINISHED else None
+
+    def outcome(self, octets: Octets, at: Optional[datetime] = None) -> Offer:
+        """As `offer`, but what becomes of the segment; `text` is then the text that finished last."""
+        octets, outcome, refused = bytes(octets), c_uint32(), raw.Refused()
+        seconds = _seconds(at or datetime.now(timezone.utc))
+        given = byref(self._handle), seconds, octets, len(octets)
+        _raise(raw.lib.sms_joiner_offer(*given, byref(outcome), byref(refused)), refused)
+        return Offer(outcome.value)
+
+    @property
+    def text(self) -> str:
+        """The text that finished last; empty before one did."""
+        return self._text()
+
+    def would_finish(self, octets: Octets) -> bool:
+        """Whether an SMS-DELIVER would finish its message; nothing changes."""
+        octets, answer, refused = bytes(octets), c_uint8(), raw.Refused()
+        given = byref(self._handle), octets, len(octets)
+        _raise(raw.lib.sms_joiner_would_finish(*given, byref(answer), byref(refused)), refused)
+        return answer.value == 1
+
+    def age(self, at: Optional[datetime] = None) -> None:
+        """Drops the messages whose first segment came a week before the moment, or earlier."""
+        _raise(raw.lib.sms_joiner_age(byref(self._handle), _seconds(at or datetime.now(timezone.utc))))
+
+    def close(self) -> None:
+        """Frees what it holds; a closed one stays so."""
+        raw.lib.sms_joiner_close(byref(self._handle))
+
+    def _text(self) -> str:
+        return _answer(TEXT_MAX, raw.lib.sms_joiner_text, byref(self._handle)).decode()
+
+    def __enter__(self) -> Joiner:
+        return self
+
+    def __exit__(self, *_: object) -> None:
+        self.close()
+
+    def __del__(self) -> None:
+        if hasattr(self, "_handle"):
+            self.close()

@@ -1,0 +1,266 @@
+"""The structs and calls of sms.h, by ctypes. `sms` is the package to use."""
+
+from __future__ import annotations
+
+import ctypes
+import os
+from ctypes import POINTER, Structure, c_char_p, c_int8, c_size_t, c_uint8, c_uint16, c_uint32, c_uint64, c_void_p
+from pathlib import Path
+
+
+class Span(Structure):
+    _fields_ = [("offset", c_size_t), ("length", c_size_t)]
+
+
+class Refused(Structure):
+    _fields_ = [("place", c_size_t), ("reason", c_uint32)]
+
+
+class Address(Structure):
+    _fields_ = [("octets", Span), ("type_of_number", c_uint8), ("plan", c_uint8)]
+
+
+class Place(Structure):
+    _fields_ = [("width", c_uint16), ("reference", c_uint16), ("maximum", c_uint8), ("sequence", c_uint8)]
+
+
+class User(Structure):
+    _fields_ = [
+        ("header", Span),
+        ("body", Span),
+        ("place", Place),
+        ("length", c_uint8),
+        ("alphabet", c_uint8),
+        ("has_header", c_uint8),
+        ("fill", c_uint8),
+        ("count", c_uint8),
+    ]
+
+
+class Stamp(Structure):
+    _fields_ = [("octets", c_uint8 * 7)]
+
+
+class Validity(Structure):
+    _fields_ = [("format", c_uint8), ("octets", c_uint8 * 7)]
+
+
+class Date(Structure):
+    _fields_ = [
+        ("year", c_uint16),
+        ("month", c_uint8),
+        ("day", c_uint8),
+        ("hour", c_uint8),
+        ("minute", c_uint8),
+        ("second", c_uint8),
+        ("quarters", c_int8),
+    ]
+
+
+class Deliver(Structure):
+    _fields_ = [
+        ("origin", Address),
+        ("user", User),
+        ("used", c_size_t),
+        ("more", c_uint8),
+        ("looped", c_uint8),
+        ("report", c_uint8),
+        ("reply", c_uint8),
+        ("pid", c_uint8),
+        ("dcs", c_uint8),
+        ("stamp", Stamp),
+    ]
+
+
+class Submit(Structure):
+    _fields_ = [
+        ("target", Address),
+        ("user", User),
+        ("used", c_size_t),
+        ("reject", c_uint8),
+        ("report", c_uint8),
+        ("reply", c_uint8),
+        ("reference", c_uint8),
+        ("pid", c_uint8),
+        ("dcs", c_uint8),
+        ("validity", Validity),
+    ]
+
+
+class Report(Structure):
+    _fields_ = [
+        ("data", Span),
+        ("used", c_size_t),
+        ("has_header", c_uint8),
+        ("has_cause", c_uint8),
+        ("cause", c_uint8),
+        ("has_stamp", c_uint8),
+        ("stamp", Stamp),
+        ("has_pid", c_uint8),
+        ("pid", c_uint8),
+        ("has_dcs", c_uint8),
+        ("dcs", c_uint8),
+        ("has_data", c_uint8),
+        ("length", c_uint8),
+        ("alphabet", c_uint8),
+    ]
+
+
+class Cp(Structure):
+    _fields_ = [
+        ("user", Span),
+        ("used", c_size_t),
+        ("flag", c_uint8),
+        ("value", c_uint8),
+        ("kind", c_uint8),
+        ("cause", c_uint8),
+    ]
+
+
+class Rp(Structure):
+    _fields_ = [
+        ("address", Span),
+        ("user", Span),
+        ("used", c_size_t),
+        ("side", c_uint8),
+        ("reference", c_uint8),
+        ("kind", c_uint8),
+        ("has_address", c_uint8),
+        ("has_user", c_uint8),
+        ("cause", c_uint8),
+        ("has_diagnostic", c_uint8),
+        ("diagnostic", c_uint8),
+    ]
+
+
+class Envelope(Structure):
+    _fields_ = [("flag", c_uint8), ("value", c_uint8), ("side", c_uint8), ("reference", c_uint8)]
+
+
+class Reference(Structure):
+    _fields_ = [("width", c_uint16), ("reference", c_uint16)]
+
+
+class SubmitFields(Structure):
+    _fields_ = [
+        ("segments", Reference),
+        ("reject", c_uint8),
+        ("report", c_uint8),
+        ("reply", c_uint8),
+        ("reference", c_uint8),
+        ("pid", c_uint8),
+        ("validity", Validity),
+    ]
+
+
+class DeliverFields(Structure):
+    _fields_ = [
+        ("segments", Reference),
+        ("more", c_uint8),
+        ("looped", c_uint8),
+        ("report", c_uint8),
+        ("reply", c_uint8),
+        ("pid", c_uint8),
+        ("stamp", Stamp),
+    ]
+
+
+class Joiner(Structure):
+    _fields_ = [("open", c_uint32), ("inside", c_void_p)]
+
+
+# The structs by their names in sms.h.
+STRUCTS = {
+    "sms_refused": Refused,
+    "sms_span": Span,
+    "sms_address": Address,
+    "sms_place": Place,
+    "sms_user": User,
+    "sms_stamp": Stamp,
+    "sms_validity": Validity,
+    "sms_date": Date,
+    "sms_deliver": Deliver,
+    "sms_submit": Submit,
+    "sms_report": Report,
+    "sms_cp": Cp,
+    "sms_rp": Rp,
+    "sms_envelope": Envelope,
+    "sms_reference": Reference,
+    "sms_submit_fields": SubmitFields,
+    "sms_deliver_fields": DeliverFields,
+    "sms_joiner": Joiner,
+}
+
+_IN = [c_char_p, c_size_t]
+_OUT = [POINTER(c_uint8), c_size_t, POINTER(c_size_t)]
+_REFUSED = POINTER(Refused)
+_ENVELOPE = POINTER(Envelope)
+_JOINER = POINTER(Joiner)
+
+# The parameters of each call, as sms.h declares them.
+CALLS = {
+    "sms_deliver_read": [*_IN, POINTER(Deliver), _REFUSED],
+    "sms_submit_read": [*_IN, POINTER(Submit), _REFUSED],
+    "sms_deliver_ack_read": [*_IN, POINTER(Report), _REFUSED],
+    "sms_deliver_error_read": [*_IN, POINTER(Report), _REFUSED],
+    "sms_submit_ack_read": [*_IN, POINTER(Report), _REFUSED],
+    "sms_submit_error_read": [*_IN, POINTER(Report), _REFUSED],
+    "sms_address_text": [*_IN, POINTER(Address), *_OUT],
+    "sms_user_text": [*_IN, POINTER(User), *_OUT],
+    "sms_stamp_date": [POINTER(Stamp), POINTER(Date)],
+    "sms_stamp_moment": [POINTER(Stamp), POINTER(c_uint64)],
+    "sms_stamp_at": [c_uint64, c_int8, POINTER(Stamp)],
+    "sms_validity_end": [POINTER(Validity), c_uint64, POINTER(c_uint64)],
+    "sms_cp_read": [*_IN, POINTER(Cp), _REFUSED],
+    "sms_rp_read": [*_IN, POINTER(Rp), _REFUSED],
+    "sms_wrap_data": [_ENVELOPE, *_IN, *_IN, *_OUT],
+    "sms_wrap_ack": [_ENVELOPE, *_IN, *_OUT],
+    "sms_wrap_error": [_ENVELOPE, c_uint8, *_IN, *_OUT],
+    "sms_cp_ack": [_ENVELOPE, *_OUT],
+    "sms_cp_error": [_ENVELOPE, c_uint8, *_OUT],
+    "sms_submit_write": [POINTER(SubmitFields), *_IN, *_IN, c_size_t, *_OUT, POINTER(c_size_t)],
+    "sms_deliver_write": [POINTER(DeliverFields), *_IN, *_IN, c_size_t, *_OUT, POINTER(c_size_t)],
+    "sms_split": [
+        POINTER(Reference),
+        *_IN,
+        *_OUT,
+        POINTER(Span),
+        c_size_t,
+        POINTER(c_size_t),
+        POINTER(c_uint8),
+    ],
+    "sms_joiner_open": [_JOINER, c_size_t, c_size_t],
+    "sms_joiner_close": [_JOINER],
+    "sms_joiner_offer": [_JOINER, c_uint64, *_IN, POINTER(c_uint32), _REFUSED],
+    "sms_joiner_text": [_JOINER, *_OUT],
+    "sms_joiner_would_finish": [_JOINER, *_IN, POINTER(c_uint8), _REFUSED],
+    "sms_joiner_age": [_JOINER, c_uint64],
+}
+
+
+def _path() -> str:
+    """The shared library: SMS_LIBRARY names it, or it lies beside this file, or the loader finds it."""
+    beside = Path(__file__).with_name("libsms.so.1")
+    return os.environ.get("SMS_LIBRARY") or (str(beside) if beside.is_file() else "libsms.so.1")
+
+
+def _loaded() -> ctypes.CDLL:
+    loaded = ctypes.CDLL(_path())
+    for name, parameters in CALLS.items():
+        call = getattr(loaded, name)
+        call.argtypes, call.restype = parameters, None if name == "sms_joiner_close" else c_uint32
+    return loaded
+
+
+lib = _loaded()
+
+
+def layout() -> list[str]:
+    """A line for each struct, its size, and for each field its offset and size."""
+    lines = []
+    for name, struct in STRUCTS.items():
+        lines.append(f"{name} {ctypes.sizeof(struct)}")
+        for field, _ in struct._fields_:
+            told = getattr(struct, field)
+            lines.append(f"{name}.{field} {told.offset} {told.size}")
+    return lines

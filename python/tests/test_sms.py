@@ -1,0 +1,143 @@
+"""What the package promises: python3 -m unittest discover -s python/tests, with SMS_LIBRARY and PYTHONPATH=python/src."""
+
+import threading
+import unittest
+from datetime import datetime, timedelta, timezone
+
+import sms
+
+HELLO = bytes.fromhex("040BC87238880900F10000993092516195800AE8329BFD4697D9EC37")
+STAMP = sms.Stamp(bytes.fromhex("99309251619580"))
+LONG = "".join(chr(ord("a") + i % 26) for i in range(200))
+NOW = datetime(2024, 2, 29, 12, 0, tzinfo=timezone.utc)
+
+
+class Readers(unittest.TestCase):
+    def test_deliver(self):
+        message = sms.Deliver.read(HELLO)
+        self.assertEqual((message.origin, message.text, message.used), ("27838890001", "hellohello", 28))
+        self.assertEqual((message.type_of_number, message.plan, message.alphabet), (4, 8, sms.Alphabet.GSM7))
+        self.assertEqual((message.body, message.header, message.place), (HELLO[19:], None, None))
+        self.assertEqual(message.stamp.date, sms.Date(2099, 3, 29, 15, 16, 59, 8))
+        self.assertEqual(message.stamp.moment, datetime(2099, 3, 29, 13, 16, 59, tzinfo=timezone.utc))
+        self.assertEqual(sms.Deliver.read(memoryview(HELLO + b"more")).used, 28)
+
+    def test_each_front_is_refused_at_its_end(self):
+        for front in range(len(HELLO)):
+            with self.assertRaises(sms.Refused) as refused:
+                sms.Deliver.read(HELLO[:front])
+            self.assertEqual((refused.exception.place, refused.exception.reason), (front, sms.Reason.SHORT))
+
+    def test_what_is_refused_is_said(self):
+        with self.assertRaisesRegex(sms.Refused, "^at 0: wrong type$"):
+            sms.Submit.read(HELLO)
+        with self.assertRaisesRegex(sms.Refused, "^at 18: data too long$"):
+            sms.Deliver.read(bytes.fromhex("040BC87238880900F1000099309251619580A1"))
+
+    def test_reports(self):
+        report = sms.DeliverReport.read_ack(bytes.fromhex("0007000003616263"))
+        self.assertEqual((report.pid, report.dcs, report.length), (0, 0, 3))
+        self.assertEqual((report.data, report.cause, report.stamp), (b"abc", None, None))
+        report = sms.SubmitReport.read_error(bytes.fromhex("01D60030217251409080"))
+        self.assertEqual((report.cause, report.data), (0xD6, None))
+        self.assertEqual(report.stamp, sms.Stamp(bytes.fromhex("30217251409080")))
+
+
+class Writers(unittest.TestCase):
+    def test_submit_comes_back(self):
+        (unit,) = sms.Submit.write("+46708251358", "hellohello", validity=sms.Validity.relative(170))
+        self.assertEqual(unit.hex().upper(), "11000B916407281553F80000AA0AE8329BFD4697D9EC37")
+        message = sms.Submit.read(unit)
+        self.assertEqual((message.target, message.text), ("+46708251358", "hellohello"))
+        self.assertEqual(message.validity.end(NOW), NOW + timedelta(days=4))
+
+    def test_segments_tell_their_place(self):
+        units = sms.Deliver.write("12345", LONG, STAMP, reference=42)
+        places = [sms.Deliver.read(unit).place for unit in units]
+        self.assertEqual(places, [sms.Place(8, 42, 2, 1), sms.Place(8, 42, 2, 2)])
+
+    def test_split(self):
+        segments = sms.split("a" * 161, reference=7)
+        self.assertEqual([len(it.octets) for it in segments], [141, 15])
+        self.assertTrue(segments[0].octets.hex().upper().startswith("A0050003070201C2E170381C0E87C3E170381C0E87C3"))
+        self.assertEqual([it.dcs for it in sms.split("\u0416" * 71, width=16)], [8, 8])
+        self.assertEqual(len(sms.split("a" * 39015)), 255)
+
+    def test_what_is_refused(self):
+        cases = [
+            (sms.BadAddress, lambda: sms.Submit.write("+12x", "")),
+            (sms.NotUtf8, lambda: sms.split("\ud800")),
+            (sms.TooLong, lambda: sms.split("a" * 39016)),
+            (sms.OutOfRange, lambda: sms.split("", reference=256)),
+            (sms.OutOfRange, lambda: sms.Joiner(0, 1)),
+            (sms.OutOfRange, lambda: sms.Stamp.at(datetime(1999, 12, 31, tzinfo=timezone.utc))),
+            (sms.OutOfRange, lambda: sms.Validity(1, b"").end(NOW)),
+            (sms.NotThere, lambda: sms.Validity(2, bytes(7)).end(NOW)),
+        ]
+        for error, call in cases:
+            with self.subTest(error=error), self.assertRaises(error):
+                call()
+
+
+class Packets(unittest.TestCase):
+    def test_wrapped_and_read(self):
+        packet = sms.wrap(HELLO, flag=False, value=3, to_phone=True, reference=9, centre="+1234")
+        cp = sms.Cp.read(packet)
+        rp = sms.Rp.read(cp.user)
+        self.assertEqual((cp.kind, cp.flag, cp.value, cp.used), ("data", False, 3, len(packet)))
+        self.assertEqual((rp.kind, rp.to_phone, rp.reference, rp.user), ("data", True, 9, HELLO))
+        self.assertEqual(rp.address, bytes.fromhex("03912143"))
+        answer = sms.wrap_answer(flag=True, value=3, to_phone=False, reference=9, cause=22)
+        rp = sms.Rp.read(sms.Cp.read(answer).user)
+        self.assertEqual((rp.kind, rp.cause, rp.diagnostic, rp.user), ("error", 22, None, None))
+        self.assertEqual(sms.Cp.read(sms.wrap_acknowledgement(flag=True, value=3)).kind, "ack")
+        self.assertEqual(sms.Cp.read(sms.wrap_acknowledgement(flag=True, value=3, cause=97)).cause, 97)
+
+
+class Stamps(unittest.TestCase):
+    def test_there_and_back(self):
+        for hours in (-12, 0, 14):
+            moment = NOW.astimezone(timezone(timedelta(hours=hours)))
+            stamp = sms.Stamp.at(moment)
+            self.assertEqual((stamp.moment, stamp.date.quarters), (NOW, 4 * hours))
+        self.assertIsNone(sms.Stamp(bytes([0xFF] * 7)).moment)
+
+
+class Joins(unittest.TestCase):
+    def test_in_any_order_once(self):
+        first, second = sms.Deliver.write("12345", LONG, STAMP, reference=42)
+        with sms.Joiner(1, 8) as joiner:
+            self.assertIsNone(joiner.offer(second, NOW))
+            self.assertEqual(joiner.outcome(second, NOW), sms.Offer.REPEAT)
+            self.assertTrue(joiner.would_finish(first))
+            self.assertFalse(joiner.would_finish(second))
+            other = sms.Deliver.write("12345", LONG, STAMP, reference=43)[0]
+            with self.assertRaises(sms.TooManyOpen):
+                joiner.offer(other, NOW)
+            self.assertEqual(joiner.offer(first, NOW), LONG)
+            self.assertIsNone(joiner.offer(first, NOW))
+            self.assertEqual(joiner.text, LONG)
+            self.assertEqual(joiner.outcome(other, NOW), sms.Offer.KEPT)
+            joiner.age(NOW + timedelta(days=7))
+            self.assertEqual(joiner.outcome(other, NOW), sms.Offer.KEPT)
+        with self.assertRaises(sms.Closed):
+            joiner.offer(first, NOW)
+        joiner.close()
+
+    def test_threads(self):
+        def join(number):
+            text = LONG[number:] + LONG
+            with sms.Joiner() as joiner:
+                told.append([joiner.offer(it, NOW) for it in sms.Deliver.write("1", text, STAMP)][-1] == text)
+
+        told = []
+        threads = [threading.Thread(target=join, args=(number,)) for number in range(8)]
+        for it in threads:
+            it.start()
+        for it in threads:
+            it.join()
+        self.assertEqual(told, [True] * 8)
+
+
+if __name__ == "__main__":
+    unittest.main()

@@ -1,0 +1,930 @@
+//! Short messages (3GPP TS 23.038, 23.040, 24.011): a proved codec and joiner.
+//!
+//! ```no_run
+//! # fn main() -> Result<(), Box<dyn std::error::Error>> {
+//! # let (first, second, octets) = ([0u8; 0], [0u8; 0], [0u8; 0]);
+//! let (message, used) = sms::Deliver::read(&octets)?;
+//! println!("{}: {} ({used} octets)", message.origin(), message.text()?);
+//!
+//! let mut joiner = sms::Joiner::open(1024, 4096)?;
+//! for segment in [&first, &second] {
+//!     if let sms::Offer::Finished(text) = joiner.offer(0, segment)? {
+//!         println!("{text}");
+//!     }
+//! }
+//! # Ok(())
+//! # }
+//! ```
+//!
+//! Moments are seconds from 2000-01-01 00:00:00 UTC ([`unix_of`] and [`seconds_of_unix`] go between them and Unix time).
+
+use std::error;
+use std::fmt;
+
+pub mod raw;
+
+/// Seconds from the beginning of Unix time to that of 2000.
+pub const UNIX_OF_2000: u64 = 946_684_800;
+
+/// Unix time of seconds from the beginning of 2000.
+pub fn unix_of(seconds: u64) -> Option<u64> {
+    seconds.checked_add(UNIX_OF_2000)
+}
+
+/// Seconds from the beginning of 2000 of Unix time, where it does not lie before.
+pub fn seconds_of_unix(unix: u64) -> Option<u64> {
+    unix.checked_sub(UNIX_OF_2000)
+}
+
+// ---- what is refused
+
+/// Why octets are refused.
+#[derive(Clone, Copy, Debug, PartialEq, Eq, Hash)]
+#[non_exhaustive]
+pub enum Reason {
+    Short,
+    WrongType,
+    AddressTooLong,
+    BadDigit,
+    DataTooLong,
+    HeaderTooLong,
+    NotSms,
+    BadTransaction,
+    UnknownType,
+    BadRelayAddress,
+    BadCause,
+    /// A number that this crate has no name for.
+    Other(u32),
+}
+
+impl Reason {
+    fn of(number: u32) -> Reason {
+        match number {
+            1 => Reason::Short,
+            2 => Reason::WrongType,
+            3 => Reason::AddressTooLong,
+            4 => Reason::BadDigit,
+            5 => Reason::DataTooLong,
+            6 => Reason::HeaderTooLong,
+            7 => Reason::NotSms,
+            8 => Reason::BadTransaction,
+            9 => Reason::UnknownType,
+            10 => Reason::BadRelayAddress,
+            11 => Reason::BadCause,
+            other => Reason::Other(other),
+        }
+    }
+}
+
+impl fmt::Display for Reason {
+    fn fmt(&self, f: &mut fmt::Formatter<'_>) -> fmt::Result {
+        f.write_str(match self {
+            Reason::Short => "short",
+            Reason::WrongType => "wrong type",
+            Reason::AddressTooLong => "address too long",
+            Reason::BadDigit => "bad digit",
+            Reason::DataTooLong => "data too long",
+            Reason::HeaderTooLong => "header too long",
+            Reason::NotSms => "not sms",
+            Reason::BadTransaction => "bad transaction",
+            Reason::UnknownType => "unknown type",
+            Reason::BadRelayAddress => "bad address",
+            Reason::BadCause => "bad cause",
+            Reason::Other(number) => return write!(f, "reason {number}"),
+        })
+    }
+}
+
+/// Octets are refused: the place is the first octet that cannot stand where it does, from 0, or the number of octets
+/// where some are missing at the end ([`Reason::Short`]).
+#[derive(Clone, Copy, Debug, PartialEq, Eq, Hash)]
+pub struct Refused {
+    pub place: usize,
+    pub reason: Reason,
+}
+
+impl Refused {
+    fn of(told: raw::Refused) -> Refused {
+        Refused { place: told.place, reason: Reason::of(told.reason) }
+    }
+}
+
+impl fmt::Display for Refused {
+    fn fmt(&self, f: &mut fmt::Formatter<'_>) -> fmt::Result {
+        write!(f, "at {}: {}", self.place, self.reason)
+    }
+}
+
+impl error::Error for Refused {}
+
+/// Why a call did not do what it is for.
+#[derive(Clone, Copy, Debug, PartialEq, Eq, Hash)]
+#[non_exhaustive]
+pub enum Error {
+    Refused(Refused),
+    NoMemory,
+    NotUtf8,
+    BadAddress,
+    /// More than 255 segments, or more than a packet carries.
+    TooLong,
+    /// A value is none of those that may be given.
+    OutOfRange,
+    /// There is no such text, moment or end.
+    NotThere,
+    /// As many messages are open as may be; the joiner is as it was.
+    TooManyOpen,
+    /// A status that this crate has no name for.
+    Other(u32),
+}
+
+impl Error {
+    fn of(status: u32, refused: raw::Refused) -> Error {
+        match status {
+            1 => Error::Refused(Refused::of(refused)),
+            2 => Error::NoMemory,
+            4 => Error::NotUtf8,
+            5 => Error::BadAddress,
+            6 => Error::TooLong,
+            7 => Error::OutOfRange,
+            8 => Error::NotThere,
+            9 => Error::TooManyOpen,
+            other => Error::Other(other),
+        }
+    }
+}
+
+impl fmt::Display for Error {
+    fn fmt(&self, f: &mut fmt::Formatter<'_>) -> fmt::Result {
+        match self {
+            Error::Refused(refused) => refused.fmt(f),
+            Error::NoMemory => f.write_str("out of memory"),
+            Error::NotUtf8 => f.write_str("not UTF-8"),
+            Error::BadAddress => f.write_str("bad address"),
+            Error::TooLong => f.write_str("too long"),
+            Error::OutOfRange => f.write_str("out of range"),
+            Error::NotThere => f.write_str("not there"),
+            Error::TooManyOpen => f.write_str("too many open"),
+            Error::Other(status) => write!(f, "status {status}"),
+        }
+    }
+}
+
+impl error::Error for Error {}
+
+impl From<Refused> for Error {
+    fn from(refused: Refused) -> Error {
+        Error::Refused(refused)
+    }
+}
+
+type Reader<T> = unsafe extern "C" fn(*const u8, usize, *mut T, *mut raw::Refused) -> u32;
+
+/// What a reader sees at the front of octets.
+fn read<T: Default>(call: Reader<T>, octets: &[u8]) -> Result<T, Refused> {
+    let (mut seen, mut refused) = (T::default(), raw::Refused::default());
+    // SAFETY: the octets are as many as counted; the structs are ours, and of the call's types.
+    match unsafe { call(octets.as_ptr(), octets.len(), &mut seen, &mut refused) } {
+        0 => Ok(seen),
+        _ => Err(Refused::of(refused)),
+    }
+}
+
+/// What a call of the form (.., out, room, needed) writes, with room made where it wants more.
+fn answer(room: usize, mut call: impl FnMut(*mut u8, usize, *mut usize) -> u32) -> Result<Vec<u8>, Error> {
+    let mut out = vec![0; room];
+    loop {
+        let mut needed = 0;
+        match call(out.as_mut_ptr(), out.len(), &mut needed) {
+            0 => {
+                out.truncate(needed);
+                return Ok(out);
+            }
+            3 if needed > out.len() => out.resize(needed, 0),
+            status => return Err(Error::of(status, raw::Refused::default())),
+        }
+    }
+}
+
+fn text_of(octets: Vec<u8>) -> String {
+    String::from_utf8(octets).expect("the library writes UTF-8")
+}
+
+// ---- parts
+
+const TEXT_MAX: usize = 480;
+const UNIT_MAX: usize = 184;
+const PACKET_MAX: usize = 258;
+const ADDRESS_TEXT_MAX: usize = 33;
+
+/// How user data are spelled.
+#[derive(Clone, Copy, Debug, PartialEq, Eq, Hash)]
+pub enum Alphabet {
+    Gsm7,
+    EightBit,
+    Ucs2,
+    Compressed,
+}
+
+impl Alphabet {
+    fn of(number: u8) -> Alphabet {
+        match number {
+            0 => Alphabet::Gsm7,
+            1 => Alphabet::EightBit,
+            2 => Alphabet::Ucs2,
+            _ => Alphabet::Compressed,
+        }
+    }
+}
+
+/// A reference that the segments of a message share: of 8 bits (information element 00), or of 16 (08).
+#[derive(Clone, Copy, Debug, PartialEq, Eq, Hash)]
+pub enum Reference {
+    Eight(u8),
+    Sixteen(u16),
+}
+
+impl Reference {
+    fn raw(self) -> raw::Reference {
+        match self {
+            Reference::Eight(reference) => raw::Reference { width: 8, reference: u16::from(reference) },
+            Reference::Sixteen(reference) => raw::Reference { width: 16, reference },
+        }
+    }
+}
+
+/// A segment's place in its message; the sequence is 1 to the maximum.
+#[derive(Clone, Copy, Debug, PartialEq, Eq, Hash)]
+pub struct Place {
+    pub reference: Reference,
+    pub maximum: u8,
+    pub sequence: u8,
+}
+
+impl Place {
+    fn of(place: raw::Place) -> Option<Place> {
+        let reference = match place.width {
+            8 => Reference::Eight(place.reference as u8),
+            16 => Reference::Sixteen(place.reference),
+            _ => return None,
+        };
+        Some(Place { reference, maximum: place.maximum, sequence: place.sequence })
+    }
+}
+
+/// A local date and time, and its zone in quarters of an hour east of UTC.
+pub type Date = raw::Date;
+
+/// TP-SCTS: seven octets, as they came, which need not be a date.
+#[derive(Clone, Copy, Debug, PartialEq, Eq, Hash)]
+pub struct Stamp(pub [u8; 7]);
+
+impl Stamp {
+    fn raw(self) -> raw::Stamp {
+        raw::Stamp { octets: self.0 }
+    }
+
+    /// The date that the octets say; none where they say none.
+    pub fn date(self) -> Option<Date> {
+        let (stamp, mut date) = (self.raw(), raw::Date::default());
+        // SAFETY: both are ours.
+        (unsafe { raw::sms_stamp_date(&stamp, &mut date) } == 0).then_some(date)
+    }
+
+    /// The moment; none where the octets are no date, or lie before 2000.
+    pub fn moment(self) -> Option<u64> {
+        let (stamp, mut seconds) = (self.raw(), 0);
+        // SAFETY: both are ours.
+        (unsafe { raw::sms_stamp_moment(&stamp, &mut seconds) } == 0).then_some(seconds)
+    }
+
+    /// The stamp of a moment in a zone, given in quarters of an hour, -79 to 79.
+    pub fn at(seconds: u64, quarters: i8) -> Option<Stamp> {
+        let mut stamp = raw::Stamp::default();
+        // SAFETY: it is ours.
+        (unsafe { raw::sms_stamp_at(seconds, quarters, &mut stamp) } == 0).then_some(Stamp(stamp.octets))
+    }
+}
+
+/// TP-VP: how long a centre keeps a message that it cannot deliver.
+#[derive(Clone, Copy, Debug, PartialEq, Eq, Hash)]
+pub enum Validity {
+    Absent,
+    Relative(u8),
+    Enhanced([u8; 7]),
+    Absolute(Stamp),
+}
+
+impl Validity {
+    fn raw(self) -> raw::Validity {
+        match self {
+            Validity::Absent => raw::Validity { format: 0, octets: [0; 7] },
+            Validity::Relative(octet) => raw::Validity { format: 1, octets: [octet, 0, 0, 0, 0, 0, 0] },
+            Validity::Enhanced(octets) => raw::Validity { format: 2, octets },
+            Validity::Absolute(stamp) => raw::Validity { format: 3, octets: stamp.0 },
+        }
+    }
+
+    fn of(validity: raw::Validity) -> Validity {
+        match validity.format {
+            0 => Validity::Absent,
+            1 => Validity::Relative(validity.octets[0]),
+            2 => Validity::Enhanced(validity.octets),
+            _ => Validity::Absolute(Stamp(validity.octets)),
+        }
+    }
+
+    /// When it ends, of a message that was accepted at a moment below 2^63.
+    pub fn end(self, accepted: u64) -> Result<u64, Error> {
+        let (validity, mut seconds) = (self.raw(), 0);
+        // SAFETY: both are ours.
+        match unsafe { raw::sms_validity_end(&validity, accepted, &mut seconds) } {
+            0 => Ok(seconds),
+            status => Err(Error::of(status, raw::Refused::default())),
+        }
+    }
+}
+
+/// A unit's own octets, and where its parts lie in them.
+#[derive(Clone, Debug, PartialEq, Eq)]
+struct Seen<T> {
+    octets: Vec<u8>,
+    parts: T,
+    address: String,
+}
+
+impl<T> Seen<T> {
+    fn at(&self, span: raw::Span) -> &[u8] {
+        &self.octets[span.offset..][..span.length]
+    }
+
+    fn header(&self, user: &raw::User) -> Option<&[u8]> {
+        (user.has_header == 1).then(|| self.at(user.header))
+    }
+
+    fn text(&self, user: &raw::User) -> Result<String, Error> {
+        let text = answer(TEXT_MAX, |out, room, needed| {
+            // SAFETY: the octets are those that the part was seen in, and the rest is ours.
+            unsafe { raw::sms_user_text(self.octets.as_ptr(), self.octets.len(), user, out, room, needed) }
+        })?;
+        Ok(text_of(text))
+    }
+}
+
+/// The text of an address that was seen in these octets: only want of memory can prevent it.
+fn address_of(octets: &[u8], address: &raw::Address) -> String {
+    let text = answer(ADDRESS_TEXT_MAX, |out, room, needed| {
+        // SAFETY: the octets are those that the part was seen in, and the rest is ours.
+        unsafe { raw::sms_address_text(octets.as_ptr(), octets.len(), address, out, room, needed) }
+    });
+    match text {
+        Ok(text) => text_of(text),
+        Err(_) => std::alloc::handle_alloc_error(std::alloc::Layout::new::<raw::Address>()),
+    }
+}
+
+macro_rules! unit_parts {
+    () => {
+        /// TP-PID.
+        pub fn pid(&self) -> u8 {
+            self.0.parts.pid
+        }
+
+        /// TP-DCS.
+        pub fn dcs(&self) -> u8 {
+            self.0.parts.dcs
+        }
+
+        pub fn alphabet(&self) -> Alphabet {
+            Alphabet::of(self.0.parts.user.alphabet)
+        }
+
+        /// TP-UDL.
+        pub fn length(&self) -> u8 {
+            self.0.parts.user.length
+        }
+
+        /// The header's octets after its length octet, where there is one.
+        pub fn header(&self) -> Option<&[u8]> {
+            self.0.header(&self.0.parts.user)
+        }
+
+        /// The octets after the header.
+        pub fn body(&self) -> &[u8] {
+            self.0.at(self.0.parts.user.body)
+        }
+
+        /// The place among the segments of its message, where it is one.
+        pub fn place(&self) -> Option<Place> {
+            Place::of(self.0.parts.user.place)
+        }
+
+        /// The text of the user data; `NotThere` where they are none (8-bit, compressed).
+        pub fn text(&self) -> Result<String, Error> {
+            self.0.text(&self.0.parts.user)
+        }
+
+        /// The octets of the unit.
+        pub fn octets(&self) -> &[u8] {
+            &self.0.octets
+        }
+    };
+}
+
+/// SMS-DELIVER: a message on its way from a centre to a phone (3GPP TS 23.040, 9.2.2.1).
+#[derive(Clone, Debug, PartialEq, Eq)]
+pub struct Deliver(Seen<raw::Deliver>);
+
+impl Deliver {
+    /// Reads the unit at the front of the octets, and says how many it takes.
+    pub fn read(octets: &[u8]) -> Result<(Deliver, usize), Refused> {
+        let parts = read(raw::sms_deliver_read, octets)?;
+        let octets = octets[..parts.used].to_vec();
+        let address = address_of(&octets, &parts.origin);
+        Ok((Deliver(Seen { octets, parts, address }), parts.used))
+    }
+
+    /// The segment of an index of a text as a unit, and how many segments there are.
+    pub fn write(fields: &DeliverFields, origin: &str, text: &str, index: usize) -> Result<(Vec<u8>, usize), Error> {
+        let (fields, mut segments) = (fields.raw(), 0);
+        let unit = answer(UNIT_MAX, |out, room, needed| {
+            // SAFETY: each pointer is to as many octets as are counted with it.
+            unsafe {
+                raw::sms_deliver_write(
+                    &fields, origin.as_ptr(), origin.len(), text.as_ptr(), text.len(), index, out, room, needed,
+                    &mut segments,
+                )
+            }
+        })?;
+        Ok((unit, segments))
+    }
+
+    unit_parts!();
+
+    /// TP-OA: the sender's digits, after a + where the number is international, or its name.
+    pub fn origin(&self) -> &str {
+        &self.0.address
+    }
+
+    pub fn type_of_number(&self) -> u8 {
+        self.0.parts.origin.type_of_number
+    }
+
+    pub fn plan(&self) -> u8 {
+        self.0.parts.origin.plan
+    }
+
+    /// TP-MMS: more messages wait in the centre.
+    pub fn more(&self) -> bool {
+        self.0.parts.more == 1
+    }
+
+    /// TP-LP.
+    pub fn looped(&self) -> bool {
+        self.0.parts.looped == 1
+    }
+
+    /// TP-SRI.
+    pub fn report(&self) -> bool {
+        self.0.parts.report == 1
+    }
+
+    /// TP-RP.
+    pub fn reply(&self) -> bool {
+        self.0.parts.reply == 1
+    }
+
+    /// TP-SCTS.
+    pub fn stamp(&self) -> Stamp {
+        Stamp(self.0.parts.stamp.octets)
+    }
+}
+
+/// SMS-SUBMIT: a message on its way from a phone to a centre (3GPP TS 23.040, 9.2.2.2).
+#[derive(Clone, Debug, PartialEq, Eq)]
+pub struct Submit(Seen<raw::Submit>);
+
+impl Submit {
+    /// Reads the unit at the front of the octets, and says how many it takes.
+    pub fn read(octets: &[u8]) -> Result<(Submit, usize), Refused> {
+        let parts = read(raw::sms_submit_read, octets)?;
+        let octets = octets[..parts.used].to_vec();
+        let address = address_of(&octets, &parts.target);
+        Ok((Submit(Seen { octets, parts, address }), parts.used))
+    }
+
+    /// The segment of an index of a text as a unit, and how many segments there are.
+    pub fn write(fields: &SubmitFields, target: &str, text: &str, index: usize) -> Result<(Vec<u8>, usize), Error> {
+        let (fields, mut segments) = (fields.raw(), 0);
+        let unit = answer(UNIT_MAX, |out, room, needed| {
+            // SAFETY: each pointer is to as many octets as are counted with it.
+            unsafe {
+                raw::sms_submit_write(
+                    &fields, target.as_ptr(), target.len(), text.as_ptr(), text.len(), index, out, room, needed,
+                    &mut segments,
+                )
+            }
+        })?;
+        Ok((unit, segments))
+    }
+
+    unit_parts!();
+
+    /// TP-DA: the recipient's digits, after a + where the number is international, or its name.
+    pub fn target(&self) -> &str {
+        &self.0.address
+    }
+
+    pub fn type_of_number(&self) -> u8 {
+        self.0.parts.target.type_of_number
+    }
+
+    pub fn plan(&self) -> u8 {
+        self.0.parts.target.plan
+    }
+
+    /// TP-RD.
+    pub fn reject(&self) -> bool {
+        self.0.parts.reject == 1
+    }
+
+    /// TP-SRR.
+    pub fn report(&self) -> bool {
+        self.0.parts.report == 1
+    }
+
+    /// TP-RP.
+    pub fn reply(&self) -> bool {
+        self.0.parts.reply == 1
+    }
+
+    /// TP-MR.
+    pub fn reference(&self) -> u8 {
+        self.0.parts.reference
+    }
+
+    pub fn validity(&self) -> Validity {
+        Validity::of(self.0.parts.validity)
+    }
+}
+
+/// What an SMS-DELIVER has besides a sender and a text.
+#[derive(Clone, Copy, Debug, PartialEq, Eq, Hash)]
+pub struct DeliverFields {
+    pub reference: Reference,
+    pub more: bool,
+    pub looped: bool,
+    pub report: bool,
+    pub reply: bool,
+    pub pid: u8,
+    pub stamp: Stamp,
+}
+
+impl DeliverFields {
+    /// No flag is set, and TP-PID is 0.
+    pub fn new(reference: Reference, stamp: Stamp) -> DeliverFields {
+        DeliverFields { reference, more: false, looped: false, report: false, reply: false, pid: 0, stamp }
+    }
+
+    fn raw(&self) -> raw::DeliverFields {
+        raw::DeliverFields {
+            segments: self.reference.raw(),
+            more: u8::from(self.more),
+            looped: u8::from(self.looped),
+            report: u8::from(self.report),
+            reply: u8::from(self.reply),
+            pid: self.pid,
+            stamp: self.stamp.raw(),
+        }
+    }
+}
+
+/// What an SMS-SUBMIT has besides a recipient and a text.
+#[derive(Clone, Copy, Debug, PartialEq, Eq, Hash)]
+pub struct SubmitFields {
+    pub reference: Reference,
+    pub reject: bool,
+    pub report: bool,
+    pub reply: bool,
+    /// TP-MR.
+    pub message_reference: u8,
+    pub pid: u8,
+    pub validity: Validity,
+}
+
+impl SubmitFields {
+    /// No flag is set, and TP-MR and TP-PID are 0.
+    pub fn new(reference: Reference, validity: Validity) -> SubmitFields {
+        SubmitFields { reference, reject: false, report: false, reply: false, message_reference: 0, pid: 0, validity }
+    }
+
+    fn raw(&self) -> raw::SubmitFields {
+        raw::SubmitFields {
+            segments: self.reference.raw(),
+            reject: u8::from(self.reject),
+            report: u8::from(self.report),
+            reply: u8::from(self.reply),
+            reference: self.message_reference,
+            pid: self.pid,
+            validity: self.validity.raw(),
+        }
+    }
+}
+
+// ---- reports
+
+/// SMS-DELIVER-REPORT or SMS-SUBMIT-REPORT (3GPP TS 23.040, 9.2.2.1a and 9.2.2.2a).
+#[derive(Clone, Debug, PartialEq, Eq)]
+pub struct Report {
+    /// TP-UDHI: the data begin with a header.
+    pub has_header: bool,
+    /// TP-FCS.
+    pub cause: Option<u8>,
+    /// TP-SCTS.
+    pub stamp: Option<Stamp>,
+    pub pid: Option<u8>,
+    pub dcs: Option<u8>,
+    /// TP-UD.
+    pub data: Option<Vec<u8>>,
+    /// TP-UDL.
+    pub length: u8,
+    /// By which TP-UDL counts.
+    pub alphabet: Alphabet,
+}
+
+fn report(call: Reader<raw::Report>, octets: &[u8]) -> Result<(Report, usize), Refused> {
+    let seen = read(call, octets)?;
+    let data = &octets[seen.data.offset..][..seen.data.length];
+    let report = Report {
+        has_header: seen.has_header == 1,
+        cause: (seen.has_cause == 1).then_some(seen.cause),
+        stamp: (seen.has_stamp == 1).then_some(Stamp(seen.stamp.octets)),
+        pid: (seen.has_pid == 1).then_some(seen.pid),
+        dcs: (seen.has_dcs == 1).then_some(seen.dcs),
+        data: (seen.has_data == 1).then(|| data.to_vec()),
+        length: seen.length,
+        alphabet: Alphabet::of(seen.alphabet),
+    };
+    Ok((report, seen.used))
+}
+
+impl Report {
+    /// Reads an SMS-DELIVER-REPORT of an RP-ACK, and says how many octets it takes.
+    pub fn read_deliver_ack(octets: &[u8]) -> Result<(Report, usize), Refused> {
+        report(raw::sms_deliver_ack_read, octets)
+    }
+
+    /// Reads an SMS-DELIVER-REPORT of an RP-ERROR.
+    pub fn read_deliver_error(octets: &[u8]) -> Result<(Report, usize), Refused> {
+        report(raw::sms_deliver_error_read, octets)
+    }
+
+    /// Reads an SMS-SUBMIT-REPORT of an RP-ACK.
+    pub fn read_submit_ack(octets: &[u8]) -> Result<(Report, usize), Refused> {
+        report(raw::sms_submit_ack_read, octets)
+    }
+
+    /// Reads an SMS-SUBMIT-REPORT of an RP-ERROR.
+    pub fn read_submit_error(octets: &[u8]) -> Result<(Report, usize), Refused> {
+        report(raw::sms_submit_error_read, octets)
+    }
+}
+
+// ---- packets
+
+/// A message of the connection (3GPP TS 24.011, 7.2), which lends its user data.
+#[derive(Clone, Copy, Debug, PartialEq, Eq)]
+pub enum CpBody<'a> {
+    Data(&'a [u8]),
+    Ack,
+    Error(u8),
+}
+
+/// What a CP message has.
+#[derive(Clone, Copy, Debug, PartialEq, Eq)]
+pub struct Cp<'a> {
+    /// TI flag: set where it goes to the side that opened the transaction.
+    pub flag: bool,
+    /// TI value, 0 to 6.
+    pub value: u8,
+    pub body: CpBody<'a>,
+}
+
+impl<'a> Cp<'a> {
+    /// Reads the message at the front of the octets, and says how many it takes.
+    pub fn read(octets: &'a [u8]) -> Result<(Cp<'a>, usize), Refused> {
+        let seen = read(raw::sms_cp_read, octets)?;
+        let body = match seen.kind {
+            0 => CpBody::Data(&octets[seen.user.offset..][..seen.user.length]),
+            1 => CpBody::Ack,
+            _ => CpBody::Error(seen.cause),
+        };
+        Ok((Cp { flag: seen.flag == 1, value: seen.value, body }, seen.used))
+    }
+}
+
+/// A message of the relay (3GPP TS 24.011, 7.3), which lends its parts.
+#[derive(Clone, Copy, Debug, PartialEq, Eq)]
+pub enum RpBody<'a> {
+    /// The centre's address with its length octet, where there is one, and a unit.
+    Data { address: Option<&'a [u8]>, user: &'a [u8] },
+    Ack { user: Option<&'a [u8]> },
+    Error { cause: u8, diagnostic: Option<u8>, user: Option<&'a [u8]> },
+}
+
+/// What an RP message has.
+#[derive(Clone, Copy, Debug, PartialEq, Eq)]
+pub struct Rp<'a> {
+    pub to_phone: bool,
+    pub reference: u8,
+    pub body: RpBody<'a>,
+}
+
+impl<'a> Rp<'a> {
+    /// Reads the message at the front of the octets, and says how many it takes.
+    pub fn read(octets: &'a [u8]) -> Result<(Rp<'a>, usize), Refused> {
+        let seen = read(raw::sms_rp_read, octets)?;
+        let at = |span: raw::Span| &octets[span.offset..][..span.length];
+        let user = (seen.has_user == 1).then(|| at(seen.user));
+        let body = match seen.kind {
+            0 => RpBody::Data {
+                address: (seen.has_address == 1).then(|| at(seen.address)),
+                user: at(seen.user),
+            },
+            1 => RpBody::Ack { user },
+            _ => RpBody::Error {
+                cause: seen.cause,
+                diagnostic: (seen.has_diagnostic == 1).then_some(seen.diagnostic),
+                user,
+            },
+        };
+        Ok((Rp { to_phone: seen.side == 1, reference: seen.reference, body }, seen.used))
+    }
+}
+
+/// The transaction of a packet, and the reference of its message.
+#[derive(Clone, Copy, Debug, PartialEq, Eq, Hash)]
+pub struct Envelope {
+    /// TI flag: not set from the side that opened the transaction.
+    pub flag: bool,
+    /// TI value, 0 to 6.
+    pub value: u8,
+    pub to_phone: bool,
+    /// RP-Message Reference.
+    pub reference: u8,
+}
+
+impl Envelope {
+    fn raw(self) -> raw::Envelope {
+        raw::Envelope {
+            flag: u8::from(self.flag),
+            value: self.value,
+            side: u8::from(self.to_phone),
+            reference: self.reference,
+        }
+    }
+
+    /// A CP-DATA around an RP-DATA around the octets of a unit, at most 233, which are not looked at. The centre's
+    /// address is given as text, or as no text.
+    pub fn wrap(self, centre: &str, unit: &[u8]) -> Result<Vec<u8>, Error> {
+        let envelope = self.raw();
+        answer(PACKET_MAX, |out, room, needed| {
+            // SAFETY: each pointer is to as many octets as are counted with it.
+            unsafe {
+                raw::sms_wrap_data(
+                    &envelope, centre.as_ptr(), centre.len(), unit.as_ptr(), unit.len(), out, room, needed,
+                )
+            }
+        })
+    }
+
+    /// A CP-DATA around an RP-ACK, and a unit where the octets are not empty.
+    pub fn wrap_ack(self, unit: &[u8]) -> Result<Vec<u8>, Error> {
+        let envelope = self.raw();
+        answer(PACKET_MAX, |out, room, needed| {
+            // SAFETY: each pointer is to as many octets as are counted with it.
+            unsafe { raw::sms_wrap_ack(&envelope, unit.as_ptr(), unit.len(), out, room, needed) }
+        })
+    }
+
+    /// A CP-DATA around an RP-ERROR with a cause of 0 to 127, and a unit where the octets are not empty.
+    pub fn wrap_error(self, cause: u8, unit: &[u8]) -> Result<Vec<u8>, Error> {
+        let envelope = self.raw();
+        answer(PACKET_MAX, |out, room, needed| {
+            // SAFETY: each pointer is to as many octets as are counted with it.
+            unsafe { raw::sms_wrap_error(&envelope, cause, unit.as_ptr(), unit.len(), out, room, needed) }
+        })
+    }
+
+    /// A CP-ACK.
+    pub fn cp_ack(self) -> Result<Vec<u8>, Error> {
+        let envelope = self.raw();
+        // SAFETY: the envelope is ours.
+        answer(PACKET_MAX, |out, room, needed| unsafe { raw::sms_cp_ack(&envelope, out, room, needed) })
+    }
+
+    /// A CP-ERROR.
+    pub fn cp_error(self, cause: u8) -> Result<Vec<u8>, Error> {
+        let envelope = self.raw();
+        // SAFETY: the envelope is ours.
+        answer(PACKET_MAX, |out, room, needed| unsafe { raw::sms_cp_error(&envelope, cause, out, room, needed) })
+    }
+}
+
+// ---- texts cut, and segments joined
+
+/// The user data of the segments of a text, each from TP-UDL on, and the TP-DCS of all.
+pub fn split(reference: Reference, text: &str) -> Result<(Vec<Vec<u8>>, u8), Error> {
+    let reference = reference.raw();
+    let (mut spans, mut segments, mut dcs) = ([raw::Span::default(); 255], 0, 0);
+    let out = answer(1024, |out, room, needed| {
+        // SAFETY: each pointer is to as many values as are counted with it.
+        unsafe {
+            raw::sms_split(
+                &reference, text.as_ptr(), text.len(), out, room, needed, spans.as_mut_ptr(), spans.len(),
+                &mut segments, &mut dcs,
+            )
+        }
+    })?;
+    let users = spans[..segments].iter().map(|it| out[it.offset..][..it.length].to_vec()).collect();
+    Ok((users, dcs))
+}
+
+/// What becomes of a segment that is offered.
+#[derive(Clone, Debug, PartialEq, Eq)]
+pub enum Offer {
+    /// It was there already, or finished lately.
+    Repeat,
+    /// Others are missing.
+    Kept,
+    /// The text of its message, which is whole.
+    Finished(String),
+}
+
+/// Joins segments, whichever way they come, to texts, each once.
+#[derive(Debug)]
+pub struct Joiner(raw::Joiner);
+
+// SAFETY: what a joiner holds is its own, and the library's calls on it may be made from any thread, one at a time.
+unsafe impl Send for Joiner {}
+
+impl Joiner {
+    /// A joiner for at most so many messages at a time that are not whole, and so many finished ones that are
+    /// remembered, so that none finishes twice; both from 1.
+    pub fn open(open_max: usize, remembered: usize) -> Result<Joiner, Error> {
+        let mut joiner = raw::Joiner::CLOSED;
+        // SAFETY: it is ours, and closed.
+        match unsafe { raw::sms_joiner_open(&mut joiner, open_max, remembered) } {
+            0 => Ok(Joiner(joiner)),
+            status => Err(Error::of(status, raw::Refused::default())),
+        }
+    }
+
+    /// Offers an SMS-DELIVER that came at a moment, in seconds from the beginning of 2000.
+    pub fn offer(&mut self, seconds: u64, octets: &[u8]) -> Result<Offer, Error> {
+        let (mut outcome, mut refused) = (0, raw::Refused::default());
+        // SAFETY: the octets are as many as counted, and the rest is ours.
+        let status = unsafe {
+            raw::sms_joiner_offer(&mut self.0, seconds, octets.as_ptr(), octets.len(), &mut outcome, &mut refused)
+        };
+        match (status, outcome) {
+            (0, 0) => Ok(Offer::Repeat),
+            (0, 1) => Ok(Offer::Kept),
+            (0, _) => Ok(Offer::Finished(self.text()?)),
+            (status, _) => Err(Error::of(status, refused)),
+        }
+    }
+
+    /// The text that finished last; empty before one did.
+    pub fn text(&mut self) -> Result<String, Error> {
+        // SAFETY: the room is as counted, and the joiner is ours.
+        let text = answer(TEXT_MAX, |out, room, needed| unsafe {
+            raw::sms_joiner_text(&mut self.0, out, room, needed)
+        })?;
+        Ok(text_of(text))
+    }
+
+    /// Whether an SMS-DELIVER would finish its message; nothing changes.
+    pub fn would_finish(&mut self, octets: &[u8]) -> Result<bool, Error> {
+        let (mut finishes, mut refused) = (0, raw::Refused::default());
+        // SAFETY: the octets are as many as counted, and the rest is ours.
+        match unsafe {
+            raw::sms_joiner_would_finish(&mut self.0, octets.as_ptr(), octets.len(), &mut finishes, &mut refused)
+        } {
+            0 => Ok(finishes == 1),
+            status => Err(Error::of(status, refused)),
+        }
+    }
+
+    /// Drops the messages whose first segment came 604,800 seconds before the moment, or earlier.
+    pub fn age(&mut self, seconds: u64) {
+        // SAFETY: it is ours. An open joiner answers nothing but 0.
+        unsafe { raw::sms_joiner_age(&mut self.0, seconds) };
+    }
+}
+
+impl Drop for Joiner {
+    fn drop(&mut self) {
+        // SAFETY: it is ours.
+        unsafe { raw::sms_joiner_close(&mut self.0) }
+    }
+}

@@ -1,0 +1,210 @@
+//! The structs and calls of sms.h. The rest of this crate is the safe way to them.
+
+macro_rules! structs {
+    ($($(#[$doc:meta])* $c:literal $name:ident { $($field:ident: $type:ty,)* })*) => {
+        $(
+            $(#[$doc])*
+            #[repr(C)]
+            #[derive(Clone, Copy, Debug, Default, PartialEq, Eq)]
+            pub struct $name {
+                $(pub $field: $type,)*
+            }
+        )*
+
+        /// A line for each struct, its size, and for each field its offset and size.
+        pub fn layout() -> Vec<String> {
+            let mut lines = Vec::new();
+            $(
+                let size = core::mem::size_of::<$name>();
+                lines.push(format!("{} {size}", $c));
+                let value = $name::default();
+                let start = core::ptr::addr_of!(value) as usize;
+                $(
+                    let offset = core::ptr::addr_of!(value.$field) as usize - start;
+                    let size = core::mem::size_of_val(&value.$field);
+                    lines.push(format!("{}.{} {offset} {size}", $c, stringify!($field)));
+                )*
+            )*
+            lines.push(format!("sms_joiner {}", core::mem::size_of::<Joiner>()));
+            let value = Joiner::CLOSED;
+            let start = core::ptr::addr_of!(value) as usize;
+            let open = core::ptr::addr_of!(value.open) as usize - start;
+            let inside = core::ptr::addr_of!(value.inside) as usize - start;
+            lines.push(format!("sms_joiner.open {open} {}", core::mem::size_of_val(&value.open)));
+            lines.push(format!("sms_joiner.inside {inside} {}", core::mem::size_of_val(&value.inside)));
+            lines
+        }
+    };
+}
+
+structs! {
+    /// Where octets are refused, and why.
+    "sms_refused" Refused { place: usize, reason: u32, }
+    /// Octets in the caller's octets.
+    "sms_span" Span { offset: usize, length: usize, }
+    "sms_address" Address { octets: Span, type_of_number: u8, plan: u8, }
+    "sms_place" Place { width: u16, reference: u16, maximum: u8, sequence: u8, }
+    "sms_user" User {
+        header: Span,
+        body: Span,
+        place: Place,
+        length: u8,
+        alphabet: u8,
+        has_header: u8,
+        fill: u8,
+        count: u8,
+    }
+    "sms_stamp" Stamp { octets: [u8; 7], }
+    "sms_validity" Validity { format: u8, octets: [u8; 7], }
+    "sms_date" Date {
+        year: u16,
+        month: u8,
+        day: u8,
+        hour: u8,
+        minute: u8,
+        second: u8,
+        quarters: i8,
+    }
+    "sms_deliver" Deliver {
+        origin: Address,
+        user: User,
+        used: usize,
+        more: u8,
+        looped: u8,
+        report: u8,
+        reply: u8,
+        pid: u8,
+        dcs: u8,
+        stamp: Stamp,
+    }
+    "sms_submit" Submit {
+        target: Address,
+        user: User,
+        used: usize,
+        reject: u8,
+        report: u8,
+        reply: u8,
+        reference: u8,
+        pid: u8,
+        dcs: u8,
+        validity: Validity,
+    }
+    "sms_report" Report {
+        data: Span,
+        used: usize,
+        has_header: u8,
+        has_cause: u8,
+        cause: u8,
+        has_stamp: u8,
+        stamp: Stamp,
+        has_pid: u8,
+        pid: u8,
+        has_dcs: u8,
+        dcs: u8,
+        has_data: u8,
+        length: u8,
+        alphabet: u8,
+    }
+    "sms_cp" Cp { user: Span, used: usize, flag: u8, value: u8, kind: u8, cause: u8, }
+    "sms_rp" Rp {
+        address: Span,
+        user: Span,
+        used: usize,
+        side: u8,
+        reference: u8,
+        kind: u8,
+        has_address: u8,
+        has_user: u8,
+        cause: u8,
+        has_diagnostic: u8,
+        diagnostic: u8,
+    }
+    "sms_envelope" Envelope { flag: u8, value: u8, side: u8, reference: u8, }
+    "sms_reference" Reference { width: u16, reference: u16, }
+    "sms_submit_fields" SubmitFields {
+        segments: Reference,
+        reject: u8,
+        report: u8,
+        reply: u8,
+        reference: u8,
+        pid: u8,
+        validity: Validity,
+    }
+    "sms_deliver_fields" DeliverFields {
+        segments: Reference,
+        more: u8,
+        looped: u8,
+        report: u8,
+        reply: u8,
+        pid: u8,
+        stamp: Stamp,
+    }
+}
+
+/// A joiner: closed, or with what the library holds for it.
+#[repr(C)]
+#[derive(Debug)]
+pub struct Joiner {
+    pub open: u32,
+    pub inside: *mut core::ffi::c_void,
+}
+
+impl Joiner {
+    pub const CLOSED: Joiner = Joiner { open: 0, inside: core::ptr::null_mut() };
+}
+
+extern "C" {
+    pub fn sms_deliver_read(octets: *const u8, count: usize, out: *mut Deliver, refused: *mut Refused) -> u32;
+    pub fn sms_submit_read(octets: *const u8, count: usize, out: *mut Submit, refused: *mut Refused) -> u32;
+    pub fn sms_deliver_ack_read(octets: *const u8, count: usize, out: *mut Report, refused: *mut Refused) -> u32;
+    pub fn sms_deliver_error_read(octets: *const u8, count: usize, out: *mut Report, refused: *mut Refused) -> u32;
+    pub fn sms_submit_ack_read(octets: *const u8, count: usize, out: *mut Report, refused: *mut Refused) -> u32;
+    pub fn sms_submit_error_read(octets: *const u8, count: usize, out: *mut Report, refused: *mut Refused) -> u32;
+    pub fn sms_address_text(
+        octets: *const u8, count: usize, address: *const Address, out: *mut u8, room: usize, needed: *mut usize,
+    ) -> u32;
+    pub fn sms_user_text(
+        octets: *const u8, count: usize, user: *const User, out: *mut u8, room: usize, needed: *mut usize,
+    ) -> u32;
+    pub fn sms_stamp_date(stamp: *const Stamp, out: *mut Date) -> u32;
+    pub fn sms_stamp_moment(stamp: *const Stamp, seconds: *mut u64) -> u32;
+    pub fn sms_stamp_at(seconds: u64, quarters: i8, out: *mut Stamp) -> u32;
+    pub fn sms_validity_end(validity: *const Validity, accepted: u64, seconds: *mut u64) -> u32;
+    pub fn sms_cp_read(octets: *const u8, count: usize, out: *mut Cp, refused: *mut Refused) -> u32;
+    pub fn sms_rp_read(octets: *const u8, count: usize, out: *mut Rp, refused: *mut Refused) -> u32;
+    pub fn sms_wrap_data(
+        envelope: *const Envelope, address: *const u8, address_count: usize, unit: *const u8, unit_count: usize,
+        out: *mut u8, room: usize, needed: *mut usize,
+    ) -> u32;
+    pub fn sms_wrap_ack(
+        envelope: *const Envelope, unit: *const u8, unit_count: usize, out: *mut u8, room: usize, needed: *mut usize,
+    ) -> u32;
+    pub fn sms_wrap_error(
+        envelope: *const Envelope, cause: u8, unit: *const u8, unit_count: usize, out: *mut u8, room: usize,
+        needed: *mut usize,
+    ) -> u32;
+    pub fn sms_cp_ack(envelope: *const Envelope, out: *mut u8, room: usize, needed: *mut usize) -> u32;
+    pub fn sms_cp_error(envelope: *const Envelope, cause: u8, out: *mut u8, room: usize, needed: *mut usize) -> u32;
+    pub fn sms_submit_write(
+        fields: *const SubmitFields, target: *const u8, target_count: usize, text: *const u8, text_count: usize,
+        index: usize, out: *mut u8, room: usize, needed: *mut usize, segments: *mut usize,
+    ) -> u32;
+    pub fn sms_deliver_write(
+        fields: *const DeliverFields, origin: *const u8, origin_count: usize, text: *const u8, text_count: usize,
+        index: usize, out: *mut u8, room: usize, needed: *mut usize, segments: *mut usize,
+    ) -> u32;
+    pub fn sms_split(
+        reference: *const Reference, text: *const u8, text_count: usize, out: *mut u8, room: usize,
+        needed: *mut usize, spans: *mut Span, span_count: usize, segments: *mut usize, dcs: *mut u8,
+    ) -> u32;
+    pub fn sms_joiner_open(joiner: *mut Joiner, open_max: usize, remembered: usize) -> u32;
+    pub fn sms_joiner_close(joiner: *mut Joiner);
+    pub fn sms_joiner_offer(
+        joiner: *mut Joiner, seconds: u64, octets: *const u8, count: usize, outcome: *mut u32, refused: *mut Refused,
+    ) -> u32;
+    pub fn sms_joiner_text(joiner: *mut Joiner, out: *mut u8, room: usize, needed: *mut usize) -> u32;
+    pub fn sms_joiner_would_finish(
+        joiner: *mut Joiner, octets: *const u8, count: usize, finishes: *mut u8, refused: *mut Refused,
+    ) -> u32;
+    pub fn sms_joiner_age(joiner: *mut Joiner, seconds: u64) -> u32;
+}

@@ -1,0 +1,117 @@
+//! What the crate promises.
+
+use sms::{
+    Alphabet, Cp, CpBody, Deliver, DeliverFields, Envelope, Error, Joiner, Offer, Place, Reason, Reference, Refused, Report,
+    Rp, RpBody, Stamp, Submit, SubmitFields, Validity,
+};
+
+const HELLO: [u8; 28] = [
+    0x04, 0x0B, 0xC8, 0x72, 0x38, 0x88, 0x09, 0x00, 0xF1, 0x00, 0x00, 0x99, 0x30, 0x92, 0x51, 0x61, 0x95, 0x80, 0x0A, 0xE8,
+    0x32, 0x9B, 0xFD, 0x46, 0x97, 0xD9, 0xEC, 0x37,
+];
+const STAMP: Stamp = Stamp([0x99, 0x30, 0x92, 0x51, 0x61, 0x95, 0x80]);
+
+fn long() -> String {
+    (0..200).map(|i| char::from(b'a' + i % 26)).collect()
+}
+
+#[test]
+fn reads_a_delivery() {
+    let (message, used) = Deliver::read(&HELLO).unwrap();
+    assert_eq!((message.origin(), message.text().as_deref(), used), ("27838890001", Ok("hellohello"), 28));
+    assert_eq!((message.body(), message.header(), message.place()), (&HELLO[19..], None, None));
+    assert_eq!((message.alphabet(), message.length(), message.dcs()), (Alphabet::Gsm7, 10, 0));
+    assert_eq!((message.type_of_number(), message.plan()), (4, 8));
+    let date = message.stamp().date().unwrap();
+    assert_eq!((date.year, date.month, date.day, date.quarters), (2099, 3, 29, 8));
+    assert_eq!(Stamp::at(message.stamp().moment().unwrap(), 8), Some(message.stamp()));
+}
+
+#[test]
+fn refuses_each_front_at_its_end() {
+    for front in 0..HELLO.len() {
+        let refused = Deliver::read(&HELLO[..front]).unwrap_err();
+        assert_eq!(refused, Refused { place: front, reason: Reason::Short });
+    }
+    let refused: Box<dyn std::error::Error> = Submit::read(&HELLO).unwrap_err().into();
+    assert_eq!(refused.to_string(), "at 0: wrong type");
+}
+
+#[test]
+fn writes_a_submission() {
+    let fields = SubmitFields::new(Reference::Eight(0), Validity::Relative(170));
+    let (unit, segments) = Submit::write(&fields, "+46708251358", "hellohello", 0).unwrap();
+    assert_eq!((unit.len(), segments), (23, 1));
+    let (message, _) = Submit::read(&unit).unwrap();
+    assert_eq!((message.target(), message.text().as_deref()), ("+46708251358", Ok("hellohello")));
+    assert_eq!(message.validity().end(1000), Ok(1000 + 4 * 86_400));
+    assert_eq!(Submit::write(&fields, "+46708251358", "hellohello", 1), Err(Error::NotThere));
+    assert_eq!(Submit::write(&fields, "+12x", "hellohello", 0), Err(Error::BadAddress));
+    assert_eq!(Validity::Enhanced([0; 7]).end(0), Err(Error::NotThere));
+}
+
+#[test]
+fn splits_a_text() {
+    let (users, dcs) = sms::split(Reference::Eight(7), &"a".repeat(161)).unwrap();
+    assert_eq!((users.iter().map(Vec::len).collect::<Vec<_>>(), dcs), (vec![141, 15], 0));
+    assert_eq!(users[0][..9], [0xA0, 0x05, 0x00, 0x03, 0x07, 0x02, 0x01, 0xC2, 0xE1]);
+    assert_eq!(sms::split(Reference::Eight(7), &"a".repeat(39_016)), Err(Error::TooLong));
+}
+
+#[test]
+fn reads_reports() {
+    let (report, used) = Report::read_deliver_ack(&[0x00, 0x07, 0x00, 0x00, 0x03, 0x61, 0x62, 0x63]).unwrap();
+    assert_eq!((report.pid, report.data.as_deref(), report.length, used), (Some(0), Some(&b"abc"[..]), 3, 8));
+    let (report, _) =
+        Report::read_submit_error(&[0x01, 0xD6, 0x00, 0x30, 0x21, 0x72, 0x51, 0x40, 0x90, 0x80]).unwrap();
+    assert_eq!((report.cause, report.data), (Some(0xD6), None));
+}
+
+#[test]
+fn wraps_and_reads_packets() {
+    let envelope = Envelope { flag: false, value: 3, to_phone: true, reference: 9 };
+    let packet = envelope.wrap("+1234", &HELLO).unwrap();
+    let (cp, used) = Cp::read(&packet).unwrap();
+    assert_eq!((cp.flag, cp.value, used), (false, 3, packet.len()));
+    let CpBody::Data(user) = cp.body else { panic!("{cp:?}") };
+    let (rp, _) = Rp::read(user).unwrap();
+    assert_eq!((rp.to_phone, rp.reference), (true, 9));
+    assert_eq!(rp.body, RpBody::Data { address: Some(&[0x03, 0x91, 0x21, 0x43]), user: &HELLO });
+    let packet = envelope.wrap_error(22, &[]).unwrap();
+    let CpBody::Data(user) = Cp::read(&packet).unwrap().0.body else { panic!("{packet:?}") };
+    assert_eq!(Rp::read(user).unwrap().0.body, RpBody::Error { cause: 22, diagnostic: None, user: None });
+    assert_eq!(Cp::read(&envelope.cp_ack().unwrap()).unwrap().0.body, CpBody::Ack);
+    assert_eq!(Cp::read(&envelope.cp_error(97).unwrap()).unwrap().0.body, CpBody::Error(97));
+    assert_eq!(envelope.wrap("", &[0; 234]), Err(Error::TooLong));
+}
+
+#[test]
+fn joins_in_any_order_once() {
+    let fields = DeliverFields::new(Reference::Sixteen(4242), STAMP);
+    let units: Vec<_> = (0..2).map(|i| Deliver::write(&fields, "+46708251358", &long(), i).unwrap().0).collect();
+    let place = Place { reference: Reference::Sixteen(4242), maximum: 2, sequence: 2 };
+    assert_eq!(Deliver::read(&units[1]).unwrap().0.place(), Some(place));
+    let mut joiner = Joiner::open(1, 4).unwrap();
+    assert_eq!(joiner.offer(0, &units[1]), Ok(Offer::Kept));
+    assert_eq!(joiner.offer(0, &units[1]), Ok(Offer::Repeat));
+    assert_eq!((joiner.would_finish(&units[0]), joiner.would_finish(&units[1])), (Ok(true), Ok(false)));
+    let other = DeliverFields::new(Reference::Sixteen(1), STAMP);
+    let (other, _) = Deliver::write(&other, "+46708251358", &long(), 0).unwrap();
+    assert_eq!(joiner.offer(0, &other), Err(Error::TooManyOpen));
+    assert_eq!(joiner.offer(1, &units[0]), Ok(Offer::Finished(long())));
+    assert_eq!((joiner.offer(1, &units[0]), joiner.text()), (Ok(Offer::Repeat), Ok(long())));
+    let refused = Refused { place: 3, reason: Reason::Short };
+    assert_eq!(joiner.offer(1, &other[..3]), Err(Error::Refused(refused)));
+    assert_eq!(Joiner::open(0, 1).err(), Some(Error::OutOfRange));
+}
+
+#[test]
+fn goes_to_another_thread() {
+    let fields = DeliverFields::new(Reference::Eight(1), STAMP);
+    let mut joiner = Joiner::open(4, 4).unwrap();
+    let (first, _) = Deliver::write(&fields, "1", &long(), 0).unwrap();
+    assert_eq!(joiner.offer(0, &first), Ok(Offer::Kept));
+    let (second, _) = Deliver::write(&fields, "1", &long(), 1).unwrap();
+    let told = std::thread::spawn(move || joiner.offer(0, &second)).join().unwrap();
+    assert_eq!(told, Ok(Offer::Finished(long())));
+}
