@@ -3,6 +3,7 @@
 #![tactic(auto)]
 
 mod addresses;
+mod chart;
 mod cli;
 mod digits;
 mod encode;

@@ -22,6 +22,8 @@ mod reports;
 #[cfg(test)]
 mod splits;
 #[cfg(test)]
+mod told;
+#[cfg(test)]
 mod units;
 #[cfg(test)]
 mod widths;
