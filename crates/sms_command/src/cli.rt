@@ -2,6 +2,7 @@
 
 ghost use Rattle.std.specs.Prelude.{◌≤◌};
 
+use crate::chart::put_chart;
 use crate::encode::put_units;
 use crate::fault::Fault;
 use crate::join::join;
@@ -27,6 +28,7 @@ fn answer<R: Read, W: Write>(
 ) -> Result<Done, Fault> {
     match request {
         Request::Show(shown) => return show(alloc, shown, input, output),
+        Request::Chart => put_chart(alloc, input, output)?,
         Request::Join(joined) => return join(alloc, joined, input, output),
         Request::Encode(draft) => put_units(alloc, &draft, output)?,
         Request::Split(long) => put_segments(alloc, &long, output)?,

@@ -1,6 +1,6 @@
 //! The octets of units with a text, in one piece or in segments.
 
-ghost use Rattle.std.specs.Prelude.{◌≡◌, ◌<◌, IfOk};
+ghost use Rattle.std.specs.Prelude.{◌≡◌, ◌<◌, All, IfOk};
 ghost use Rattle.sms_field.specs.Coding.{alphabet_at};
 ghost use Rattle.sms_tpdu.specs.UserData.{FitsAlphabet};
 ghost use Rattle.sms_tpdu.specs.Submit.ValidityPeriod.{IsInRange};
@@ -13,7 +13,7 @@ use crate::fault::Fault;
 use crate::page::Page;
 use crate::words::{Draft, DraftKind};
 use sms_field::{Address, RpAddress, Stamp, TextFault, Validity};
-use sms_join::{SegmentView, SplitFault, cut_text};
+use sms_join::{SegmentView, Segments, SplitFault, cut_text};
 use sms_tpdu::{Deliver, Submit, Unit, UserData, Width};
 use std::alloc::Global;
 use std::io::Write;
@@ -231,6 +231,16 @@ fn put_segment(
     Ok(())
 }
 
+/// The segments of a text.
+fn segments_of(alloc: Global, draft: &Draft<'_>, width: Width) -> Result<Segments, Fault>
+    ensures { IfOk result (λ segments. All (IsSendable width) segments) }
+{
+    match cut_text(alloc, draft.text, width) {
+        Ok(segments) => Ok(segments),
+        Err(fault) => Err(not_cut(draft, fault)),
+    }
+}
+
 /// Adds the lines of the segments of a text. Unless it may be split it is in one piece.
 fn put_segments(
     alloc: Global,
@@ -242,10 +252,7 @@ fn put_segments(
 ) -> Result<(), Fault>
     requires { width ≡ Eight → reference < 256 }
 {
-    let segments = match cut_text(alloc, draft.text, width) {
-        Ok(segments) => segments,
-        Err(fault) => return Err(not_cut(draft, fault)),
-    };
+    let segments = segments_of(alloc, draft, width)?;
     if segments.len() > 1 && !draft.is_split {
         return Err(Fault::TextTooLong);
     }

@@ -4,6 +4,7 @@
 
 mod addresses;
 mod any;
+mod chart;
 mod cli;
 mod digits;
 mod encode;

@@ -35,6 +35,15 @@ impl Page {
         (self.octets, self.is_cut)
     }
 
+    /// The page as a text, which is in UTF-8.
+    pub fn into_text(self) -> Result<String, Fault> {
+        let Page { octets, is_cut } = self;
+        if is_cut {
+            return Err(Fault::Memory);
+        }
+        String::from_utf8(octets).map_err(|_| Fault::Memory)
+    }
+
     /// What stands on the page, which is empty afterwards.
     pub fn take(&mut self, alloc: Global) -> Page {
         mem::replace(self, Page::new(alloc))

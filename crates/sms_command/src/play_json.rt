@@ -73,7 +73,7 @@ struct Sent<'a> {
 }
 
 /// What became of a text, in a word.
-fn status_word(status: Status) -> &'static str {
+pub fn status_word(status: Status) -> &'static str {
     match status {
         Status::Waiting => "waiting",
         Status::Accepted => "accepted",

@@ -1,7 +1,7 @@
 //! An input and an output that take turns: before more is read, which may take long, all that was
 //! written is flushed.
 
-ghost use Rattle.std.specs.Prelude.{◌≤◌, ◌<◌, length, None, IfSome};
+ghost use Rattle.std.specs.Prelude.{◌≡◌, ◌≤◌, ◌<◌, length, false, None, IfOk, IfSome};
 
 use sms_world::{DeviceFailed, Sink, Source};
 use std::alloc::{AllocError, Global};
@@ -45,40 +45,58 @@ fn after(place: Place, octet: u8) -> Place {
     }
 }
 
+/// Looks for events that name nothing in a transcript.
+#[derive(Clone, Copy)]
+struct Search {
+    place: Place,
+    /// Whether one was told.
+    has_found: bool,
+}
+
+impl Search {
+    /// At the beginning.
+    fn new() -> Search {
+        Search {
+            place: Place::Start,
+            has_found: false,
+        }
+    }
+
+    /// Looks at the octets that come next.
+    fn look_at(&mut self, octets: &[u8]) {
+        for octet in octets {
+            self.place = after(self.place, *octet);
+            if self.place == Place::Words(FAULT.len()) {
+                self.has_found = true;
+            }
+        }
+    }
+}
+
 /// What octets are written into.
 #[derive(Drop)]
 pub struct Mouth<'a, 'b, W: Write> {
     output: &'b RefCell<&'a mut W>,
-    failed: bool,
-    place: Place,
-    /// Whether an event that names nothing was told.
-    has_told_fault: bool,
+    /// Whether a call of it failed.
+    pub failed: bool,
+    search: Search,
 }
 
 impl<'a, 'b, W: Write> Mouth<'a, 'b, W> {
     /// One that has not failed.
-    pub fn new(output: &'b RefCell<&'a mut W>) -> Mouth<'a, 'b, W> {
+    pub fn new(output: &'b RefCell<&'a mut W>) -> Mouth<'a, 'b, W>
+        ensures { result.failed ≡ false }
+    {
         Mouth {
             output,
             failed: false,
-            place: Place::Start,
-            has_told_fault: false,
+            search: Search::new(),
         }
     }
 
     /// Whether an event that names nothing was told.
     pub fn has_told_fault(&self) -> bool {
-        self.has_told_fault
-    }
-
-    /// Looks at octets that were written.
-    fn look_at(&mut self, octets: &[u8]) {
-        for octet in octets {
-            self.place = after(self.place, *octet);
-            if self.place == Place::Words(FAULT.len()) {
-                self.has_told_fault = true;
-            }
-        }
+        self.search.has_found
     }
 }
 
@@ -112,7 +130,7 @@ impl<W: Write> Sink for Mouth<'_, '_, W> {
     fn write(&mut self, octets: &[u8]) -> Result<usize, DeviceFailed> {
         match write_some(self.output, octets) {
             Some(count) => {
-                self.look_at(octets.get(..count).unwrap_or(&[]));
+                self.search.look_at(octets.get(..count).unwrap_or(&[]));
                 Ok(count)
             }
             None => {
@@ -137,7 +155,8 @@ pub struct Ear<'a, 'b, 'c, R: Read, W: Write> {
     start: usize,
     /// Where they end.
     end: usize,
-    failed: bool,
+    /// Whether a call of it failed.
+    pub failed: bool,
     /// Whether it was the output that failed, which could not be flushed.
     is_mute: bool,
 }
@@ -148,7 +167,9 @@ impl<'a, 'b, 'c, R: Read, W: Write> Ear<'a, 'b, 'c, R, W> {
         alloc: Global,
         input: &'c mut R,
         output: &'b RefCell<&'a mut W>,
-    ) -> Result<Ear<'a, 'b, 'c, R, W>, AllocError> {
+    ) -> Result<Ear<'a, 'b, 'c, R, W>, AllocError>
+        ensures { IfOk result (λ ear. ear.failed ≡ false) }
+    {
         Ok(Ear {
             input,
             output,
@@ -164,21 +185,29 @@ impl<'a, 'b, 'c, R: Read, W: Write> Ear<'a, 'b, 'c, R, W> {
     pub fn is_mute(&self) -> bool {
         self.is_mute
     }
+}
 
-    /// Reads more, after the output is flushed, and says whether that worked.
-    fn fill(&mut self) -> bool {
-        if !flush(self.output) {
-            self.is_mute = true;
-            return false;
-        }
-        match self.input.read(self.room.as_mut_slice()) {
-            Ok(count) => {
-                self.start = 0;
-                self.end = count;
-                true
-            }
-            Err(_) => false,
-        }
+/// Why no more is read.
+#[derive(Clone, Copy, PartialEq, Eq)]
+enum Silence {
+    /// The input failed.
+    Deaf,
+    /// The output failed, which could not be flushed.
+    Mute,
+}
+
+/// Reads more, after the output is flushed, and says how many octets.
+fn fill<R: Read, W: Write>(
+    input: &mut R,
+    output: &RefCell<&mut W>,
+    room: &mut Vec<u8>,
+) -> Result<usize, Silence> {
+    if !flush(output) {
+        return Err(Silence::Mute);
+    }
+    match input.read(room.as_mut_slice()) {
+        Ok(count) => Ok(count),
+        Err(_) => Err(Silence::Deaf),
     }
 }
 
@@ -197,9 +226,18 @@ impl<R: Read, W: Write> Source for Ear<'_, '_, '_, R, W> {
     ghost has_failed = { λ e. e.failed };
 
     fn read(&mut self, buffer: &mut [u8]) -> Result<usize, DeviceFailed> {
-        if self.start >= self.end && !self.fill() {
-            self.failed = true;
-            return Err(DeviceFailed);
+        if self.start >= self.end {
+            match fill(self.input, self.output, &mut self.room) {
+                Ok(count) => {
+                    self.start = 0;
+                    self.end = count;
+                }
+                Err(silence) => {
+                    self.is_mute = silence == Silence::Mute;
+                    self.failed = true;
+                    return Err(DeviceFailed);
+                }
+            }
         }
         let count = match self.room.get(self.start..self.end) {
             Some(left) => copy_front(left, buffer),

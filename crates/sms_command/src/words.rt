@@ -179,6 +179,8 @@ pub enum Request<'a> {
     Join(Joined),
     /// A script is played.
     Play(Played),
+    /// A script is played and drawn.
+    Chart,
 }
 
 impl Request<'_> {
@@ -231,7 +233,7 @@ struct Subcommand {
     example: Option<&'static str>,
 }
 
-static SUBCOMMANDS: [Subcommand; 5] = [
+static SUBCOMMANDS: [Subcommand; 6] = [
     Subcommand {
         name: "show",
         about: "Prints the fields of a unit, one a line",
@@ -444,6 +446,12 @@ static SUBCOMMANDS: [Subcommand; 5] = [
         ],
         example: Some(SCRIPT_HELP),
     },
+    Subcommand {
+        name: "chart",
+        about: "Plays a script, and draws its run as a sequence chart in SVG",
+        words: &[],
+        example: None,
+    },
 ];
 
 /// A word of a subcommand, as `clap` takes it.
@@ -619,6 +627,7 @@ fn request_of<'a>(name: &str, found: &ArgMatches<'a>) -> Option<Request<'a>> {
         "split" => long_text_of(found),
         "join" => joined_of(found),
         "play" => Some(played_of(found)),
+        "chart" => Some(Request::Chart),
         _ => None,
     }
 }

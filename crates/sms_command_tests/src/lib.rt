@@ -26,6 +26,8 @@ mod splits;
 #[cfg(test)]
 mod statuses;
 #[cfg(test)]
+mod told;
+#[cfg(test)]
 mod units;
 #[cfg(test)]
 mod widths;

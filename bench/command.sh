@@ -1,0 +1,46 @@
+#!/bin/sh
+# Times `sms show deliver --lines --json` and `sms join` over 1,000,000 units (or as many as the first word says), which
+# units.awk prints, on one processor, beside tshark and python-gammu where they are installed, on the first 100,000 of
+# them. It needs crates/sms/out/sms, which `rt run` in crates/sms leaves there; PROGRAM names another one.
+set -eu
+here=$(cd "$(dirname "$0")" && pwd)
+room=${BENCH_ROOM:-${TMPDIR:-/tmp}/sms-bench}
+program=${PROGRAM:-$here/../crates/sms/out/sms}
+count=${1:-1000000} few=100000
+mkdir -p "$room"
+awk -v LINES="$count" -f "$here/units.awk" > "$room/units.txt"
+head -n "$few" "$room/units.txt" > "$room/few.txt"
+
+# timed NAME COUNT INPUT CMD..: the time, the units a second, and the most memory of a run
+timed() {
+	name=$1 units=$2 input=$3
+	shift 3
+	taskset -c 0 /usr/bin/env python3 - "$name" "$units" "$input" "$@" <<'PY'
+import resource, subprocess, sys, time
+name, units, source, *words = sys.argv[1:]
+best = None
+for turn in range(3):
+    begin = time.monotonic()
+    with open(source, "rb") as given:
+        status = subprocess.run(words, stdin=given, stdout=subprocess.DEVNULL).returncode
+    took = time.monotonic() - begin
+    best = took if best is None else min(best, took)
+    if took > 20:
+        break
+most = resource.getrusage(resource.RUSAGE_CHILDREN).ru_maxrss
+print(f"{name}: {best:.2f} s, {int(int(units) / best):,} units a second, {most:,} KB, status {status}")
+PY
+}
+
+timed "sms show deliver --lines" "$count" "$room/units.txt" "$program" show deliver --lines
+timed "sms show deliver --lines --json" "$count" "$room/units.txt" "$program" show deliver --lines --json
+timed "sms show deliver --lines --json, $few" "$few" "$room/few.txt" "$program" show deliver --lines --json
+timed "sms join" "$count" "$room/units.txt" "$program" join
+timed "sms join --json" "$count" "$room/units.txt" "$program" join --json
+if command -v tshark > /dev/null; then
+	python3 "$here/others.py" pcap < "$room/few.txt" > "$room/few.pcap"
+	timed "tshark -T json, $few" "$few" "$room/few.pcap" tshark -r "$room/few.pcap" -T json
+fi
+if /usr/bin/python3 -c 'import gammu' 2> /dev/null; then
+	timed "python-gammu, $few" "$few" "$room/few.txt" /usr/bin/python3 "$here/others.py" gammu
+fi

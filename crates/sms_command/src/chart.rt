@@ -1,0 +1,283 @@
+//! A run as a sequence chart in SVG: a lifeline for each phone and for the centre, time downwards.
+
+mod arrows;
+mod head;
+mod labels;
+mod messages;
+mod places;
+mod shapes;
+mod stores;
+
+use crate::chart::arrows::put_arrows;
+use crate::chart::head::put_head;
+use crate::chart::labels::{put_gaps, put_labels};
+use crate::chart::messages::message_name;
+use crate::chart::places::Places;
+use crate::chart::stores::put_stores;
+use crate::fault::Fault;
+use crate::outcomes::told_of;
+use crate::page::Page;
+use crate::printed::put_escaped;
+use crate::run::{Happened, Running, Teller, run_script};
+use sms_script::Script;
+use sms_world::{Event, WorldFault};
+use std::alloc::Global;
+use std::io::{Read, Write};
+
+/// What happens in a row of the chart.
+#[derive(Clone, Copy, Debug, PartialEq, Eq)]
+pub enum Doing {
+    /// At a phone, of its own.
+    AtPhone(usize),
+    /// At the centre, for a phone.
+    AtCentre(usize),
+    /// A packet arrives, as this one counted from 0.
+    Arrival(usize),
+    /// The clock goes on.
+    Gap,
+    /// Nothing that has a place.
+    Nowhere,
+}
+
+/// A row of the chart: an event.
+#[derive(Drop)]
+pub struct Row {
+    pub doing: Doing,
+    /// What the script said.
+    pub asked: String,
+    /// What was answered.
+    pub told: String,
+    /// How many packets were put out.
+    pub packets: usize,
+}
+
+/// A packet of the chart.
+#[derive(Drop)]
+pub struct Sent {
+    pub up: bool,
+    pub phone: usize,
+    /// What it carries.
+    pub name: String,
+    /// The row in which it was put out.
+    pub row: usize,
+    /// Which of the packets of its row it is, counted from 0.
+    pub place: usize,
+    /// How often it was carried.
+    pub carried: usize,
+}
+
+/// Collects a run for its chart.
+#[derive(Drop)]
+struct Collected {
+    rows: Vec<Row>,
+    packets: Vec<Sent>,
+}
+
+/// Where an event has its place.
+fn doing_of(happened: &Happened<'_>) -> Doing {
+    if happened.answer == Err(WorldFault::NoSuchPacket) {
+        return Doing::Nowhere;
+    }
+    match happened.event {
+        Event::Compose { phone, .. } | Event::Timeout(phone) => Doing::AtPhone(*phone),
+        Event::Push(phone) => Doing::AtCentre(*phone),
+        Event::Carry(number) => match usize::try_from(*number) {
+            Ok(number) => Doing::Arrival(number.saturating_sub(1)),
+            Err(_) => Doing::Nowhere,
+        },
+        Event::Tick(_) => Doing::Gap,
+        Event::Inject { up, phone, .. } => {
+            if *up {
+                Doing::AtCentre(*phone)
+            } else {
+                Doing::AtPhone(*phone)
+            }
+        }
+    }
+}
+
+/// What the script said, in a few words.
+fn asked_of(alloc: Global, script: &Script, event: &Event) -> Result<String, Fault> {
+    let mut page = Page::new(alloc);
+    match event {
+        Event::Compose {
+            phone,
+            target,
+            text,
+        } => {
+            page.put(b"type ");
+            page.put(script.name(*phone).as_bytes());
+            page.put(b" ");
+            let to = target.to_text(alloc)?;
+            put_escaped(&mut page, &to);
+            page.put(b" ");
+            put_escaped(&mut page, text.as_str());
+        }
+        Event::Carry(number) => put_numbered(&mut page, b"carry ", *number),
+        Event::Timeout(phone) => put_named(&mut page, b"timeout ", script.name(*phone)),
+        Event::Push(phone) => put_named(&mut page, b"push ", script.name(*phone)),
+        Event::Tick(seconds) => put_numbered(&mut page, b"tick ", *seconds),
+        Event::Inject { up, phone, .. } => {
+            let words = if *up { "inject up " } else { "inject down " };
+            put_named(&mut page, words.as_bytes(), script.name(*phone));
+        }
+    }
+    page.into_text()
+}
+
+/// Adds words and a number.
+fn put_numbered(page: &mut Page, words: &[u8], number: u64) {
+    page.put(words);
+    page.put_decimal(number);
+}
+
+/// Adds words and a name.
+fn put_named(page: &mut Page, words: &[u8], name: &str) {
+    page.put(words);
+    page.put(name.as_bytes());
+}
+
+/// The line of what was answered, as a transcript has it.
+fn told_text(alloc: Global, happened: &Happened<'_>) -> Result<String, Fault> {
+    let told = told_of(happened.answer);
+    let mut page = Page::new(alloc);
+    page.put(told.word.as_bytes());
+    for number in [told.text, told.segment, told.cause.map(usize::from)] {
+        if let Some(number) = number {
+            page.put(b" ");
+            page.put_decimal(number as u64);
+        }
+    }
+    match told.failure {
+        Some(failure) => {
+            page.put(b" ");
+            page.put_octet(failure);
+        }
+        None if told.cause.is_some() => page.put(b" -"),
+        None => {}
+    }
+    page.into_text()
+}
+
+impl Collected {
+    /// Adds the row of an event.
+    fn add_row(&mut self, alloc: Global, happened: &Happened<'_>) -> Result<(), Fault> {
+        let asked = asked_of(alloc, happened.script, happened.event)?;
+        let told = match told_text(alloc, happened) {
+            Ok(told) => told,
+            Err(fault) => {
+                drop(asked);
+                return Err(fault);
+            }
+        };
+        let count = happened.running.world.packet_count();
+        self.rows.push(Row {
+            doing: doing_of(happened),
+            asked,
+            told,
+            packets: count.saturating_sub(happened.packets_before),
+        })?;
+        Ok(())
+    }
+
+    /// Adds the packet of a place.
+    fn add_packet(
+        &mut self,
+        alloc: Global,
+        happened: &Happened<'_>,
+        place: usize,
+    ) -> Result<(), Fault> {
+        let Some(packet) = happened
+            .running
+            .world
+            .packet_on_way(place.saturating_add(1))
+        else {
+            return Ok(());
+        };
+        let name = message_name(alloc, packet.octets)?;
+        self.packets.push(Sent {
+            up: packet.up,
+            phone: packet.phone,
+            name,
+            row: self.rows.len().saturating_sub(1),
+            place: place.saturating_sub(happened.packets_before),
+            carried: 0,
+        })?;
+        Ok(())
+    }
+
+    /// A packet arrives.
+    fn count_arrival(&mut self, happened: &Happened<'_>) {
+        if let Doing::Arrival(place) = doing_of(happened) {
+            if let Some(packet) = self.packets.get_mut(place) {
+                packet.carried = packet.carried.saturating_add(1);
+            }
+        }
+    }
+}
+
+impl Teller for Collected {
+    fn tell(
+        &mut self,
+        alloc: Global,
+        happened: &Happened<'_>,
+        _page: &mut Page,
+    ) -> Result<(), Fault> {
+        self.add_row(alloc, happened)?;
+        self.count_arrival(happened);
+        for place in happened.packets_before..happened.running.world.packet_count() {
+            self.add_packet(alloc, happened, place)?;
+        }
+        Ok(())
+    }
+
+    fn finish(
+        &mut self,
+        alloc: Global,
+        script: &Script,
+        running: &Running,
+        page: &mut Page,
+    ) -> Result<(), Fault> {
+        draw(alloc, self, script, running, page)
+    }
+}
+
+/// Draws a run.
+fn draw(
+    alloc: Global,
+    run: &Collected,
+    script: &Script,
+    running: &Running,
+    page: &mut Page,
+) -> Result<(), Fault> {
+    let rows = run.rows.as_slice();
+    let packets = run.packets.as_slice();
+    let places = Places::new(alloc, running.phones(), rows)?;
+    put_head(&places, script, running, page);
+    put_gaps(&places, rows, page);
+    put_arrows(&places, rows, packets, page);
+    put_labels(&places, rows, packets, page);
+    let stores = put_stores(alloc, &places, script, running, page);
+    page.put(b"</svg>\n");
+    drop(places);
+    stores
+}
+
+/// Plays the script that an input has, and writes its chart.
+pub fn put_chart<R: Read, W: Write>(
+    alloc: Global,
+    input: &mut R,
+    output: &mut W,
+) -> Result<(), Fault> {
+    let mut run = Collected {
+        rows: Vec::new(alloc),
+        packets: Vec::new(alloc),
+    };
+    let mut page = Page::new(alloc);
+    let drawn = run_script(alloc, &mut run, &mut page, input, output);
+    drop(run);
+    let written = page.write_to(output);
+    drop(page);
+    written?;
+    drawn
+}
