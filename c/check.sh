@@ -95,9 +95,9 @@ fi
 $found $flags "$here/tests/layout.c" -o "$room/layout"
 "$room/layout" >"$room/layout.c.txt"
 of_rust=
-if there cargo; then
+if there cargo && cargo --version >/dev/null 2>&1; then
 	echo "== cargo"
-	export CARGO_TARGET_DIR="$room/target" SMS_LIB_DIR="$prefix/lib" CARGO_HOME="${CARGO_HOME:-$HOME/.cargo}"
+	export CARGO_TARGET_DIR="$room/target" CARGO_HOME="$room/cargo-home" SMS_LIB_DIR="$prefix/lib"
 	(cd "$here/../rust" && cargo test --offline --locked --quiet && cargo run --offline --locked --quiet --example layout) >"$room/cargo" ||
 		{ cat "$room/cargo"; exit 1; }
 	for example in read write join; do
