@@ -23,27 +23,28 @@ use Rattle.sms_party.specs.Sender.Calls.{appended, typed, composes, ends, repeat
 use Rattle.sms_party.specs.Sender.Answers.{advanced, hears, matches, sender_receives, sender_takes}
 use Rattle.sms_party.specs.Sender.Value.{status_among, all_waiting}
 use Rattle.sms_party.specs.Sender.Stands.{status_if, statuses_of}
-use Rattle.sms_party.specs.Sender.Ended.{Call, Compose, TimeOut, Take, called, called_all, AreTold, EndedAreTold}
+use Rattle.sms_party.specs.Sender.Ended.{Call, Compose, TimeOut, Take, called, called_all, AreTold, EndedAreTold, AreTyped, EndedAreTyped}
 use Rattle.sms_party.proofs.Waiting.{nth_more, nth_new}
 
 -- ---- the texts of a phone in order of their numbers
 
-record HasNumber (texts : List Text) (n number : ℕ) : Type 0 where
+record HasNumber (texts : List Text) (phone n number : ℕ) : Type 0 where
   text : Text
   is_there : nth texts n ≡ Some text
   is : text.number ≡ number
+  own : text.phone ≡ phone
 
-abbrev AreEnded : List Text → List (ℕ × Bool) → Type 0
-AreEnded texts [] = Unit {0}
-AreEnded texts (e ∷ past) = HasNumber texts e.0 (suc (length past)) × AreEnded texts past
+abbrev AreEnded : List Text → ℕ → List (ℕ × Bool) → Type 0
+AreEnded texts phone [] = Unit {0}
+AreEnded texts phone (e ∷ past) = HasNumber texts phone e.0 (suc (length past)) × AreEnded texts phone past
 
-abbrev AreWaiting : List Text → ℕ → List ℕ → Type 0
-AreWaiting texts before [] = Unit {0}
-AreWaiting texts before (n ∷ later) = HasNumber texts n (suc before) × AreWaiting texts (suc before) later
+abbrev AreWaiting : List Text → ℕ → ℕ → List ℕ → Type 0
+AreWaiting texts phone before [] = Unit {0}
+AreWaiting texts phone before (n ∷ later) = HasNumber texts phone n (suc before) × AreWaiting texts phone (suc before) later
 
 record IsCounted (texts : List Text) (phone : ℕ) (s : Sender) : Type 0 where
-  ended : AreEnded texts s.ended
-  waiting : AreWaiting texts (length s.ended) s.pending
+  ended : AreEnded texts phone s.ended
+  waiting : AreWaiting texts phone (length s.ended) s.pending
   count : texts_of_phone texts phone ≡ length s.ended + length s.pending
 
 abbrev AreCounted : SenderState → Type 0
@@ -51,27 +52,27 @@ AreCounted x = (phone : ℕ) → IsCounted x.texts phone (x.sender phone)
 
 -- ---- one more text
 
-number_more : (texts : List Text) (t : Text) (n number : ℕ) → HasNumber texts n number → HasNumber (t ∷ texts) n number
-number_more texts t n number h = record { text = h.text; is_there = nth_more texts n h.text t h.is_there; is = h.is }
+number_more : (texts : List Text) (t : Text) (phone n number : ℕ) → HasNumber texts phone n number → HasNumber (t ∷ texts) phone n number
+number_more texts t phone n number h = record { text = h.text; is_there = nth_more texts n h.text t h.is_there; is = h.is; own = h.own }
 
-ended_more : (texts : List Text) (t : Text) (ended : List (ℕ × Bool)) → AreEnded texts ended → AreEnded (t ∷ texts) ended
-ended_more texts t [] h = tt
-ended_more texts t (e ∷ past) h = (number_more texts t e.0 (suc (length past)) h.0, ended_more texts t past h.1)
+ended_more : (texts : List Text) (t : Text) (phone : ℕ) (ended : List (ℕ × Bool)) → AreEnded texts phone ended → AreEnded (t ∷ texts) phone ended
+ended_more texts t phone [] h = tt
+ended_more texts t phone (e ∷ past) h = (number_more texts t phone e.0 (suc (length past)) h.0, ended_more texts t phone past h.1)
 
-waiting_more : (texts : List Text) (t : Text) (before : ℕ) (queue : List ℕ) → AreWaiting texts before queue → AreWaiting (t ∷ texts) before queue
-waiting_more texts t before [] h = tt
-waiting_more texts t before (n ∷ later) h = (number_more texts t n (suc before) h.0, waiting_more texts t (suc before) later h.1)
+waiting_more : (texts : List Text) (t : Text) (phone before : ℕ) (queue : List ℕ) → AreWaiting texts phone before queue → AreWaiting (t ∷ texts) phone before queue
+waiting_more texts t phone before [] h = tt
+waiting_more texts t phone before (n ∷ later) h = (number_more texts t phone n (suc before) h.0, waiting_more texts t phone (suc before) later h.1)
 
 other_more : (texts : List Text) (t : Text) (phone : ℕ) (s : Sender) → t.phone ≢ phone → IsCounted texts phone s → IsCounted (t ∷ texts) phone s
 other_more texts t phone s apart h =
     let e : (t.phone == phone) ≡ false = grind (arith, nat_tests) in
-    record { ended = ended_more texts t s.ended h.ended; waiting = waiting_more texts t (length s.ended) s.pending h.waiting; count = rw e h.count }
+    record { ended = ended_more texts t phone s.ended h.ended; waiting = waiting_more texts t phone (length s.ended) s.pending h.waiting; count = rw e h.count }
 
-waiting_last : (texts : List Text) (n before : ℕ) (queue : List ℕ) → AreWaiting texts before queue → HasNumber texts n (suc (before + length queue)) → AreWaiting texts before (queue ++ n ∷ [])
-waiting_last texts n before [] h k = let e : before + 0 ≡ before = omega arith in (subst (λ m. HasNumber texts n (suc m)) e k, tt)
-waiting_last texts n before (m ∷ later) h k =
+waiting_last : (texts : List Text) (phone n before : ℕ) (queue : List ℕ) → AreWaiting texts phone before queue → HasNumber texts phone n (suc (before + length queue)) → AreWaiting texts phone before (queue ++ n ∷ [])
+waiting_last texts phone n before [] h k = let e : before + 0 ≡ before = omega arith in (subst (λ m. HasNumber texts phone n (suc m)) e k, tt)
+waiting_last texts phone n before (m ∷ later) h k =
     let e : before + suc (length later) ≡ suc before + length later = omega arith in
-    (h.0, waiting_last texts n (suc before) later h.1 (subst (λ i. HasNumber texts n (suc i)) e k))
+    (h.0, waiting_last texts phone n (suc before) later h.1 (subst (λ i. HasNumber texts phone n (suc i)) e k))
 
 own_more : (texts : List Text) (t : Text) (phone : ℕ) (s : Sender) → t.phone ≡ phone → t.number ≡ suc (texts_of_phone texts phone) → IsCounted texts phone s → IsCounted (t ∷ texts) phone (appended s (length texts))
 unfolding appended
@@ -80,9 +81,9 @@ own_more texts t phone s own number h =
     let count = h.count in
     let size = length-append s.pending (length texts ∷ []) in
     record {
-      ended = ended_more texts t s.ended h.ended;
-      waiting = waiting_last (t ∷ texts) (length texts) (length s.ended) s.pending (waiting_more texts t (length s.ended) s.pending h.waiting)
-          (record { text = t; is_there = nth_new texts t; is = number ∙ ap suc count });
+      ended = ended_more texts t phone s.ended h.ended;
+      waiting = waiting_last (t ∷ texts) phone (length texts) (length s.ended) s.pending (waiting_more texts t phone (length s.ended) s.pending h.waiting)
+          (record { text = t; is_there = nth_new texts t; is = number ∙ ap suc count; own = own });
       count = rw e (omega (arith, count, size));
     }
 
@@ -106,7 +107,7 @@ put texts phone s again h = first_puts texts phone s again s.pending h
 ended_one : (texts : List Text) (phone : ℕ) (s : Sender) (n : ℕ) (later : List ℕ) (good : Bool) → s.pending ≡ n ∷ later → IsCounted texts phone s → IsCounted texts phone (ends s n later good)
 unfolding ends
 ended_one texts phone s n later good is h =
-    let waiting = subst (λ (q : List ℕ). AreWaiting texts (length s.ended) q) is h.waiting in
+    let waiting = subst (λ (q : List ℕ). AreWaiting texts phone (length s.ended) q) is h.waiting in
     let size : length s.pending ≡ suc (length later) = ap length is in
     let count = h.count in
     record { ended = (waiting.0, h.ended); waiting = waiting.1; count = omega (arith, count, size) }
@@ -236,14 +237,14 @@ abbrev AreAmong : List Status → List Text → List (ℕ × Bool) → Type 0
 AreAmong statuses texts [] = Unit {0}
 AreAmong statuses texts (e ∷ past) = (status_among statuses (number_of (nth texts e.0)) ≡ Some (status_if e.1)) × AreAmong statuses texts past
 
-are_among : (texts : List Text) (ended : List (ℕ × Bool)) (later : List Status) → AreEnded texts ended → AreAmong (statuses_of ended ++ later) texts ended
-are_among texts [] later h = tt
-are_among texts (e ∷ past) later h =
+are_among : (texts : List Text) (phone : ℕ) (ended : List (ℕ × Bool)) (later : List Status) → AreEnded texts phone ended → AreAmong (statuses_of ended ++ later) texts ended
+are_among texts phone [] later h = tt
+are_among texts phone (e ∷ past) later h =
     let split : (statuses_of past ++ status_if e.1 ∷ []) ++ later ≡ statuses_of past ++ status_if e.1 ∷ later = append_assoc (statuses_of past) (status_if e.1 ∷ []) later in
     let number : number_of (nth texts e.0) ≡ suc (length (statuses_of past)) = ap number_of h.0.is_there ∙ (h.0.is ∙ ap suc (sym (as_many past))) in (
       ap (λ (l : List Status). status_among l (number_of (nth texts e.0))) split
           ∙ (ap (status_among (statuses_of past ++ status_if e.1 ∷ later)) number ∙ among (statuses_of past) (status_if e.1) later),
-      subst (λ (l : List Status). AreAmong l texts past) (sym split) (are_among texts past (status_if e.1 ∷ later) h.1),
+      subst (λ (l : List Status). AreAmong l texts past) (sym split) (are_among texts phone past (status_if e.1 ∷ later) h.1),
     )
 
 told_by : (x : SenderState) (phone : ℕ) (ended : List (ℕ × Bool)) → AreAmong (statuses_of (x.sender phone).ended ++ all_waiting (x.sender phone).pending) x.texts ended → AreTold x phone ended
@@ -253,4 +254,15 @@ told_by x phone (e ∷ ended) h = (h.0, told_by x phone ended h.1)
 pub ended_are_told : EndedAreTold
 ended_are_told wide reject calls phone =
     let x = called_all wide reject calls in
-    told_by x phone (x.sender phone).ended (are_among x.texts (x.sender phone).ended (all_waiting (x.sender phone).pending) (all_calls wide reject calls phone).ended)
+    told_by x phone (x.sender phone).ended (are_among x.texts phone (x.sender phone).ended (all_waiting (x.sender phone).pending) (all_calls wide reject calls phone).ended)
+
+-- ---- the texts that have ended
+
+typed_so : (texts : List Text) (phone : ℕ) (ended : List (ℕ × Bool)) → AreEnded texts phone ended → AreTyped texts phone ended
+typed_so texts phone [] h = tt
+typed_so texts phone (e ∷ past) h = (record { text = h.0.text; typed = h.0.is_there; own = h.0.own; numbered = h.0.is }, typed_so texts phone past h.1)
+
+pub ended_are_typed : EndedAreTyped
+ended_are_typed wide reject calls phone =
+    let x = called_all wide reject calls in
+    typed_so x.texts phone (x.sender phone).ended (all_calls wide reject calls phone).ended

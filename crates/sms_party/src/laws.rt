@@ -3,7 +3,7 @@
 
 ghost use Rattle.sms_party.specs.Drops.{DropsPutNothingOut};
 ghost use Rattle.sms_party.specs.Few.{FewArePutOut};
-ghost use Rattle.sms_party.specs.Sender.Ended.{EndedAreTold};
+ghost use Rattle.sms_party.specs.Sender.Ended.{EndedAreTold, EndedAreTyped};
 ghost use Rattle.sms_party.specs.Sender.Others.{OthersLeaveSender};
 
 /// What one phone types and hears leaves the sender of another as it is.
@@ -14,6 +14,12 @@ pub fn others_leave_sender()
 /// The status of a text that has ended, asked by the number that it was typed as, is how it ended.
 pub fn ended_texts_are_told()
     ensures { EndedAreTold }
+{}
+
+/// The texts that have ended at a phone are the first that were typed there, in the order of
+/// typing.
+pub fn ended_texts_are_typed()
+    ensures { EndedAreTyped }
 {}
 
 /// A sender and a receiver put out two packets at most, and a sender all of its own to the centre.

@@ -1,11 +1,12 @@
 -- What stands at the phones, told after the last line.
-use Rattle.std.proofs.Common.{◌≡◌, ℕ, List, [], ◌++◌, length, Option, Some, None, Result, Ok, Err, Bool, refl, sym, ap, ◌∙◌, subst, append_assoc, append-nil}
+use Rattle.std.proofs.Common.{◌≡◌, ℕ, List, [], ◌++◌, length, Option, Some, None, Result, Ok, Err, Bool, refl, sym, ap, ◌∙◌, subst, inr}
 use Rattle.std.specs.Io.KnownBytes.{Appends}
-use Rattle.sms_script.proofs.LineTurns.{unplayed_goes_on}
 use Rattle.sms_script.proofs.PutLemmas.{Appends-both}
-use Rattle.sms_script.specs.Play.{Played, Plays, TellsFront, IsFront, told, told_in_the_end}
+use Rattle.sms_script.specs.Play.{Plays}
+use Rattle.sms_script.specs.Play.Endings.{StopsUnbegun, PlaysToEnd}
+use Rattle.sms_script.specs.Play.Played.{Played, told, told_in_the_end}
 use Rattle.sms_script.specs.Play.Network.{Conduct}
-use Rattle.sms_script.specs.Play.Puts.{Puts, HasFailed}
+use Rattle.sms_script.specs.Play.Puts.{Puts, IsPutOf, HasFailed}
 use Rattle.sms_script.specs.Play.Runs.{Starts, Ran}
 use Rattle.sms_script.specs.Script.{ScriptValue, script_of}
 use Rattle.sms_script.specs.Script.Settings.{SettingsValue}
@@ -14,7 +15,7 @@ use Rattle.sms_script.specs.declared.fault.PlayFault.{PlayFault}
 use Rattle.sms_script.specs.declared.fault.PlayFault.TheVariants as faults
 use Rattle.sms_script.specs.Lines.{lines}
 use Rattle.sms_script.specs.declared.meaning.event.Event.{Event}
-use Rattle.sms_script.specs.Transcript.{Happened}
+use Rattle.sms_script.specs.Transcript.{Happened, event_lines}
 
 -- the network in the end: that of the events, or one that just began
 pub end_there : {N : Type 0} (net : Conduct N) (t : ScriptValue) (s : SettingsValue) (w : Option N) (hs : List Happened) (u : N)
@@ -26,12 +27,21 @@ end_there net t s None hs u f played follows there =
 end_there net t s (Some w) hs u f played follows there =
     (subst (λ x. Played net t hs (Some x)) (sym there) played, ap (λ x. length (net.ends x)) there ∙ follows.2)
 
--- want of memory at the end
+-- want of memory at the end, before a network began
 pub end_unmade : {N : Type 0} (net : Conduct N) (s : SettingsValue) (w : Option N) (old new before now : Option (List ℕ))
-    → PlaysLines net old new s w before now (Ok tt) → Plays net old new before now (Err faults.Memory)
-end_unmade net s w old new before now h =
-    let f : TellsFront net (lines h.0) before now = subst (λ (l : List (List ℕ)). TellsFront net l before now) (append-nil (lines h.0)) (unplayed_goes_on net (lines h.0) [] s w h.1 before now h.4) in
-    (h.0, h.2, f)
+    → w ≡ None → PlaysLines net old new s w before now (Ok tt) → StopsUnbegun old new before now
+unfolding event_lines
+end_unmade {N} net s w old new before now none h = record {
+  read = h.0;
+  taken = h.2;
+  ended = h.3;
+  faultless = h.4.1.fault;
+  no_events = played.0;
+  wrote = subst (λ (hs : List Happened). Appends before now (told s hs)) played.1 h.4.1.wrote;
+}
+  where
+    played : Played net (script_of (lines h.0)) h.4.0 None
+    played = subst (λ (x : Option N). Played net (script_of (lines h.0)) h.4.0 x) none h.4.1.played
 
 -- as many phones in the network as in the script
 pub end_phones : {N : Type 0} (net : Conduct N) (s : SettingsValue) (w : Option N) (old new before now : Option (List ℕ)) (u : N)
@@ -57,34 +67,23 @@ end_turn {N} net s w old new before now last u result failed h there puts fails 
     settings : s ≡ t.settings
     settings = sym h.4.1.settings
 
-    front : (fault : PlayFault) → Puts now last (told_in_the_end s (net.ends u)) (Err fault) → TellsFront net (lines h.0) before last
-    front fault q =
-        let is_front : IsFront net s hs (Some u) (told s hs ++ q.0) = (q.1, ap (λ (l : List ℕ). told s hs ++ l) q.2 ∙ sym (append_assoc (told s hs) q.0 q.1)) in (
-          lines h.0,
-          ([], sym (append-nil (lines h.0))),
-          h.4.1.fault,
-          hs,
-          Some u,
-          played,
-          told s hs ++ q.0,
-          subst (λ (y : SettingsValue). IsFront net y hs (Some u) (told s hs ++ q.0)) settings is_front,
-          Appends-both before now last (told s hs) q.0 h.4.1.wrote q.3,
-        )
+    end_told : (r : Result (Unit {0}) PlayFault) → Puts now last (told_in_the_end s (net.ends u)) r → PlaysToEnd net old new before last r
+    end_told r q = record {
+      read = h.0;
+      taken = h.2;
+      ended = h.3;
+      faultless = h.4.1.fault;
+      happened = hs;
+      network = u;
+      played = played;
+      front = q.0;
+      told_is = subst (λ (y : SettingsValue). IsPutOf (told_in_the_end y (net.ends u)) q.0 r) settings q.1;
+      wrote = subst (λ (y : SettingsValue). Appends before last (told y hs ++ q.0)) settings (Appends-both before now last (told s hs) q.0 h.4.1.wrote q.2);
+    }
 
     by_result : (r : Result (Unit {0}) PlayFault) → Puts now last (told_in_the_end s (net.ends u)) r → HasFailed r failed → Plays net old new before last r
-    by_result (Ok done) q f = (
-      h.0,
-      h.2,
-      h.3,
-      h.4.1.fault,
-      (
-        hs,
-        u,
-        played,
-        subst (λ (y : SettingsValue). Appends before last (told y hs ++ told_in_the_end y (net.ends u))) settings (Appends-both before now last (told s hs) (told_in_the_end s (net.ends u)) h.4.1.wrote q),
-      ),
-    )
-    by_result (Err faults.Write) q f = let a = front faults.Write q in (h.0, h.2, a)
-    by_result (Err faults.Memory) q f = let a = front faults.Memory q in (h.0, h.2, a)
+    by_result (Ok done) q f = end_told (Ok done) q
+    by_result (Err faults.Write) q f = inr (end_told (Err faults.Write) q)
+    by_result (Err faults.Memory) q f = inr (inr (end_told (Err faults.Memory) q))
     by_result (Err faults.Read) q f = absurd f
     by_result (Err (faults.Script n why)) q f = absurd f

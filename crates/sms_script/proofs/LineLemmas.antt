@@ -1,12 +1,12 @@
 -- Lines, octet by octet.
-use Rattle.std.proofs.Common.{◌≡◌, ℕ, suc, ◌+◌, ◌-◌, ◌<◌, ◌≤◌, List, [], ◌∷◌, ◌++◌, length, refl, sym, ap, ◌∙◌, arith, Bool, true, false, ◌==◌, cond, nat_lt, get_or, take, append_assoc}
+use Rattle.std.proofs.Common.{◌≡◌, ℕ, suc, ◌+◌, ◌-◌, ◌<◌, ◌≤◌, List, [], ◌∷◌, ◌++◌, length, refl, sym, ap, ◌∙◌, arith, Bool, true, false, ◌==◌, cond, nat_lt, get_or, take, append_assoc, append-nil, inl, inr, subst}
 use Rattle.std.proofs.lemmas.List.{length_push, get_or_push, length-take}
 use Rattle.std.proofs.lemmas.List.Splits.{length-slice_split}
 use Rattle.std.proofs.Math.Seq.{take-append_seam}
 use Rattle.std.proofs.lemmas.Bool.{ltb-true, ltb-false, ne_eqb}
 use Rattle.std.specs.List.{slice_split}
 use Rattle.std.specs.Str.Lines.{lines_of_parts}
-use Rattle.sms_script.specs.Lines.{line_feed, line_limit, carriage_return, lines, strip_carriage_return, HasNoLineFeed, AreWhole}
+use Rattle.sms_script.specs.Lines.{line_feed, line_limit, carriage_return, lines, strip_carriage_return, HasNoLineFeed, AreWhole, EndsLine, AreLines}
 
 pub HasNoLineFeed-more : (octets : List ℕ) (octet : ℕ) → HasNoLineFeed octets → (octet ≡ line_feed → ⊥) → HasNoLineFeed (octets ++ octet ∷ [])
 HasNoLineFeed-more [] octet h e = (ne_eqb octet line_feed e, tt)
@@ -99,3 +99,14 @@ few_octets octets octet h = omega (arith, length_push octets octet, strip-bound 
 
 pub few_octets_more : (octets : List ℕ) (octet : ℕ) → length (strip_carriage_return (octets ++ octet ∷ [])) ≤ line_limit → length (octets ++ octet ∷ []) ≤ line_limit + 1
 few_octets_more octets octet h = omega (arith, strip-bound (octets ++ octet ∷ []))
+
+pub EndsLine-front : (front text : List ℕ) → EndsLine text → EndsLine (front ++ text)
+EndsLine-front front text h = (front ++ h.0, ap (λ (l : List ℕ). front ++ l) h.1 ∙ sym (append_assoc front h.0 (line_feed ∷ [])))
+
+-- lines after lines
+pub AreLines-append : (a b : List ℕ) → AreLines a → AreLines b → AreLines (a ++ b)
+AreLines-append a b (inl none) h = let P : List ℕ → Type 0 = λ l. AreLines (l ++ b) in subst P (sym none) h
+AreLines-append a b (inr some) (inl none) =
+    let P : List ℕ → Type 0 = λ l. AreLines l in
+    subst P (sym (ap (λ (l : List ℕ). a ++ l) none ∙ append-nil a)) (inr some)
+AreLines-append a b (inr some) (inr more) = inr (EndsLine-front a b more)

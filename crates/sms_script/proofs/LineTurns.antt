@@ -3,18 +3,18 @@ use Rattle.std.proofs.Common.{◌≡◌, ℕ, ◌+◌, ◌<◌, ◌≤◌, List,
 use Rattle.std.specs.Io.KnownBytes.{Appends}
 use Rattle.std.proofs.lemmas.Bool.{lt-ltb, le-leb}
 use Rattle.sms_script.proofs.PlayedTurns.{played_before, played_nothing, played_first, played_event}
-use Rattle.sms_script.proofs.PutLemmas.{Appends-both}
+use Rattle.sms_script.proofs.PutLemmas.{Appends-both, puts_all}
 use Rattle.sms_script.proofs.RunLemmas.{lines_more, event_lines_more}
 use Rattle.sms_script.proofs.RunningLemmas.{IsNoSetting, running_says}
 use Rattle.sms_script.proofs.Turns.{with_statement, with_line-says, with_fault, with_line-fails}
 use Rattle.sms_script.specs.Play.Events.{TakesEvent}
 use Rattle.sms_script.specs.Lines.{line_limit}
-use Rattle.sms_script.specs.Play.{Played, Tells, TellsFront, told, told_in_the_end, IsFront}
+use Rattle.sms_script.specs.Play.Played.{Played, told}
 use Rattle.sms_script.specs.Play.Network.{Conduct}
-use Rattle.sms_script.specs.Play.Puts.{Puts, HasFailed}
+use Rattle.sms_script.specs.Play.Puts.{Puts, PutsAtOnce, HasFailed}
 use Rattle.sms_script.specs.Script.{ScriptValue, TakesLine, no_lines, script_of, after, event_of, line_meaning, lines_limit}
 use Rattle.sms_script.specs.Script.Settings.{SettingsValue}
-use Rattle.sms_script.specs.Play.Standing.{put_count, Follows, Stands, GoesOn, OpensAt}
+use Rattle.sms_script.specs.Play.Standing.{put_count, Follows, Stands, at, BreaksOff, GoesOn, OpensAt}
 use Rattle.sms_script.specs.declared.fault.PlayFault.{PlayFault}
 use Rattle.sms_script.specs.declared.fault.PlayFault.TheVariants as faults
 use Rattle.sms_script.specs.Meaning.{meaning}
@@ -38,33 +38,25 @@ pub line_fails : (ls : List (List ℕ)) (line : List ℕ) (s : SettingsValue) (w
     → script_of (ls ++ line ∷ []) ≡ with_fault (script_of ls) why
 line_fails ls line s why e f m = lines_more no_lines ls line ∙ with_line-fails (script_of ls) s line why e f m
 
-pub all_front : {N : Type 0} (net : Conduct N) (s : SettingsValue) (hs : List Happened) (w : Option N) → IsFront net s hs w (told s hs)
-all_front net s hs None = ([], sym (append-nil (told s hs)))
-all_front net s hs (Some w) = (told_in_the_end s (net.ends w), refl)
-
 -- a line at fault
-pub fault_goes_on : {N : Type 0} (net : Conduct N) (ls : List (List ℕ)) (line : List ℕ) (s z : SettingsValue) (w x : Option N) (events k : ℕ) (before now : Option (List ℕ)) (n : ℕ) (why : ScriptFault)
-    → Stands net ls s w events before now → line_meaning s line ≡ Err why → n ≡ s.lines + 1
-    → GoesOn net (ls ++ line ∷ []) z x k before now (Err (faults.Script n why))
-fault_goes_on net ls line s z w x events k before now n why h m c =
-    let q = line_fails ls line s why h.1.fault h.1.settings m in (
-      ap (λ (t : ScriptValue). t.fault) q ∙ ap (λ (i : ℕ). Some (i, why)) (ap (λ (y : SettingsValue). y.lines + 1) h.1.settings ∙ sym c),
-      subst (λ (t : ScriptValue). Tells net t before now) (sym q) (h.0, w, h.1.played, subst (λ (y : SettingsValue). Appends before now (told y h.0)) (sym h.1.settings) h.1.wrote),
-    )
+pub line_fault : (ls : List (List ℕ)) (line : List ℕ) (s : SettingsValue) (n : ℕ) (why : ScriptFault) → (script_of ls).fault ≡ None → (script_of ls).settings ≡ s → line_meaning s line ≡ Err why
+    → n ≡ s.lines + 1 → (script_of (ls ++ line ∷ [])).fault ≡ Some (n, why)
+line_fault ls line s n why f e m c =
+    ap (λ (t : ScriptValue). t.fault) (line_fails ls line s why f e m) ∙ ap (λ (i : ℕ). Some (i, why)) (ap (λ (y : SettingsValue). y.lines + 1) e ∙ sym c)
 
--- want of memory before the line was played
-pub unplayed_goes_on : {N : Type 0} (net : Conduct N) (ls others : List (List ℕ)) (s : SettingsValue) (w : Option N) (events : ℕ) (before now : Option (List ℕ))
-    → Stands net ls s w events before now → TellsFront net (ls ++ others) before now
-unplayed_goes_on net ls others s w events before now h = (
-  ls,
-  (others, refl),
-  h.1.fault,
+-- nothing more was written
+pub stands_kept : {N : Type 0} (net : Conduct N) (ls : List (List ℕ)) (s : SettingsValue) (w : Option N) (events : ℕ) (before now last : Option (List ℕ))
+    → Appends now last [] → Stands net ls s w events before now → Stands net ls s w events before last
+stands_kept net ls s w events before now last none h = (
   h.0,
-  w,
-  h.1.played,
-  told (script_of ls).settings h.0,
-  all_front net (script_of ls).settings h.0 w,
-  subst (λ (y : SettingsValue). Appends before now (told y h.0)) (sym h.1.settings) h.1.wrote,
+  record {
+    fault = h.1.fault;
+    settings = h.1.settings;
+    played = h.1.played;
+    events = h.1.events;
+    follows = h.1.follows;
+    wrote = subst (λ (l : List ℕ). Appends before last l) (append-nil (told s h.0)) (Appends-both before now last (told s h.0) [] h.1.wrote none);
+  },
 )
 
 -- a line without an event
@@ -139,7 +131,7 @@ pub event_goes_on : {N : Type 0} (net : Conduct N) (ls : List (List ℕ)) (line 
     → Stands net ls s w events before now → OpensAt net (after s (statements.Event event)) w u
     → TakesEvent net u event v (after s (statements.Event event)) n now last result → length (net.ends v) ≡ length (net.ends u) → HasFailed result failed
     → x ≡ Some v ⊎ (result ≡ Ok tt → ⊥)
-    → GoesOn net (ls ++ line ∷ []) (after s (statements.Event event)) x n before last result
+    → GoesOn net ls line (at s w events now) (at (after s (statements.Event event)) x n last) before result
 event_goes_on {N} net ls line s w x events n before now last event u v result failed few short m count h there takes phones fails is = by_result result takes.4 fails is
   where
     z : SettingsValue
@@ -185,28 +177,34 @@ event_goes_on {N} net ls line s w x events n before now last event u v result fa
       },
     )
 
-    front : (fault : PlayFault) → Puts now last text (Err fault) → TellsFront net (ls ++ line ∷ []) before last
-    front fault puts =
-        let settings : z ≡ (script_of (ls ++ line ∷ [])).settings = sym (ap (λ (t : ScriptValue). t.settings) q) in
-        let ended = told_in_the_end z (net.ends v) in
-        let is_front : IsFront net z (h.0 ++ k ∷ []) (Some v) (told z h.0 ++ puts.0) =
-        (puts.1 ++ ended, ap (λ (l : List ℕ). l ++ ended) (more ∙ ap (λ (l : List ℕ). told z h.0 ++ l) puts.2 ∙ sym (append_assoc (told z h.0) puts.0 puts.1)) ∙ append_assoc (told z h.0 ++ puts.0) puts.1 ended) in (
-          ls ++ line ∷ [],
-          ([], sym (append-nil (ls ++ line ∷ []))),
-          ap (λ (t : ScriptValue). t.fault) q,
-          h.0 ++ k ∷ [],
-          Some v,
-          played,
-          told z h.0 ++ puts.0,
-          subst (λ (y : SettingsValue). IsFront net y (h.0 ++ k ∷ []) (Some v) (told z h.0 ++ puts.0)) settings is_front,
-          Appends-both before now last (told z h.0) puts.0 wrote puts.3,
-        )
+    settings : (script_of (ls ++ line ∷ [])).settings ≡ z
+    settings = ap (λ (t : ScriptValue). t.settings) q
 
-    by_result : (r : Result (Unit {0}) PlayFault) → Puts now last text r → HasFailed r failed → x ≡ Some v ⊎ (r ≡ Ok tt → ⊥) → GoesOn net (ls ++ line ∷ []) z x n before last r
-    by_result (Ok done) puts f (inl is_v) = subst (λ y. Stands net (ls ++ line ∷ []) z y n before last) (sym is_v) (stands puts)
+    same : told (script_of ls).settings h.0 ≡ told z h.0
+    same = ap (λ (y : SettingsValue). told y h.0) h.1.settings ∙ event_told s event h.0
+
+    breaks : Puts now last text (Err faults.Write) → BreaksOff net ls line w before last
+    breaks puts =
+        let all : told z (h.0 ++ k ∷ []) ≡ told z h.0 ++ (puts.0 ++ puts.1.0) = more ∙ ap (λ (l : List ℕ). told z h.0 ++ l) puts.1.1 in
+        record {
+          fault = h.1.fault;
+          faultless = ap (λ (t : ScriptValue). t.fault) q;
+          earlier = h.0;
+          played = h.1.played;
+          last = k;
+          after = v;
+          happened = played;
+          front = puts.0;
+          back = puts.1.0;
+          told_is = ap (λ (y : SettingsValue). told y (h.0 ++ k ∷ [])) settings ∙ all ∙ ap (λ (l : List ℕ). l ++ (puts.0 ++ puts.1.0)) (sym same);
+          wrote = subst (λ (l : List ℕ). Appends before last (l ++ puts.0)) (sym same) (Appends-both before now last (told z h.0) puts.0 wrote puts.2);
+        }
+
+    by_result : (r : Result (Unit {0}) PlayFault) → PutsAtOnce now last text r → HasFailed r failed → x ≡ Some v ⊎ (r ≡ Ok tt → ⊥) → GoesOn net ls line (at s w events now) (at z x n last) before r
+    by_result (Ok done) puts f (inl is_v) = subst (λ y. Stands net (ls ++ line ∷ []) z y n before last) (sym is_v) (stands (puts_all now last text puts))
     by_result (Ok done) puts f (inr never) = absurd (never refl)
-    by_result (Err faults.Write) puts f i = front faults.Write puts
-    by_result (Err faults.Memory) puts f i = front faults.Memory puts
+    by_result (Err faults.Write) puts f i = breaks puts
+    by_result (Err faults.Memory) puts f i = stands_kept net ls s w events before now last puts h
     by_result (Err faults.Read) puts f i = absurd f
     by_result (Err (faults.Script a b)) puts f i = absurd f
 
@@ -223,9 +221,9 @@ event_is (statements.Phone phone) event e = cc
 -- a line that was not taken
 pub take_fails : {N : Type 0} (net : Conduct N) (ls : List (List ℕ)) (line : List ℕ) (s z : SettingsValue) (w x : Option N) (events k : ℕ) (before now : Option (List ℕ)) (fault : PlayFault)
     → s.lines < lines_limit → length line ≤ line_limit → Stands net ls s w events before now → TakesLine s z line (Err fault)
-    → GoesOn net (ls ++ line ∷ []) z x k before now (Err fault)
-take_fails net ls line s z w x events k before now (faults.Script n why) few short h t = fault_goes_on net ls line s z w x events k before now n why h (meaning_within s line few short ∙ t.0) t.1
-take_fails net ls line s z w x events k before now faults.Memory few short h t = unplayed_goes_on net ls (line ∷ []) s w events before now h
+    → GoesOn net ls line (at s w events now) (at z x k now) before (Err fault)
+take_fails net ls line s z w x events k before now (faults.Script n why) few short h t = (line_fault ls line s n why h.1.fault h.1.settings (meaning_within s line few short ∙ t.0) t.1, h)
+take_fails net ls line s z w x events k before now faults.Memory few short h t = h
 take_fails net ls line s z w x events k before now faults.Read few short h t = absurd t
 take_fails net ls line s z w x events k before now faults.Write few short h t = absurd t
 
@@ -235,10 +233,10 @@ pub event_answered : {N : Type 0} (net : Conduct N) (ls : List (List ℕ)) (line
     → Stands net ls s w events before now → TakesLine s z line (Ok answer) → answer ≡ Some event → OpensAt net z w u
     → TakesEvent net u event v z n now last result → length (net.ends v) ≡ length (net.ends u) → HasFailed result failed
     → x ≡ Some v ⊎ (result ≡ Ok tt → ⊥)
-    → GoesOn net (ls ++ line ∷ []) z x n before last result
+    → GoesOn net ls line (at s w events now) (at z x n last) before result
 event_answered net ls line s z w x events n before now last answer event u v result failed few short count h t a there takes phones fails is =
     let st : t.0 ≡ statements.Event event = event_is t.0 event (sym t.3 ∙ a) in
     let new : after s (statements.Event event) ≡ z = sym (t.2 ∙ ap (after s) st) in
-    let G = λ (y : SettingsValue). OpensAt net y w u → TakesEvent net u event v y n now last result → GoesOn net (ls ++ line ∷ []) y x n before last result in
+    let G = λ (y : SettingsValue). OpensAt net y w u → TakesEvent net u event v y n now last result → GoesOn net ls line (at s w events now) (at y x n last) before result in
     let g : G (after s (statements.Event event)) = λ th ta. event_goes_on net ls line s w x events n before now last event u v result failed few short (t.1 ∙ ap Ok st) count h th ta phones fails is in
     subst G new g there takes

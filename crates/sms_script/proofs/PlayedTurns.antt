@@ -2,7 +2,7 @@
 use Rattle.std.proofs.Common.{◌≡◌, List, [], ◌∷◌, ◌++◌, Some, None, refl, sym, ap, ◌∙◌, subst}
 use Rattle.sms_script.proofs.RunLemmas.{ran_more}
 use Rattle.sms_script.proofs.Turns.{with_statement}
-use Rattle.sms_script.specs.Play.{Played}
+use Rattle.sms_script.specs.Play.Played.{Played}
 use Rattle.sms_script.specs.Play.Network.{Conduct}
 use Rattle.sms_script.specs.Play.Runs.{Ran, Starts}
 use Rattle.sms_script.specs.Script.{ScriptValue, after, event_of, with_event}

@@ -3,7 +3,7 @@
 -- line feed there is a line only where there is an octet.
 pub mod Reading
 pub use Rattle.std.specs.Str.Lines.{lines, strip_carriage_return}
-use Rattle.std.specs.Prelude.{◌≡◌, ℕ, List, [], ◌∷◌, ◌++◌, ◌==◌, false}
+use Rattle.std.specs.Prelude.{◌≡◌, ◌⊎◌, ℕ, List, [], ◌∷◌, ◌++◌, ◌==◌, false}
 
 abbrev pub line_feed : ℕ
 line_feed = 10
@@ -24,3 +24,11 @@ HasNoLineFeed (octet ∷ octets) = ((octet == line_feed) ≡ false) × HasNoLine
 -- whole lines: what follows them begins a line
 abbrev pub AreWhole : List ℕ → Type 0
 AreWhole read = (more : List ℕ) → lines (read ++ more) ≡ lines read ++ lines more
+
+-- the last octet is a line feed
+abbrev pub EndsLine : List ℕ → Type 0
+EndsLine text = (front : List ℕ) × (text ≡ front ++ line_feed ∷ [])
+
+-- nothing, or lines of which the last one has its line feed too
+abbrev pub AreLines : List ℕ → Type 0
+AreLines text = (text ≡ []) ⊎ EndsLine text

@@ -65,13 +65,16 @@ fn is_longer(line: &[u8], octet: u8) -> bool
 }
 
 /// Reads one line, without its line feed and the carriage return before it, from a source that must
-/// not have failed yet. Of a line that is too long no octet is read after the one that shows it.
+/// not have failed yet, nor told its end. Of a line that is too long no octet is read after the one
+/// that shows it.
 pub fn read_line<S: Source>(source: &mut S, line: &mut Vec<u8>) -> Result<LineEnd, LineFault>
-    requires { S.has_failed source.old ≡ false }
+    requires works { S.has_failed source.old ≡ false }
+    requires goes_on { S.has_ended source.old ≡ false }
     ensures reads { let old = S.remaining source.old in
         ReadsLine old (S.remaining source.new) line.new.items result }
     ensures fails { result ≡ Err LineFault.Read → S.has_failed source.new ≡ true }
     ensures works { result ≢ Err LineFault.Read → S.has_failed source.new ≡ false }
+    ensures goes_on { result ≡ Ok LineEnd.LineFeed → S.has_ended source.new ≡ false }
 {
     line.clear();
     loop {

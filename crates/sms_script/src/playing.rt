@@ -33,6 +33,7 @@ fn play_script<N: Network, S: Source, K: Sink>(
     sink: &mut K,
 ) -> Result<(), PlayFault>
     requires reads { S.has_failed source.old ≡ false }
+    requires begins { S.has_ended source.old ≡ false }
     requires writes { K.has_failed sink.old ≡ false }
     requires script { script.old ≡ before_all }
     ensures plays { let left = S.remaining source.old in
@@ -51,7 +52,7 @@ fn play_script<N: Network, S: Source, K: Sink>(
 
 /// Plays the script that a source gives, and writes its transcript into a sink.
 ///
-/// Neither may have failed yet. A script that is at fault, a read that fails, a write that fails
+/// Neither may have failed yet, nor may the source have told its end. A script that is at fault, a read that fails, a write that fails
 /// and want of memory end it at once; what was written for the lines before stands. The sink is not
 /// flushed.
 pub fn play<N: Network, S: Source, K: Sink>(
@@ -60,6 +61,7 @@ pub fn play<N: Network, S: Source, K: Sink>(
     sink: &mut K,
 ) -> Result<(), PlayFault>
     requires reads { S.has_failed source.old ≡ false }
+    requires begins { S.has_ended source.old ≡ false }
     requires writes { K.has_failed sink.old ≡ false }
     ensures plays { let left = S.remaining source.old in
         let now_left = S.remaining source.new in

@@ -1,5 +1,5 @@
 -- The claims of a world are those of the states for which it stands.
-use Rattle.std.proofs.Common.{◌≡◌, ℕ, zero, suc, ◌-◌, Bool, true, false, List, [], ◌∷◌, ◌++◌, reverse, Some, refl, sym, ap, ◌∙◌, subst, arith, Contains, ◌⊎◌, inl, inr}
+use Rattle.std.proofs.Common.{◌≡◌, ℕ, zero, suc, ◌-◌, ◌≤◌, Bool, true, false, List, [], ◌∷◌, ◌++◌, reverse, Some, refl, sym, ap, ◌∙◌, subst, arith, Contains, ◌⊎◌, inl, inr}
 use Rattle.std.specs.List.{slice_get}
 use Rattle.std.proofs.lemmas.List.{reverse-append}
 use Rattle.std.proofs.lemmas.List.Elements.{Contains-append_cases}
@@ -7,7 +7,10 @@ use Rattle.sms_party.specs.declared.sender.Status.{Status}
 use Rattle.sms_party.specs.declared.sender.Status.TheVariants.{Accepted}
 use Rattle.sms_party.specs.Sender.Stands.{status_if, statuses_of}
 use Rattle.sms_party.specs.Sender.Value.{all_waiting, status_among}
-use Rattle.sms_world.specs.Accepted.{AcceptedIsAccepted}
+use Rattle.sms_party.specs.Sender.Ended.{IsTypedAt, EndedAreTyped}
+use Rattle.sms_party.specs.Sender.Texts.{size_of}
+use Rattle.sms_world.proofs.Called.{ended_typed}
+use Rattle.sms_world.specs.Accepted.{IsHonest, AcceptedIsAccepted}
 use Rattle.sms_world.specs.Accepted.Reject.{OnlyTimeIsLeft}
 use Rattle.sms_world.specs.Headline.Finished.{FinishedTexts}
 use Rattle.sms_world.specs.Headline.Once.{AcceptedAtMostOnce}
@@ -83,26 +86,29 @@ reversed_contains (x ∷ xs) y h =
 
 -- ---- the claims
 
-pub claims : StoresStand → FinishedTexts → RefusedOnlyWhereFull → AcceptedAtMostOnce → AcceptedIsAccepted → OnlyTimeIsLeft → ClaimsHold
-claims stand finished refused once accepted copies =
+pub claims : StoresStand → FinishedTexts → RefusedOnlyWhereFull → AcceptedAtMostOnce → AcceptedIsAccepted → OnlyTimeIsLeft → EndedAreTyped → ClaimsHold
+claims stand finished refused once accepted copies typed_first =
     record {
       whole = λ world limits phones past m run h phone within.
           record { as_typed = store_stands world m phone within h ∙ ap reverse (stand limits phones past m run phone); finished = finished limits phones past m run phone };
-      refused = λ event old told new steps limits phones past m run h orderly phone d origin brings.
+      refused = λ event old told new steps limits phones past m run h orderly.
           let s = steps m h in
-          let r = refused limits phones past m run event orderly told s.0 s.1 s.2 phone d origin brings in
-          (r.0, r.1, r.2, (s.1, s.3, r.3));
+          (s.0, s.1, s.3, (s.4, s.5, s.6), refused limits phones past m run event orderly told s.0 s.1 s.2);
       once = λ world limits phones past m run h. once limits phones past m run;
       accepted = λ world limits phones past m run h phone number within shown.
           let ended = (m.senders.sender phone).ended in
           let same : status_among (ended_first (reverse ended) ++ all_waiting (m.senders.sender phone).pending) number ≡ Some Accepted =
           ap (λ l. status_among (l ++ all_waiting (m.senders.sender phone).pending) number) (sym (in_order ended)) ∙ (sym (statuses_stand world m phone number within h) ∙ shown) in
           let k = has_ended (reverse ended) (m.senders.sender phone).pending number same in
+          let typed : IsTypedAt m.senders.texts phone number k.text =
+          subst (λ i. IsTypedAt m.senders.texts phone i k.text) (sym k.number_is) (ended_typed IsHonest typed_first limits phones past m run phone k.place k.text true k.is_there) in
           let place : k.place ≡ number - 1 = let e = k.number_is in omega (arith, e) in (
             k.text,
             record {
+              typed = typed;
               ended = subst (λ i. slice_get (reverse ended) i ≡ Some (k.text, true)) place k.is_there;
-              accepted = accepted limits phones past m run phone k.text (reversed_contains ended (k.text, true) (there_contains (reverse ended) k.place (k.text, true) k.is_there));
+              accepted = λ s from most. accepted limits phones past m run phone k.text (reversed_contains ended (k.text, true) (there_contains (reverse ended) k.place (k.text, true) k.is_there)) s from
+                  (subst (λ i. s ≤ i) (sym (ap size_of typed.typed)) most);
             },
           );
       copies = λ world limits phones past m rejects run h. copies limits phones past m rejects run;

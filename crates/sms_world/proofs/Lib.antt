@@ -40,3 +40,6 @@ pub mod Rejecting
 pub mod Rows
 pub mod Networks
 pub mod Transcribing
+pub mod Promises
+pub mod Nowhere
+pub mod Called

@@ -312,8 +312,7 @@ one_tag k last l b e =
     omega arith
 
 pub few_puttings_out : FewPuttingsOut
-few_puttings_out limits phones past m run few event phone last about outs b =
+few_puttings_out limits phones past m run event phone few last about outs b =
     let h = packet_sent m (SentNumbered m.senders.sender) b.number (run_all limits phones past m run) _ b.is in
     let l = h.3 in
-    let f = few phone in
     h.1 ∙ ap (λ (n : ℕ). Some n) (one_tag h.0 last (omega arith) (omega arith) h.2)

@@ -29,7 +29,7 @@ use Rattle.sms_party.specs.Receiver.{receiver_takes, receiver_opened}
 use Rattle.sms_party.specs.Receiver.Offers.{is_full_for, offers_units}
 use Rattle.sms_world.specs.Machine.{Machine}
 use Rattle.sms_world.specs.Machine.Event.{Carry, Act, Carries}
-use Rattle.sms_world.specs.Machine.Next.{Next, next, packet, carries, comes, comes_to_phone, by_receiver, receiver_limits}
+use Rattle.sms_world.specs.Machine.Next.{Next, next, packet, carries, comes, comes_to_phone, by_receiver, to_centre, receiver_limits}
 use Rattle.sms_world.specs.Machine.Step.{no_memory, Acts, Step}
 use Rattle.sms_world.specs.Texts.{size_in}
 use Rattle.sms_world.specs.Texts.TypedTo.{IsTypedTo}
@@ -39,7 +39,7 @@ use Rattle.sms_world.specs.Texts.Finished.{finished}
 use Rattle.sms_world.specs.Orderly.{IsOrderly}
 use Rattle.sms_world.specs.Orderly.Brought.{BringsDelivery}
 use Rattle.sms_world.specs.Claims.Pieces.{IsSentOf, DeliverOf, DeliveryOf}
-use Rattle.sms_world.specs.Headline.Refused.{is_taking, no_room, StoreIsFull, SetsAreFull, Received, RefusedOnlyWhereFull}
+use Rattle.sms_world.specs.Headline.Refused.{is_taking, no_room, no_room_put, StoreIsFull, SetsAreFull, WasRefused, Received, RefusedOnlyWhereFull}
 use Rattle.sms_world.proofs.Walk.{may_happen, may_deliver, may_arrive}
 use Rattle.sms_world.proofs.Standing.{ReceiverSound, Sound}
 use Rattle.sms_world.proofs.Receivers.{arrival_of, all_of, told_units, told_sequence}
@@ -60,16 +60,16 @@ record SetsFull (m : Machine) (phone : ℕ) (a : Arrival) : Type 0 where
   incomplete : is_done (size_in m.senders.texts) (a ∷ (m.receiver phone).taken) a.text ≡ false
 
 -- what becomes of an arrival
-abbrev Became : Machine → ℕ → Arrival → Told → Machine → Type 0
-Became old phone a told new =
+abbrev Became : Machine → ℕ → Arrival → Tag → Told → List Sent → Machine → Type 0
+Became old phone a tag told put new =
     (is_taking told ≡ true)
-    ⊎ ((told ≡ no_room) × (new.receiver phone ≡ old.receiver phone) × (StoreFull old phone a ⊎ SetsFull old phone a))
-    ⊎ ((told ≡ no_memory) × (new ≡ old))
+    ⊎ ((told ≡ no_room) × (put ≡ no_room_put phone tag) × (new.receiver phone ≡ old.receiver phone) × (new.senders ≡ old.senders) × (StoreFull old phone a ⊎ SetsFull old phone a))
+    ⊎ ((told ≡ no_memory) × (put ≡ []) × (new ≡ old))
 
-abbrev Left : Machine → ℕ → Arrival → Does ReceiverState → Type 0
-Left m phone a d =
+abbrev Left : Machine → ℕ → Arrival → Tag → Does ReceiverState → Type 0
+Left m phone a tag d =
     (is_taking (of_party d.answer) ≡ true)
-    ⊎ ((of_party d.answer ≡ no_room) × (d.after ≡ m.receiver phone) × (StoreFull m phone a ⊎ SetsFull m phone a))
+    ⊎ ((of_party d.answer ≡ no_room) × (to_centre phone d.put ≡ no_room_put phone tag) × (d.after ≡ m.receiver phone) × (StoreFull m phone a ⊎ SetsFull m phone a))
 
 taking : (given : join.Answer) → is_taken given ≡ true → is_taking (Ok (word_of given)) ≡ true
 unfolding is_taken word_of
@@ -144,28 +144,28 @@ module _ (law : Below) (m : Machine) (phone : ℕ) (tag : Tag) (d : Delivery) (o
       let most' = subst (λ n. n ≤ m.limits.open_max) count most in
       record { full = antisym _ _ most' t.full; none_taken = t.none_taken; incomplete = t.incomplete }
 
-  left : Left m phone (record { text = o.text; piece = piece_in m.clock d units }) (offers_units (receiver_limits m.limits) (m.receiver phone) m.clock tag d (Some o) (Some units))
+  left : Left m phone (record { text = o.text; piece = piece_in m.clock d units }) tag (offers_units (receiver_limits m.limits) (m.receiver phone) m.clock tag d (Some o) (Some units))
   left =
-      each_offer (Left m phone (record { text = o.text; piece = piece_in m.clock d units })) (receiver_limits m.limits) (m.receiver phone) m.clock tag d (Some o) (Some units)
+      each_offer (Left m phone (record { text = o.text; piece = piece_in m.clock d units }) tag) (receiver_limits m.limits) (m.receiver phone) m.clock tag d (Some o) (Some units)
       (λ cause failure e. cc)
       (λ us e f. let same : us ≡ units = cc in
-      inr (refl, refl, inl (store_full (subst (λ u. is_full_for (receiver_limits m.limits) (m.receiver phone) (piece_in m.clock d u) ≡ true) same f))))
+      inr (refl, refl, refl, inl (store_full (subst (λ u. is_full_for (receiver_limits m.limits) (m.receiver phone) (piece_in m.clock d u) ≡ true) same f))))
       (λ us e n. let same : units ≡ us = cc in
-      subst (λ u. Left m phone (record { text = o.text; piece = piece_in m.clock d units }) (offers (receiver_limits m.limits) (m.receiver phone) tag d.origin (piece_in m.clock d u) (Some o) (answer m.limits.open_max (m.receiver phone).joiner (piece_in m.clock d u)))) same offered)
+      subst (λ u. Left m phone (record { text = o.text; piece = piece_in m.clock d units }) tag (offers (receiver_limits m.limits) (m.receiver phone) tag d.origin (piece_in m.clock d u) (Some o) (answer m.limits.open_max (m.receiver phone).joiner (piece_in m.clock d u)))) same offered)
     where
-      offered : Left m phone (record { text = o.text; piece = piece_in m.clock d units })
+      offered : Left m phone (record { text = o.text; piece = piece_in m.clock d units }) tag
           (offers (receiver_limits m.limits) (m.receiver phone) tag d.origin (piece_in m.clock d units) (Some o) (answer m.limits.open_max (m.receiver phone).joiner (piece_in m.clock d units)))
       offered = unfold offers in
-          cond_both (is_taken (answer m.limits.open_max (m.receiver phone).joiner (piece_in m.clock d units))) _ _ (Left m phone (record { text = o.text; piece = piece_in m.clock d units }))
+          cond_both (is_taken (answer m.limits.open_max (m.receiver phone).joiner (piece_in m.clock d units))) _ _ (Left m phone (record { text = o.text; piece = piece_in m.clock d units }) tag)
           (λ t. inl (taking _ t))
-          (λ t. inr (refl, refl, inr (sets_full (not_taken _ t))))
+          (λ t. inr (refl, refl, refl, inr (sets_full (not_taken _ t))))
 
 -- one step that brings a delivery
 delivered : Below → (old : Machine) (k phone : ℕ) (tag : Tag) (about : Option ℕ) (d : Delivery) (o : Origin) (told : Told) (put : List Sent) (new : Machine) (units : Units)
     → Sound old → IsBounded (receiver_limits old.limits) (old.receiver phone) → packet old k ≡ Some (record { message = Data false tag (Transfer ToPhone (Deliver d)); to = Phone phone; origin = Some o; about = about }) → may_happen true old (Carry k) ≡ true
     → DeliveryOf old.phones old.senders.texts old.centre.accepted phone d o → units_in_delivery d ≡ Some units
     → Acts old (Carries k) told put new
-    → Became old phone (record { text = o.text; piece = piece_in old.clock d units }) told new
+    → Became old phone (record { text = o.text; piece = piece_in old.clock d units }) tag told put new
 unfolding next carries comes comes_to_phone receiver_opened receiver_takes units_in_delivery by_receiver may_happen may_deliver
 delivered law old k phone tag about d o told put new units s bound brings may x p step = go step
   where
@@ -178,15 +178,15 @@ delivered law old k phone tag about d o told put new units s bound brings may x 
     is_next : next old (Carries k) ≡ by_receiver old phone did
     is_next = ap (carries old) brings
 
-    l : Left old phone (record { text = o.text; piece = piece_in old.clock d units }) did
-    l = subst (λ v. Left old phone (record { text = o.text; piece = piece_in old.clock d units }) (offers_units (receiver_limits old.limits) (old.receiver phone) old.clock tag d (Some o) v)) (sym p)
+    l : Left old phone (record { text = o.text; piece = piece_in old.clock d units }) tag did
+    l = subst (λ v. Left old phone (record { text = o.text; piece = piece_in old.clock d units }) tag (offers_units (receiver_limits old.limits) (old.receiver phone) old.clock tag d (Some o) v)) (sym p)
         (left law old phone tag d o units (s.receivers phone) x bound p rule)
 
     at_phone : (by_receiver old phone did).after.receiver phone ≡ did.after
     at_phone = rw (eq-eqb phone phone refl) refl
 
-    go : Acts old (Carries k) told put new → Became old phone (record { text = o.text; piece = piece_in old.clock d units }) told new
-    go (inr z) = inr (inr (sym z.1, sym z.3))
+    go : Acts old (Carries k) told put new → Became old phone (record { text = o.text; piece = piece_in old.clock d units }) tag told put new
+    go (inr z) = inr (inr (sym z.1, sym z.2, sym z.3))
     go (inl z) = which l
       where
         word : of_party did.answer ≡ told
@@ -195,10 +195,14 @@ delivered law old k phone tag about d o told put new units s bound brings may x 
         after : (by_receiver old phone did).after ≡ new
         after = sym (ap (λ (v : Next). v.after) is_next) ∙ z.2
 
-        which : Left old phone (record { text = o.text; piece = piece_in old.clock d units }) did
-            → Became old phone (record { text = o.text; piece = piece_in old.clock d units }) told new
+        put_is : to_centre phone did.put ≡ put
+        put_is = sym (ap (λ (v : Next). v.put) is_next) ∙ z.1
+
+        which : Left old phone (record { text = o.text; piece = piece_in old.clock d units }) tag did
+            → Became old phone (record { text = o.text; piece = piece_in old.clock d units }) tag told put new
         which (inl t) = inl (ap is_taking (sym word) ∙ t)
-        which (inr t) = inr (inl (sym word ∙ t.0, ap (λ (v : Machine). v.receiver phone) (sym after) ∙ (at_phone ∙ t.1), t.2))
+        which (inr t) =
+            inr (inl (sym word ∙ t.0, sym put_is ∙ t.1, ap (λ (v : Machine). v.receiver phone) (sym after) ∙ (at_phone ∙ t.2), ap (λ (v : Machine). v.senders) (sym after), t.3))
 
 -- ---- in terms of segments
 
@@ -260,10 +264,11 @@ module _ (m : Machine) (phone : ℕ) (a : Arrival) (o : Origin) (text : a.text �
           let whole = one_is_all (size_in m.senders.texts) (m.receiver phone).taken a (sequence ∙ one) (ap (size_in m.senders.texts) text ∙ size) in
           let q : true ≡ false = sym whole ∙ h.incomplete in cc
 
-  received : (told : Told) (new : Machine) → Became m phone a told new → Received m phone o told new
-  received told new (inl t) = inl t
-  received told new (inr (inr t)) = inr (inr t)
-  received told new (inr (inl t)) = inr (inl (t.0, t.1, which t.2))
+  received : (tag : Tag) (told : Told) (put : List Sent) (new : Machine) → Became m phone a tag told put new → Received m phone o tag told put new
+  received tag told put new (inl t) = inl t
+  received tag told put new (inr (inr t)) = inr (inr t)
+  received tag told put new (inr (inl t)) =
+      inr (inl (record { answered = t.0; put_out = t.1; receives = t.2; sends = t.3; full = which t.4 }))
     where
       which : StoreFull m phone a ⊎ SetsFull m phone a → StoreIsFull m phone o ⊎ SetsAreFull m phone o
       which (inl f) = inl (store_is_full f)
@@ -276,8 +281,8 @@ refused_only_where_full law limits phones past old run event may told put new st
     s : Orderly old
     s = run_orderly law limits phones past old run
 
-    by_origin : (origin : Option Origin) → BringsDelivery old event phone d origin → DeliverOf old.phones old.senders.texts old.centre.accepted d (Phone phone) origin
-        → (o : Origin) × (origin ≡ Some o) × IsTypedTo old phone o.text × Received old phone o told new
+    by_origin : (origin : Option Origin) → (brings : BringsDelivery old event phone d origin) → DeliverOf old.phones old.senders.texts old.centre.accepted d (Phone phone) origin
+        → (o : Origin) × (origin ≡ Some o) × IsTypedTo old phone o.text × Received old phone o brings.tag told put new
     by_origin None b x = absurd x
     by_origin (Some o) b x = (
       o,
@@ -285,7 +290,7 @@ refused_only_where_full law limits phones past old run event may told put new st
       record { text = x.text; typed = x.segment.found; to_phone = x.recipient },
       received old phone (record { text = o.text; piece = piece_in old.clock d (piece_of x.text o.segment) }) o refl
           (told_sequence old.phones old.senders.texts old.centre.accepted phone old.clock d o (piece_of x.text o.segment) x) x.segment.from_one
-          (subst (λ v. o.segment ≤ size_of v) (sym x.segment.found) x.segment.within) told new
+          (subst (λ v. o.segment ≤ size_of v) (sym x.segment.found) x.segment.within) b.tag told put new
           (delivered law old b.number phone b.tag b.about d o told put new (piece_of x.text o.segment) s.sound
           (run_bounded law.few IsOrderly limits phones past old run phone)
           b.is

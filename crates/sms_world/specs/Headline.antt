@@ -6,3 +6,4 @@ pub mod Stores
 pub mod Finished
 pub mod Refused
 pub mod Once
+pub mod OfRun

@@ -12,14 +12,17 @@ use Rattle.sms_script.specs.declared.meaning.event.Event as script
 use Rattle.sms_script.specs.declared.meaning.event.Event.TheVariants as given
 use Rattle.sms_script.specs.declared.script.limits.Limits.{Limits}
 use Rattle.sms_world.specs.Machine.{Machine, start}
+use Rattle.sms_party.specs.Sent.{Sent}
+use Rattle.sms_world.specs.Headline.OfRun.{RunPromises}
 use Rattle.sms_world.specs.Machine.Event.{Event}
+use Rattle.sms_world.specs.Machine.Step.{Step, Run}
 use Rattle.sms_world.specs.Network.{entry_of, ends_of}
 use Rattle.sms_world.specs.Orderly.{OrderlyRun}
 use Rattle.sms_world.specs.Texts.Stands.{stands}
 use Rattle.sms_world.specs.Told.{Told}
 use Rattle.sms_world.specs.Words.{told_text}
-use Rattle.sms_world.specs.World.Standing.{StandsFor}
-use Rattle.sms_world.specs.World.Steps.{Runs}
+use Rattle.sms_world.specs.World.Standing.{ArePacketsOf, StandsFor}
+use Rattle.sms_world.specs.World.Steps.{event_of, told_past}
 use Rattle.sms_world.specs.World.Value.{WorldValue}
 
 -- where a script sets the clock, a tick comes before its events
@@ -27,25 +30,52 @@ abbrev pub clock_events : Option ℕ → List script.Event
 clock_events None = []
 clock_events (Some seconds) = given.Tick seconds ∷ []
 
--- for each answer the words that were told
-abbrev pub AreTold : List Told → List Happened → Type 0
-AreTold [] [] = Unit {0}
-AreTold (t ∷ told) (h ∷ happened) = (h.words ≡ told_text t) × AreTold told happened
-AreTold _ _ = ⊥
+-- The machine goes through these events, each with its answer; and what is told of each event is
+-- its answer in words, and the packets that were put out at it, each carrying its message.
+abbrev pub RunsAsTold : Machine → List script.Event → List Told → List Happened → Machine → Type 0
+RunsAsTold m [] [] [] last = m ≡ last
+RunsAsTold m (e ∷ events) (t ∷ told) (h ∷ happened) last =
+    (put : List Sent) × (next : Machine) × Step m (event_of e) t put next
+    × (h.words ≡ told_text t) × ArePacketsOf h.put put
+    × RunsAsTold next events told happened last
+RunsAsTold m _ _ _ last = ⊥
 
 -- all packets that were told, in order
 abbrev pub all_put : List Happened → List PacketValue
 all_put [] = []
 all_put (h ∷ happened) = h.put ++ all_put happened
 
+-- all events of a script with their answers, that of its clock too, the newest first
+abbrev pub script_past : SettingsValue → List script.Event → List Told → List Told
+    → List (Event × Told)
+script_past s events at_clock told =
+    told_past (clock_events s.clock ++ events) (at_clock ++ told)
+
 -- The machine runs from its first state through the events of a script, a tick first where the
 -- script sets the clock, to a state that the world stands for. What is told of each event is its
--- answer in words, and the packets that are told are all that were put out.
-abbrev pub HappensAsRun : SettingsValue → List script.Event → List Happened → WorldValue → Type 0
-HappensAsRun s events happened world =
-    (at_clock told : List Told) × (length at_clock ≡ length (clock_events s.clock))
-    × AreTold told happened × (all_put happened ≡ world.packets)
-    × Runs s.limits s.known.addresses (clock_events s.clock ++ events) (at_clock ++ told) world
+-- answer in words and the packets that it put out, and these are all that were put out. The
+-- headline is of this run: where it is orderly, the store that is told of each phone is, in order
+-- of completion, just the texts that have finished there, each with the address of the phone that
+-- it was typed at and the characters that were typed.
+pub record HappensAsRun (s : SettingsValue) (events : List script.Event) (happened : List Happened)
+    (world : WorldValue) : Type 0 where
+  pub at_clock : List Told
+  pub one : length at_clock ≡ length (clock_events s.clock)
+  pub begun : Machine
+  pub clocked :
+      Run (start s.limits s.known.addresses) (told_past (clock_events s.clock) at_clock) begun
+  pub told : List Told
+  pub last : Machine
+  pub runs_as_told : RunsAsTold begun events told happened last
+  pub all_told : all_put happened ≡ world.packets
+  pub runs : Run (start s.limits s.known.addresses) (script_past s events at_clock told) last
+  pub world_stands : StandsFor world last
+  pub promises :
+      RunPromises s.limits s.known.addresses (script_past s events at_clock told) last world
+  pub stores :
+      OrderlyRun (start s.limits s.known.addresses) (script_past s events at_clock told) last
+      → (phone : ℕ) → phone < length world.parties.phones
+      → store_at (ends_of world) phone ≡ map entry_of (reverse (stands last phone))
 
 -- So the events of a script happened, and this is its transcript.
 abbrev pub IsTranscript : ScriptValue → List ℕ → Type 0

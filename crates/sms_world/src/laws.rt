@@ -26,7 +26,9 @@ use sms_join::{cut_is_read_as_text, texts_have_one_cut};
 use sms_message::{
     carried_messages_are_read, octets_are_read_as_a_message, octets_are_read_as_one_message,
 };
-use sms_party::{drops_put_nothing_out, few_are_put_out, others_leave_sender};
+use sms_party::{
+    drops_put_nothing_out, ended_texts_are_typed, few_are_put_out, others_leave_sender,
+};
 
 /// The laws of the crates below on which the others stand.
 pub(crate) fn laws_below()
@@ -126,8 +128,8 @@ pub fn accepted_texts_were_accepted()
     ensures { AcceptedIsAccepted }
 {}
 
-/// Where nothing is injected and no phone has put out more than 1,792 times, an answer with the two
-/// numbers of the latest putting out is to that one.
+/// Where nothing is injected and a phone has put out no more than 1,792 times, an answer to it with
+/// the two numbers of its latest putting out is to that one.
 pub fn few_answers_are_told_apart()
     ensures { FewPuttingsOut }
 {}
@@ -169,4 +171,5 @@ pub fn claims_hold()
     segments_are_accepted_once();
     accepted_texts_were_accepted();
     copies_may_come_in_time();
+    ended_texts_are_typed();
 }

@@ -3,10 +3,9 @@
 ghost use Rattle.std.specs.Prelude.{◌≡◌, IfOk, length};
 ghost use Rattle.sms_script.specs.Meaning.Known.{ArePhones};
 ghost use Rattle.sms_script.specs.Script.Limits.{AreLimits};
-ghost use Rattle.sms_world.specs.Headline.Refused.{RefusedOnlyWhereFull};
-ghost use Rattle.sms_world.specs.World.Claims.{StoresAreWhole, AcceptsOnce};
-ghost use Rattle.sms_world.specs.World.Claims.{AcceptedWereAccepted, CopiesMayComeInTime};
-ghost use Rattle.sms_world.specs.World.Steps.{Runs, GoesOn};
+ghost use Rattle.sms_world.specs.Headline.OfRun.{Promised};
+ghost use Rattle.sms_world.specs.World.Claims.{CopiesMayComeInTime};
+ghost use Rattle.sms_world.specs.World.Steps.{Runs, GoesOn, told_past};
 
 use crate::fault::WorldFault;
 use crate::laws::{claims_hold, deliveries_are_refused_only_where_full};
@@ -32,10 +31,8 @@ pub fn run(
     requires phones { ArePhones phones.now }
     ensures runs { IfOk result (λ r. Runs limits phones.now events.now r.1.items r.0) }
     ensures phones { IfOk result (λ r. length r.0.parties.phones ≡ length phones.now) }
-    ensures whole { IfOk result (λ r. StoresAreWhole r.0) }
-    ensures refused { RefusedOnlyWhereFull }
-    ensures once { IfOk result (λ r. AcceptsOnce r.0) }
-    ensures accepted { IfOk result (λ r. AcceptedWereAccepted r.0) }
+    ensures promised { IfOk result
+        (λ r. Promised limits phones.now (told_past events.now r.1.items) r.0) }
     ensures copies { IfOk result (λ r. CopiesMayComeInTime r.0) }
 {
     claims_hold();

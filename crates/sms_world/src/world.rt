@@ -20,7 +20,8 @@ ghost use Rattle.sms_world.specs.World.Phones.{store_in, statuses_at};
 ghost use Rattle.sms_world.specs.World.Standing.{StandsFor};
 ghost use Rattle.sms_world.specs.World.Claims.{StoresAreWhole, RefusesOnlyWhereFull};
 ghost use Rattle.sms_world.specs.World.Claims.{AcceptsOnce, AcceptedWereAccepted, CopiesMayComeInTime};
-ghost use Rattle.sms_world.specs.World.Steps.{event_of, PutsMore, Steps, GivesPacket, GivesStore, GivesStatus};
+ghost use Rattle.sms_world.specs.World.Steps.{event_of, PutsMore, Steps, IfNowhere};
+ghost use Rattle.sms_world.specs.World.Steps.{GivesPacket, GivesStore, GivesStatus};
 
 use crate::fault::WorldFault;
 use crate::laws::{claims_hold, laws_below};
@@ -85,7 +86,8 @@ impl World {
     }
 
     /// What happens at an event. If it answers a fault, the clock, the phones, the centre and the
-    /// packets stand as before.
+    /// packets stand as before; where there is no such packet or phone, or the clock would reach its
+    /// end, the world is as it was.
     ///
     /// A text is typed at a phone, a packet comes to its destination, a phone has waited long
     /// enough for an answer, the centre hands a message to a phone, the clock moves on by some
@@ -95,6 +97,7 @@ impl World {
         ensures phones { length self.new.parties.phones ≡ length self.old.parties.phones }
         ensures packets { PutsMore self.old self.new }
         ensures kept { OnErr result (self.new.packets ≡ self.old.packets) }
+        ensures unmoved { IfNowhere result (self.new ≡ self.old) }
         ensures ticks { IsTick event.now → self.new.packets ≡ self.old.packets }
         ensures whole { StoresAreWhole self.new }
         ensures refused { RefusesOnlyWhereFull (event_of event.now) self.old result self.new }
@@ -112,6 +115,7 @@ impl World {
         ensures phones { length self.new.parties.phones ≡ length self.old.parties.phones }
         ensures packets { PutsMore self.old self.new }
         ensures kept { OnErr result (self.new.packets ≡ self.old.packets) }
+        ensures unmoved { IfNowhere result (self.new ≡ self.old) }
         ensures ticks { IsTick event.now → self.new.packets ≡ self.old.packets }
     {
         match event {
@@ -134,6 +138,7 @@ impl World {
         ensures phones { length self.new.parties.phones ≡ length self.old.parties.phones }
         ensures packets { PutsMore self.old self.new }
         ensures kept { OnErr result (self.new.packets ≡ self.old.packets) }
+        ensures unmoved { IfNowhere result (self.new ≡ self.old) }
     {
         laws_below();
         if phone >= self.parties.count() {
@@ -150,6 +155,7 @@ impl World {
         ensures phones { length self.new.parties.phones ≡ length self.old.parties.phones }
         ensures packets { PutsMore self.old self.new }
         ensures kept { OnErr result (self.new.packets ≡ self.old.packets) }
+        ensures unmoved { IfNowhere result (self.new ≡ self.old) }
     {
         laws_below();
         if number == 0 || number > self.packets.len() as u64 {
@@ -169,6 +175,7 @@ impl World {
         ensures phones { length self.new.parties.phones ≡ length self.old.parties.phones }
         ensures packets { PutsMore self.old self.new }
         ensures kept { OnErr result (self.new.packets ≡ self.old.packets) }
+        ensures unmoved { IfNowhere result (self.new ≡ self.old) }
     {
         laws_below();
         if phone >= self.parties.count() {
@@ -185,6 +192,7 @@ impl World {
         ensures phones { length self.new.parties.phones ≡ length self.old.parties.phones }
         ensures packets { PutsMore self.old self.new }
         ensures kept { OnErr result (self.new.packets ≡ self.old.packets) }
+        ensures unmoved { IfNowhere result (self.new ≡ self.old) }
     {
         laws_below();
         if phone >= self.parties.count() {
@@ -200,6 +208,7 @@ impl World {
         ensures steps { Steps (Tick seconds) self.old result self.new }
         ensures phones { length self.new.parties.phones ≡ length self.old.parties.phones }
         ensures packets { self.new.packets ≡ self.old.packets }
+        ensures unmoved { IfNowhere result (self.new ≡ self.old) }
     {
         if seconds >= END_OF_2099 - self.clock {
             return Err(WorldFault::ClockEnd);
@@ -215,6 +224,7 @@ impl World {
         ensures phones { length self.new.parties.phones ≡ length self.old.parties.phones }
         ensures packets { PutsMore self.old self.new }
         ensures kept { OnErr result (self.new.packets ≡ self.old.packets) }
+        ensures unmoved { IfNowhere result (self.new ≡ self.old) }
     {
         laws_below();
         if phone >= self.parties.count() {

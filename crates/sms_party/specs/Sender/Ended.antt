@@ -1,10 +1,10 @@
 -- How a text has ended is told by its number. Calls have the newest first.
-use Rattle.std.specs.Prelude.{◌≡◌, ℕ, Bool, List, [], ◌∷◌, Some}
+use Rattle.std.specs.Prelude.{◌≡◌, ℕ, suc, Bool, List, [], ◌∷◌, length, Some}
 use Rattle.sms_field.specs.AddressValue.{AddressValue}
 use Rattle.sms_join.specs.declared.units.Units.{Units}
 use Rattle.sms_message.specs.declared.message.Message.{Message}
 use Rattle.sms_party.specs.Sent.{nth}
-use Rattle.sms_party.specs.Sender.Texts.{SenderState, new_senders, number_of}
+use Rattle.sms_party.specs.Sender.Texts.{Text, SenderState, new_senders, number_of}
 use Rattle.sms_party.specs.Sender.Calls.{composes, times_out}
 use Rattle.sms_party.specs.Sender.Answers.{sender_takes}
 use Rattle.sms_party.specs.Sender.Stands.{status_if, status_of}
@@ -38,4 +38,25 @@ abbrev pub EndedAreTold : Type 0
 EndedAreTold =
     (wide reject : Bool) (calls : List Call) (phone : ℕ)
     → AreTold (called_all wide reject calls) phone
+    ((called_all wide reject calls).sender phone).ended
+
+-- text n was typed at the phone, as the one of this number there
+pub record IsTypedAt (texts : List Text) (phone number n : ℕ) : Type 0 where
+  pub text : Text
+  pub typed : nth texts n ≡ Some text
+  pub own : text.phone ≡ phone
+  pub numbered : text.number ≡ number
+
+-- these texts, the last first, were typed at the phone, as the first ones there
+abbrev pub AreTyped : List Text → ℕ → List (ℕ × Bool) → Type 0
+AreTyped texts phone [] = Unit {0}
+AreTyped texts phone (e ∷ ended) =
+    IsTypedAt texts phone (suc (length ended)) e.0 × AreTyped texts phone ended
+
+-- Whatever was typed and came to whichever phones, the texts that have ended at a phone are the
+-- first that were typed there, in the order of typing.
+abbrev pub EndedAreTyped : Type 0
+EndedAreTyped =
+    (wide reject : Bool) (calls : List Call) (phone : ℕ)
+    → AreTyped (called_all wide reject calls).texts phone
     ((called_all wide reject calls).sender phone).ended

@@ -7,11 +7,25 @@ use Rattle.sms_script.specs.declared.lines.LineEnd.TheVariants.{LineFeed, EndOfS
 use Rattle.sms_script.specs.declared.lines.LineFault.{LineFault}
 use Rattle.sms_script.specs.declared.lines.LineFault.TheVariants.{Read, TooLong, Memory}
 
--- whatever follows these octets, or nothing as the source is at its end, the line is longer than a
--- line may be
+-- Whatever follows these octets, the line is longer than a line may be; and no octet before the last
+-- one shows it.
+pub record IsShownByOctet (raw : List ℕ) : Type 0 where
+  pub front : List ℕ
+  pub octet : ℕ
+  pub last : raw ≡ front ++ octet ∷ []
+  pub may_be : length (strip_carriage_return front) ≤ line_limit
+  pub longer : line_limit < length (strip_carriage_return raw)
+
+-- No octet shows it, but the end of the source does: a carriage return is left that no line feed
+-- follows.
+pub record IsShownByEnd (raw : List ℕ) (new : Option (List ℕ)) : Type 0 where
+  pub may_be : length (strip_carriage_return raw) ≤ line_limit
+  pub longer : line_limit < length raw
+  pub ended : IsAtEnd new
+
+-- what was taken shows that the line is longer than a line may be, and nothing was taken after that
 abbrev pub ShowsLonger : List ℕ → Option (List ℕ) → Type 0
-ShowsLonger raw new =
-    (line_limit < length (strip_carriage_return raw)) ⊎ ((line_limit < length raw) × IsAtEnd new)
+ShowsLonger raw new = IsShownByOctet raw ⊎ IsShownByEnd raw new
 
 -- what was taken, where raw is of one line, without its line feed
 abbrev pub TakesLine : Option (List ℕ) → Option (List ℕ) → List ℕ → List ℕ

@@ -1,7 +1,7 @@
 -- One event of a script, and its lines.
 use Rattle.std.specs.Prelude.{◌≡◌, ℕ, ◌+◌, List, ◌++◌, length, drop, Option, Result}
 use Rattle.sms_script.specs.Play.Network.{Conduct}
-use Rattle.sms_script.specs.Play.Puts.{Puts}
+use Rattle.sms_script.specs.Play.Puts.{PutsAtOnce}
 use Rattle.sms_script.specs.Script.Settings.{SettingsValue}
 use Rattle.sms_script.specs.Transcript.{packet_lines}
 use Rattle.sms_script.specs.Transcript.Lines.{PacketValue, event_line}
@@ -24,4 +24,4 @@ abbrev pub TakesEvent : {N : Type 0} → Conduct N → N → Event → N → Set
 TakesEvent c n event next s number old new result =
     (words : List ℕ) × (put : List PacketValue) × c.Steps n event words next
     × (c.put_out next ≡ c.put_out n ++ put)
-    × Puts old new (event_text s number words (length (c.put_out n) + 1) put) result
+    × PutsAtOnce old new (event_text s number words (length (c.put_out n) + 1) put) result

@@ -12,8 +12,8 @@ use Rattle.sms_script.specs.declared.fault.PlayFault.TheVariants as faults
 use Rattle.sms_script.specs.declared.fault.ScriptFault.{ScriptFault}
 use Rattle.sms_script.specs.declared.fault.ScriptFault.TheVariants as reasons
 
--- a line too many is there with its first octet; a longer line is there with the octet that shows
--- it
+-- Of a line too many the first octet is read; of a line that is too long no octet after the one
+-- that shows it.
 abbrev pub TakesWrong : Option (List ℕ) → Option (List ℕ) → ℕ → ScriptFault → Type 0
 TakesWrong old new count reasons.TooManyLines =
     (count ≡ lines_limit) × (octet : ℕ) × Consumes old new (octet ∷ [])
@@ -35,5 +35,6 @@ TakesNext old new count line (Err (faults.Script n why)) =
     (n ≡ count + 1) × TakesWrong old new count why
 TakesNext old new count line (Err faults.Read) =
     (raw : List ℕ) × HasNoLineFeed raw × Consumes old new raw × (length raw ≤ line_limit + 1)
-TakesNext old new count line (Err faults.Memory) = (raw : List ℕ) × Consumes old new raw
+TakesNext old new count line (Err faults.Memory) =
+    (raw : List ℕ) × HasNoLineFeed raw × Consumes old new raw × (length raw ≤ line_limit + 1)
 TakesNext old new count line (Err faults.Write) = ⊥

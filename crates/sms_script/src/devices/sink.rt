@@ -15,13 +15,14 @@ pub trait Sink {
     ghost has_failed: { Self → Bool };
 
     /// Writes some of the octets, from the first on, and answers how many: at least one where there
-    /// is one.
+    /// is one. No call may have failed yet.
     fn write(&mut self, octets: &[u8]) -> Result<usize, DeviceFailed>
+        requires { has_failed self.old ≡ false }
         ensures octets { WriteAppends (contents self.old) (contents self.new) result octets.now }
         ensures bound { IfOk result (λ n. n ≤ length octets.now) }
         ensures some { IfOk result (λ n. 0 < length octets.now → 0 < n) }
         ensures fails { IsErr result → has_failed self.new ≡ true }
-        ensures works { IsOk result → has_failed self.new ≡ has_failed self.old };
+        ensures works { IsOk result → has_failed self.new ≡ false };
 
     /// Whether a call has failed. Once it has, it stays so.
     fn failed(&self) -> bool

@@ -1,30 +1,35 @@
 //! A reader or writer of std that remembers whether it failed.
 
 ghost use Rattle.std.specs.Prelude.{◌≡◌, false};
+ghost use Rattle.sms_script.specs.Devices.{count_read, count_written};
 
 use crate::devices::sink::Sink;
 use crate::devices::source::{DeviceFailed, Source};
 use std::io::{Read, Write};
 
 /// A reader or writer of std that remembers whether a call answered an error, or a write took
-/// nothing.
+/// nothing; and whether a read told the end.
 #[derive(Drop)]
 pub struct Watched<T> {
     /// The reader or writer.
     pub inner: T,
     /// Whether a call of it failed.
     pub failed: bool,
+    /// Whether a read of it told the end.
+    pub ended: bool,
 }
 
 impl<T> Watched<T> {
-    /// One that has not failed.
+    /// One that has not failed, and has not told its end.
     pub fn new(inner: T) -> Watched<T>
         ensures inner { result.inner ≡ inner }
         ensures failed { result.failed ≡ false }
+        ensures ended { result.ended ≡ false }
     {
         Watched {
             inner,
             failed: false,
+            ended: false,
         }
     }
 
@@ -32,8 +37,34 @@ impl<T> Watched<T> {
     pub fn into_inner(self) -> T
         ensures { result ≡ self.inner }
     {
-        let Watched { inner, failed: _ } = self;
+        let Watched {
+            inner,
+            failed: _,
+            ended: _,
+        } = self;
         inner
+    }
+}
+
+/// How many octets a read gave, by what the reader answered; none where it failed.
+fn count_read(answered: std::io::Result<usize>) -> Option<usize>
+    ensures { result ≡ count_read answered }
+{
+    match answered {
+        Ok(count) => Some(count),
+        Err(_) => None,
+    }
+}
+
+/// How many octets of as many a write took, by what the writer answered; none where it failed. To
+/// take none of some is to fail.
+fn count_written(answered: std::io::Result<usize>, given: usize) -> Option<usize>
+    ensures { result ≡ count_written answered given }
+{
+    match answered {
+        Ok(0) if given > 0 => None,
+        Ok(count) => Some(count),
+        Err(_) => None,
     }
 }
 
@@ -42,14 +73,15 @@ impl<R: Read> Source for Watched<R> {
 
     ghost has_failed = { λ w. w.failed };
 
+    ghost has_ended = { λ w. w.ended };
+
     fn read(&mut self, buffer: &mut [u8]) -> Result<usize, DeviceFailed> {
-        match self.inner.read(buffer) {
-            Ok(count) => Ok(count),
-            Err(_) => {
-                self.failed = true;
-                Err(DeviceFailed)
-            }
-        }
+        let Some(count) = count_read(self.inner.read(buffer)) else {
+            self.failed = true;
+            return Err(DeviceFailed);
+        };
+        self.ended = count == 0 && !buffer.is_empty();
+        Ok(count)
     }
 
     fn failed(&self) -> bool {
@@ -63,13 +95,11 @@ impl<W: Write> Sink for Watched<W> {
     ghost has_failed = { λ w. w.failed };
 
     fn write(&mut self, octets: &[u8]) -> Result<usize, DeviceFailed> {
-        match self.inner.write(octets) {
-            Ok(count) if count > 0 || octets.is_empty() => Ok(count),
-            _ => {
-                self.failed = true;
-                Err(DeviceFailed)
-            }
-        }
+        let Some(count) = count_written(self.inner.write(octets), octets.len()) else {
+            self.failed = true;
+            return Err(DeviceFailed);
+        };
+        Ok(count)
     }
 
     fn failed(&self) -> bool {

@@ -1,7 +1,7 @@
 //! What stands at the phones in the end.
 
 ghost use Rattle.std.specs.Prelude.{◌≡◌, ◌<◌, false, length, flat_map};
-ghost use Rattle.sms_script.specs.Play.{told_in_the_end};
+ghost use Rattle.sms_script.specs.Play.Played.{told_in_the_end};
 ghost use Rattle.sms_script.specs.Play.Puts.{Puts, HasFailed};
 ghost use Rattle.sms_script.specs.Play.Runs.{statuses_at, store_at, ended_at};
 ghost use Rattle.sms_script.specs.Transcript.{sent_lines, phone_lines};

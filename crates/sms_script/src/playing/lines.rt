@@ -22,6 +22,7 @@ pub fn play_lines<N: Network, S: Source, K: Sink>(
     sink: &mut K,
 ) -> Result<(), PlayFault>
     requires reads { S.has_failed source.old ≡ false }
+    requires begins { S.has_ended source.old ≡ false }
     requires writes { K.has_failed sink.old ≡ false }
     requires script { script.old ≡ before_all }
     requires network { network.old ≡ None }

@@ -1,6 +1,6 @@
 //! The next line of a script.
 
-ghost use Rattle.std.specs.Prelude.{◌≡◌, ◌≢◌, ◌≤◌, Err, true, false};
+ghost use Rattle.std.specs.Prelude.{◌≡◌, ◌≢◌, ◌≤◌, Ok, Err, true, false};
 ghost use Rattle.sms_script.specs.Play.NextLine.{TakesNext};
 ghost use Rattle.sms_script.specs.Script.{lines_limit};
 ghost use Rattle.sms_script.specs.declared.fault.PlayFault.TheVariants.{Read};
@@ -30,11 +30,13 @@ pub fn next_line<S: Source>(
     count: u64,
 ) -> Result<Next, PlayFault>
     requires works { S.has_failed source.old ≡ false }
+    requires goes_on { S.has_ended source.old ≡ false }
     requires count { count ≤ lines_limit }
     ensures takes { let old = S.remaining source.old in
         TakesNext old (S.remaining source.new) count line.new.items result }
     ensures fails { result ≡ Err Read → S.has_failed source.new ≡ true }
     ensures works { result ≢ Err Read → S.has_failed source.new ≡ false }
+    ensures goes_on { result ≡ Ok Next.Line → S.has_ended source.new ≡ false }
 {
     if count >= LINES_LIMIT {
         line.clear();

@@ -1,6 +1,6 @@
 //! The network of a script.
 
-ghost use Rattle.std.specs.Prelude.{◌≡◌, IfOk, IfErr};
+ghost use Rattle.std.specs.Prelude.{◌≡◌, IfOk, IfErr, OnErr, None};
 ghost use Rattle.sms_script.specs.Play.Standing.{OpensAt};
 ghost use Rattle.sms_script.specs.declared.fault.PlayFault.TheVariants.{Memory};
 
@@ -18,13 +18,14 @@ pub fn started<N: Network>(
 ) -> Result<N, PlayFault>
     ensures there { IfOk result (λ n. OpensAt N.conduct script.now network n) }
     ensures memory { IfErr result (λ e. e ≡ Memory) }
+    ensures unbegun { OnErr result (network ≡ None) }
 {
     match network {
         Some(network) => Ok(network),
         None => {
             let mut network = N::begin(alloc, script.limits(), script.addresses())?;
             if let Some(seconds) = script.clock() {
-                let _ = network.step(alloc, &Event::Tick(seconds));
+                let _words = network.step(alloc, &Event::Tick(seconds))?;
             }
             Ok(network)
         }

@@ -7,14 +7,14 @@ use Rattle.sms_world.specs.Machine.{Machine, start}
 use Rattle.sms_world.specs.Machine.Event.{Event}
 use Rattle.sms_world.specs.Machine.Step.{RunWith}
 use Rattle.sms_world.specs.Orderly.Injections.{NothingIsInjected}
-use Rattle.sms_world.specs.Accepted.Answers.{AnswersAnswerWhatTheyName}
+use Rattle.sms_world.specs.Accepted.Answers.{AnswersOfPhone}
 
 -- Transaction values count modulo 7 and RP references modulo 256: the two together come again after
--- 1,792 puttings out. Where nothing is injected and no sender has put out more, each event meets
--- the condition.
+-- 1,792 puttings out. Where nothing is injected and a phone's sender has put out no more, each event
+-- meets the condition at this phone, however often the others put out.
 abbrev pub FewPuttingsOut : Type 0
 FewPuttingsOut =
     (limits : Limits) (phones : List AddressValue) (past : List (Event × Told)) (m : Machine)
     → RunWith (λ old event. NothingIsInjected event) (start limits phones) past m
-    → ((phone : ℕ) → (m.senders.sender phone).outs ≤ 1792)
-    → (event : Event) → AnswersAnswerWhatTheyName m event
+    → (event : Event) (phone : ℕ) → (m.senders.sender phone).outs ≤ 1792
+    → AnswersOfPhone m event phone

@@ -1,5 +1,5 @@
 -- What it means that a call of the whole is a step of the machine.
-use Rattle.std.specs.Prelude.{◌≡◌, ℕ, List, [], ◌∷◌, ◌++◌, length, reverse, Option, Some, None}
+use Rattle.std.specs.Prelude.{◌≡◌, ℕ, List, [], ◌∷◌, ◌++◌, length, reverse, Option, Some, None, Err}
 use Rattle.std.specs.Str.{chars}
 use Rattle.sms_field.specs.AddressValue.{AddressValue}
 use Rattle.sms_party.specs.Sent.{Sent}
@@ -15,6 +15,7 @@ use Rattle.sms_world.specs.Machine.{Machine, start}
 use Rattle.sms_world.specs.Machine.Event.{Event, Compose, Carry, Timeout, Push, Tick, Inject}
 use Rattle.sms_world.specs.Machine.Next.{packet}
 use Rattle.sms_world.specs.Machine.Step.{Step, Run}
+use Rattle.sms_world.specs.declared.fault.WorldFault.TheVariants.{NoSuchPacket, NoSuchPhone, ClockEnd}
 use Rattle.sms_world.specs.Told.{Told}
 use Rattle.sms_world.specs.World.Value.{WorldValue}
 use Rattle.sms_world.specs.World.Parties.{place_at}
@@ -44,6 +45,13 @@ StepsFrom m event old told new =
 -- so from each state that the old world stands for
 abbrev pub Steps : Event → WorldValue → Told → WorldValue → Type 0
 Steps event old told new = (m : Machine) → StandsFor old m → StepsFrom m event old told new
+
+-- so it is where there is no such packet or phone, or the clock would reach its end
+abbrev pub IfNowhere : Told → Type 0 → Type 0
+IfNowhere (Err NoSuchPacket) P = P
+IfNowhere (Err NoSuchPhone) P = P
+IfNowhere (Err ClockEnd) P = P
+IfNowhere _ P = Unit {0}
 
 -- the events of a run, with what was answered to each, the newest first
 abbrev pub told_past : List script.Event → List Told → List (Event × Told)

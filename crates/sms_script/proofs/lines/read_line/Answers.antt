@@ -1,4 +1,4 @@
-use Rattle.std.proofs.Common.{◌≡◌, ◌++◌, ◌∷◌, [], ℕ, List, length, rules, inl, true, false, nat_lt, sym, ◌∙◌}
+use Rattle.std.proofs.Common.{◌≡◌, ◌++◌, ◌∷◌, [], ℕ, List, length, rules, inl, refl, true, false, nat_lt, sym, ◌∙◌}
 use Rattle.std.proofs.lemmas.Result.{err_from_is_err_and}
 use Rattle.sms_script.specs.Lines.{line_limit, strip_carriage_return}
 use Rattle.sms_script.proofs.SourceLemmas.{Consumes-add}
@@ -10,7 +10,7 @@ returns-then-is_longer-clause-reads g c =
     let octet = rw c.in-Ok-Some.field-0-is at c.in-Ok-Some.ensures.gives in
     let raw : List ℕ = c.loop-line.line.items ++ c.in-Ok-Some.octet ∷ [] in
     let test : nat_lt line_limit (length (strip_carriage_return raw)) ≡ true = sym (rw c.deref.ensures.value at c.is_longer.ensures) ∙ c.if-is_longer.true in
-    (raw, HasNoLineFeed-more _ _ c.loop-line.invariant.no_feed c.in-Ok-Some.octet-test.1, (Consumes-add _ _ _ _ _ c.loop-line.invariant.taken octet, inl (is_longer raw test), few_octets _ _ c.loop-line.invariant.few))
+    (raw, HasNoLineFeed-more _ _ c.loop-line.invariant.no_feed c.in-Ok-Some.octet-test.1, (Consumes-add _ _ _ _ _ c.loop-line.invariant.taken octet, inl (record { front = c.loop-line.line.items; octet = c.in-Ok-Some.octet; last = refl; may_be = c.loop-line.invariant.few; longer = is_longer raw test }), few_octets _ _ c.loop-line.invariant.few))
 
 pub returns-in_err-push-in-Ok-Some-clause-reads : goal.returns-in_err-push-in-Ok-Some-clause-reads
 returns-in_err-push-in-Ok-Some-clause-reads g c =
@@ -27,6 +27,7 @@ loop-line-preserved g c =
     let test : nat_lt line_limit (length (strip_carriage_return raw)) ≡ false = sym (rw c.deref.ensures.value at c.is_longer.ensures) ∙ c.if-is_longer.false in
     rw c.in_ok-push-in-Ok-Some.ensures.items (record {
       works = search rules;
+      goes_on = rw c.in-Ok-Some.field-0-is at c.in-Ok-Some.ensures.ended;
       no_feed = HasNoLineFeed-more _ _ c.loop-line.invariant.no_feed c.in-Ok-Some.octet-test.1;
       few = is_not_longer raw test;
       taken = Consumes-add _ _ _ _ _ c.loop-line.invariant.taken octet;

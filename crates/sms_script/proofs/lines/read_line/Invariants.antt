@@ -6,6 +6,7 @@ use Rattle.sms_script.proofs.lines.read_line.Given as goal
 abbrev pub invariant-loop-line : goal.invariant-loop-line
 invariant-loop-line g l = record {
   works : g.S.Source.has_failed l.source ≡ false;
+  goes_on : g.S.Source.has_ended l.source ≡ false;
   no_feed : HasNoLineFeed l.line.items;
   few : length (strip_carriage_return l.line.items) ≤ line_limit;
   taken : Consumes (g.S.Source.remaining l.initial.source) (g.S.Source.remaining l.source) l.line.items;

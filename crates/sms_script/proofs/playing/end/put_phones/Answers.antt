@@ -1,6 +1,6 @@
 use Rattle.std.proofs.Common.{◌≡◌, ◌++◌, ◌+◌, ◌<◌, ◌≤◌, ◌∙◌, ap, sym, List, ℕ, drop, length, arith, subst}
 use Rattle.std.proofs.lemmas.Result.{err_from_is_err_and}
-use Rattle.sms_script.proofs.PutLemmas.{Left, left_more, left_fault, left_end, phones_left, no_phones_left}
+use Rattle.sms_script.proofs.PutLemmas.{Left, left_start, left_more, phone_lines_end, left_fault, left_end, phones_left, no_phones_left}
 use Rattle.sms_script.specs.Play.Runs.{ended_at}
 use Rattle.sms_script.specs.Transcript.{Ended, phone_lines, final_lines}
 use Rattle.sms_script.proofs.playing.end.put_phones.Goals as goal
@@ -17,7 +17,10 @@ returns-in_err-put_phone-clause-puts g c =
     let listed = ap length c.addresses-phone-end.ensures.addresses in
     let below : c.loop-phone.phone < length names = omega (arith, counted, listed) in
     let e = phones_left names ends c.loop-phone.phone below same in
-    rw p.1 (left_fault _ _ _ _ _ text rest c.in_err-put_phone.field-0.0 (e ∙ ap (λ (n : List ℕ). phone_lines n (ended_at ends c.loop-phone.phone) ++ rest) (sym c.name.ensures)) c.loop-phone.invariant.left c.in_err-put_phone.ensures.puts)
+    rw (p.1, p.2) (left_fault _ _ _ _ _ text rest c.in_err-put_phone.field-0.0 (e ∙ ap (λ (n : List ℕ). phone_lines n (ended_at ends c.loop-phone.phone) ++ rest) (sym c.name.ensures)) c.loop-phone.invariant.left c.in_err-put_phone.ensures.puts)
+
+pub loop-phone-init : goal.loop-phone-init
+loop-phone-init g c = record { works = c.requires.works; left = left_start _ _ }
 
 pub loop-phone-preserved : goal.loop-phone-preserved
 loop-phone-preserved g c =
@@ -32,7 +35,7 @@ loop-phone-preserved g c =
     let e = phones_left names ends c.loop-phone.phone below same in
     record {
       works = c.in_ok-put_phone.ensures.failed;
-      left = left_more _ _ _ _ _ text rest (e ∙ ap (λ (n : List ℕ). phone_lines n (ended_at ends c.loop-phone.phone) ++ rest) (sym c.name.ensures)) c.loop-phone.invariant.left c.in_ok-put_phone.ensures.puts;
+      left = left_more _ _ _ _ _ text rest (phone_lines_end c.name.result.now (ended_at ends c.loop-phone.phone)) (e ∙ ap (λ (n : List ℕ). phone_lines n (ended_at ends c.loop-phone.phone) ++ rest) (sym c.name.ensures)) c.loop-phone.invariant.left c.in_ok-put_phone.ensures.puts;
     }
 
 pub returns-clause-puts : goal.returns-clause-puts

@@ -1,6 +1,6 @@
-use Rattle.std.proofs.Common.{◌∙◌, [], refl, subst, List, ℕ}
+use Rattle.std.proofs.Common.{◌∙◌, subst, List, ℕ}
 use Rattle.std.proofs.lemmas.Result.{err_from_is_err_and}
-use Rattle.sms_script.proofs.PutLemmas.{Appends-none}
+use Rattle.sms_script.proofs.PutLemmas.{puts_none}
 use Rattle.sms_script.specs.Play.Puts.{Puts}
 use Rattle.sms_script.specs.Transcript.Lines.{store_line}
 use Rattle.sms_script.proofs.playing.end.put_store.Goals as goal
@@ -8,7 +8,7 @@ use Rattle.sms_script.proofs.playing.end.put_store.Goals as goal
 pub returns-in_err-line-clause-puts : goal.returns-in_err-line-clause-puts
 returns-in_err-line-clause-puts g c =
     let p = err_from_is_err_and c.from_residual.result c.from_residual.ensures.1 in
-    rw p.1 ([], store_line c.args.name.now c.args.count, refl, Appends-none (g.K.Sink.contents c.args.sink.now))
+    rw (p.1, p.2) (puts_none (g.K.Sink.contents c.args.sink.now) (store_line c.args.name.now c.args.count))
 
 pub returns-clause-puts : goal.returns-clause-puts
 returns-clause-puts g c =

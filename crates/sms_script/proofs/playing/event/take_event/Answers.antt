@@ -1,9 +1,9 @@
-use Rattle.std.proofs.Common.{◌≡◌, ◌∙◌, ◌+◌, [], subst, refl, length, drop, List, ℕ}
+use Rattle.std.proofs.Common.{◌≡◌, ◌∙◌, ◌+◌, subst, length, drop, List, ℕ}
 use Rattle.std.proofs.lemmas.Result.{err_from_is_err_and}
 use Rattle.sms_script.proofs.PacketLemmas.{packets_after}
-use Rattle.sms_script.proofs.PutLemmas.{Appends-none}
+use Rattle.sms_script.proofs.PutLemmas.{Appends-none, at_once}
 use Rattle.sms_script.specs.Play.Events.{event_text}
-use Rattle.sms_script.specs.Play.Puts.{Puts}
+use Rattle.sms_script.specs.Play.Puts.{PutsAtOnce}
 use Rattle.sms_script.proofs.playing.event.take_event.Goals as goal
 
 pub returns-in_err-words-clause-takes : goal.returns-in_err-words-clause-takes
@@ -11,14 +11,14 @@ returns-in_err-words-clause-takes g c =
     let p = err_from_is_err_and c.from_residual.result c.from_residual.ensures.1 in
     let s = c.in_err-words.ensures.steps in
     let q = c.in_err-words.ensures.packets in
-    (s.0, q.0, s.1, q.1, rw p.1 ([], event_text c.args.script.now c.args.number s.0 (length (g.N.Network.conduct.put_out c.args.network.now) + 1) q.0, refl, Appends-none (g.K.Sink.contents c.args.sink.now)))
+    (s.0, q.0, s.1, q.1, rw (p.1, p.2) (Appends-none (g.K.Sink.contents c.args.sink.now)))
 
 pub returns-in_err-text-clause-takes : goal.returns-in_err-text-clause-takes
 returns-in_err-text-clause-takes g c =
     let p = err_from_is_err_and c.from_residual-in_err-text.result c.from_residual-in_err-text.ensures.1 in
     let s = c.in_ok-words.ensures.steps in
     let q = c.in_ok-words.ensures.packets in
-    (s.0, q.0, s.1, q.1, rw p.1 ([], event_text c.args.script.now c.args.number s.0 (length (g.N.Network.conduct.put_out c.args.network.now) + 1) q.0, refl, Appends-none (g.K.Sink.contents c.args.sink.now)))
+    (s.0, q.0, s.1, q.1, rw (p.1, p.2) (Appends-none (g.K.Sink.contents c.args.sink.now)))
 
 pub returns-clause-takes : goal.returns-clause-takes
 returns-clause-takes g c =
@@ -29,4 +29,4 @@ returns-clause-takes g c =
     let words = c.as_str.ensures.value ∙ s.2 in
     let text : c.deref.result.now ≡ event_text c.args.script.now c.args.number s.0 (length (g.N.Network.conduct.put_out c.args.network.now) + 1) q.0 =
     c.deref.ensures.value ∙ rw (rest, first, words) at c.in_ok-text.ensures in
-    (s.0, q.0, s.1, q.1, subst (λ (t : List ℕ). Puts (g.K.Sink.contents c.args.sink.now) (g.K.Sink.contents c.put.new.sink) t c.put.result) text c.put.ensures.puts)
+    (s.0, q.0, s.1, q.1, subst (λ (t : List ℕ). PutsAtOnce (g.K.Sink.contents c.args.sink.now) (g.K.Sink.contents c.put.new.sink) t c.put.result) text (at_once _ _ _ c.put.result c.put.ensures.puts c.put.ensures.fault))

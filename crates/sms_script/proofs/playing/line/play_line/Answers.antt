@@ -4,7 +4,7 @@ use Rattle.sms_script.proofs.LineTurns.{nothing_goes_on, take_fails}
 use Rattle.sms_script.proofs.RunLemmas.{lines_after}
 use Rattle.sms_script.specs.Script.{TakesLine}
 use Rattle.sms_script.specs.Script.Settings.{SettingsValue}
-use Rattle.sms_script.specs.Play.Standing.{Stands, GoesOn}
+use Rattle.sms_script.specs.Play.Standing.{at, Stands, GoesOn}
 use Rattle.sms_script.specs.declared.fault.PlayFault.{PlayFault}
 use Rattle.sms_script.specs.declared.meaning.event.Event.{Event}
 use Rattle.sms_script.proofs.playing.line.play_line.Goals as goal
@@ -12,7 +12,7 @@ use Rattle.sms_script.proofs.playing.line.play_line.Goals as goal
 pub returns-in_err-event-clause-advances : goal.returns-in_err-event-clause-advances
 returns-in_err-event-clause-advances g c ls before h =
     let p = err_from_is_err_and c.from_residual.result c.from_residual.ensures.1 in
-    subst (λ (r : Result (Unit {0}) PlayFault). GoesOn g.N.Network.conduct (ls ++ c.args.line.now ∷ []) c.take.new.self c.args.network.now c.args.events.now before (g.K.Sink.contents c.args.sink.now) r)
+    subst (λ (r : Result (Unit {0}) PlayFault). GoesOn g.N.Network.conduct ls c.args.line.now (at c.args.script.now c.args.network.now c.args.events.now (g.K.Sink.contents c.args.sink.now)) (at c.take.new.self c.args.network.now c.args.events.now (g.K.Sink.contents c.args.sink.now)) before r)
     (sym (p.1 ∙ ap Err p.2))
     (take_fails g.N.Network.conduct ls c.args.line.now c.args.script.now c.take.new.self c.args.network.now c.args.network.now c.args.events.now c.args.events.now before (g.K.Sink.contents c.args.sink.now) c.in_err-event.field-0.0 c.requires.lines c.requires.octets h c.in_err-event.ensures)
 

@@ -10,6 +10,7 @@ use Rattle.sms_world.specs.Machine.Next.{packet}
 use Rattle.sms_world.specs.World.Standing.{StandsFor}
 use Rattle.sms_world.specs.World.Parties.{Receives}
 use Rattle.sms_world.specs.World.Value.{WorldValue}
+use Rattle.sms_world.proofs.Nowhere.{dropped_somewhere}
 use Rattle.sms_world.proofs.Happening.{brought_as, not_brought, nothing_brought, none_at_0, none_past, phone_within, ends_badly, badly_a_world, room, well_a_world, ends_well, puts_more, seen_still}
 use Rattle.sms_world.proofs.world.World.carry.Goals.{then-number-eq0-via-then-number-eq0, then-number-eq0-via-else-number-eq0+then-number-len}
 use Rattle.sms_world.proofs.world.World.carry.Goals as goal
@@ -108,3 +109,9 @@ pub returns-clause-packets : goal.returns-clause-packets
 returns-clause-packets c =
     let v : WorldValue = record { limits = c.self.inside.limits; clock = c.self.inside.clock; parties = c.self.inside.parties; packets = c.self.inside.packets.items } in
     puts_more v c.args.self.now (Carry c.args.number) (not c.packet.inside.up) c.packet.inside.phone c.receive.new.self c.make_room.new.packets.items c.self.view_is c.in_ok-make_room.ensures.items c.in_ok-step.step c.keep.new.packets.items c.keep.ensures.packets
+
+pub returns-in_err-make_room-clause-unmoved : goal.returns-in_err-make_room-clause-unmoved
+returns-in_err-make_room-clause-unmoved c = dropped_somewhere c.from_residual.result Memory c.from_residual.ensures.1
+
+pub returns-in_err-step-clause-unmoved : goal.returns-in_err-step-clause-unmoved
+returns-in_err-step-clause-unmoved c = dropped_somewhere c.from_residual-in_err-step.result c.in_err-step.field-0.0 c.from_residual-in_err-step.ensures.1

@@ -2,6 +2,7 @@ use Rattle.std.proofs.Common.{◌<◌, ◌≤◌, not, length, Ok, Err, subst, a
 use Rattle.sms_field.specs.OctetLists.{octets_are}
 use Rattle.sms_world.specs.World.Parties.{place_at}
 use Rattle.sms_world.specs.Machine.Event.{Inject}
+use Rattle.sms_world.proofs.Nowhere.{dropped_somewhere}
 use Rattle.sms_world.proofs.Happening.{injected, injected_nowhere, ends_badly, badly_a_world, room, well_a_world, ends_well, puts_more, seen_still}
 use Rattle.sms_message.specs.declared.outcome.Dropped.TheVariants.{Memory}
 use Rattle.sms_world.specs.World.Value.{WorldValue}
@@ -61,3 +62,9 @@ pub returns-clause-packets : goal.returns-clause-packets
 returns-clause-packets c =
     let v : WorldValue = record { limits = c.self.inside.limits; clock = c.self.inside.clock; parties = c.self.inside.parties; packets = c.self.inside.packets.items } in
     puts_more v c.args.self.now (Inject (place_at c.args.up c.args.phone) c.args.octets.now) (not c.args.up) (c.args.phone) c.receive.new.self c.make_room.new.packets.items c.self.view_is c.in_ok-make_room.ensures.items c.in_ok-step.step c.keep.new.packets.items c.keep.ensures.packets
+
+pub returns-in_err-make_room-clause-unmoved : goal.returns-in_err-make_room-clause-unmoved
+returns-in_err-make_room-clause-unmoved c = dropped_somewhere c.from_residual.result Memory c.from_residual.ensures.1
+
+pub returns-in_err-step-clause-unmoved : goal.returns-in_err-step-clause-unmoved
+returns-in_err-step-clause-unmoved c = dropped_somewhere c.from_residual-in_err-step.result c.in_err-step.field-0.0 c.from_residual-in_err-step.ensures.1

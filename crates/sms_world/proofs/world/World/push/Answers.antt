@@ -1,5 +1,6 @@
 use Rattle.std.proofs.Common.{◌<◌, ◌≤◌, false, length, Ok, Err, subst}
 use Rattle.sms_world.specs.Machine.Event.{Push}
+use Rattle.sms_world.proofs.Nowhere.{dropped_somewhere}
 use Rattle.sms_world.proofs.Happening.{handed, handed_nowhere, ends_badly, badly_a_world, well_a_world, ends_well, puts_more, seen_still}
 use Rattle.sms_message.specs.declared.outcome.Dropped.TheVariants.{Memory}
 use Rattle.sms_world.specs.World.Value.{WorldValue}
@@ -45,3 +46,9 @@ pub returns-clause-packets : goal.returns-clause-packets
 returns-clause-packets c =
     let v : WorldValue = record { limits = c.self.inside.limits; clock = c.self.inside.clock; parties = c.self.inside.parties; packets = c.self.inside.packets.items } in
     puts_more v c.args.self.now (Push c.args.phone) false (c.args.phone) c.push.new.self c.make_room.new.packets.items c.self.view_is c.in_ok-make_room.ensures.items c.in_ok-step.step c.keep.new.packets.items c.keep.ensures.packets
+
+pub returns-in_err-make_room-clause-unmoved : goal.returns-in_err-make_room-clause-unmoved
+returns-in_err-make_room-clause-unmoved c = dropped_somewhere c.from_residual.result Memory c.from_residual.ensures.1
+
+pub returns-in_err-step-clause-unmoved : goal.returns-in_err-step-clause-unmoved
+returns-in_err-step-clause-unmoved c = dropped_somewhere c.from_residual-in_err-step.result c.in_err-step.field-0.0 c.from_residual-in_err-step.ensures.1
