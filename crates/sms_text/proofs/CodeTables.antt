@@ -2,12 +2,15 @@
 use Rattle.std.proofs.Common.{◌≡◌, ◌≢◌, ℕ, zero, suc, ◌<◌, ◌≤◌, Bool, true, false, not, cond, ltb, List, [], ◌∷◌, get_or, Option, Some, None, refl, sym, ap, subst, ◌∙◌, arith}
 use Rattle.std.specs.Prelude.{◌&&◌, ◌||◌, ◌==◌, nat_le}
 use Rattle.std.proofs.lemmas.Bool.{eqb-true, ltb-true, ltb-false, ne_eqb}
-use Rattle.sms_text.specs.Tables.{main, escape, code_of, character_of}
+use Rattle.sms_text.specs.Tables.{main, extension, escape, code_of, character_of}
 use Rattle.sms_text.specs.TextOfSeptets.{plain_character}
 use Rattle.sms_text.specs.Same.{IsSame}
 
 abbrev pub codes : List ℕ
 codes = 255 ∷ 255 ∷ 255 ∷ 255 ∷ 255 ∷ 255 ∷ 255 ∷ 255 ∷ 255 ∷ 255 ∷ 10 ∷ 255 ∷ 255 ∷ 13 ∷ 255 ∷ 255 ∷ 255 ∷ 255 ∷ 255 ∷ 255 ∷ 255 ∷ 255 ∷ 255 ∷ 255 ∷ 255 ∷ 255 ∷ 255 ∷ 255 ∷ 255 ∷ 255 ∷ 255 ∷ 255 ∷ 32 ∷ 33 ∷ 34 ∷ 35 ∷ 2 ∷ 37 ∷ 38 ∷ 39 ∷ 40 ∷ 41 ∷ 42 ∷ 43 ∷ 44 ∷ 45 ∷ 46 ∷ 47 ∷ 48 ∷ 49 ∷ 50 ∷ 51 ∷ 52 ∷ 53 ∷ 54 ∷ 55 ∷ 56 ∷ 57 ∷ 58 ∷ 59 ∷ 60 ∷ 61 ∷ 62 ∷ 63 ∷ 0 ∷ 65 ∷ 66 ∷ 67 ∷ 68 ∷ 69 ∷ 70 ∷ 71 ∷ 72 ∷ 73 ∷ 74 ∷ 75 ∷ 76 ∷ 77 ∷ 78 ∷ 79 ∷ 80 ∷ 81 ∷ 82 ∷ 83 ∷ 84 ∷ 85 ∷ 86 ∷ 87 ∷ 88 ∷ 89 ∷ 90 ∷ 255 ∷ 255 ∷ 255 ∷ 255 ∷ 17 ∷ 255 ∷ 97 ∷ 98 ∷ 99 ∷ 100 ∷ 101 ∷ 102 ∷ 103 ∷ 104 ∷ 105 ∷ 106 ∷ 107 ∷ 108 ∷ 109 ∷ 110 ∷ 111 ∷ 112 ∷ 113 ∷ 114 ∷ 115 ∷ 116 ∷ 117 ∷ 118 ∷ 119 ∷ 120 ∷ 121 ∷ 122 ∷ 255 ∷ 255 ∷ 255 ∷ 255 ∷ 255 ∷ 255 ∷ 255 ∷ 255 ∷ 255 ∷ 255 ∷ 255 ∷ 255 ∷ 255 ∷ 255 ∷ 255 ∷ 255 ∷ 255 ∷ 255 ∷ 255 ∷ 255 ∷ 255 ∷ 255 ∷ 255 ∷ 255 ∷ 255 ∷ 255 ∷ 255 ∷ 255 ∷ 255 ∷ 255 ∷ 255 ∷ 255 ∷ 255 ∷ 255 ∷ 255 ∷ 255 ∷ 255 ∷ 255 ∷ 64 ∷ 255 ∷ 1 ∷ 36 ∷ 3 ∷ 255 ∷ 95 ∷ 255 ∷ 255 ∷ 255 ∷ 255 ∷ 255 ∷ 255 ∷ 255 ∷ 255 ∷ 255 ∷ 255 ∷ 255 ∷ 255 ∷ 255 ∷ 255 ∷ 255 ∷ 255 ∷ 255 ∷ 255 ∷ 255 ∷ 255 ∷ 255 ∷ 255 ∷ 255 ∷ 96 ∷ 255 ∷ 255 ∷ 255 ∷ 255 ∷ 91 ∷ 14 ∷ 28 ∷ 9 ∷ 255 ∷ 31 ∷ 255 ∷ 255 ∷ 255 ∷ 255 ∷ 255 ∷ 255 ∷ 255 ∷ 93 ∷ 255 ∷ 255 ∷ 255 ∷ 255 ∷ 92 ∷ 255 ∷ 11 ∷ 255 ∷ 255 ∷ 255 ∷ 94 ∷ 255 ∷ 255 ∷ 30 ∷ 127 ∷ 255 ∷ 255 ∷ 255 ∷ 123 ∷ 15 ∷ 29 ∷ 255 ∷ 4 ∷ 5 ∷ 255 ∷ 255 ∷ 7 ∷ 255 ∷ 255 ∷ 255 ∷ 255 ∷ 125 ∷ 8 ∷ 255 ∷ 255 ∷ 255 ∷ 124 ∷ 255 ∷ 12 ∷ 6 ∷ 255 ∷ 255 ∷ 126 ∷ 255 ∷ 255 ∷ 255 ∷ []
+
+abbrev pub escaped_codes : List ℕ
+escaped_codes = 255 ∷ 255 ∷ 255 ∷ 255 ∷ 255 ∷ 255 ∷ 255 ∷ 255 ∷ 255 ∷ 255 ∷ 255 ∷ 255 ∷ 10 ∷ 255 ∷ 255 ∷ 255 ∷ 255 ∷ 255 ∷ 255 ∷ 255 ∷ 255 ∷ 255 ∷ 255 ∷ 255 ∷ 255 ∷ 255 ∷ 255 ∷ 255 ∷ 255 ∷ 255 ∷ 255 ∷ 255 ∷ 255 ∷ 255 ∷ 255 ∷ 255 ∷ 255 ∷ 255 ∷ 255 ∷ 255 ∷ 255 ∷ 255 ∷ 255 ∷ 255 ∷ 255 ∷ 255 ∷ 255 ∷ 255 ∷ 255 ∷ 255 ∷ 255 ∷ 255 ∷ 255 ∷ 255 ∷ 255 ∷ 255 ∷ 255 ∷ 255 ∷ 255 ∷ 255 ∷ 255 ∷ 255 ∷ 255 ∷ 255 ∷ 255 ∷ 255 ∷ 255 ∷ 255 ∷ 255 ∷ 255 ∷ 255 ∷ 255 ∷ 255 ∷ 255 ∷ 255 ∷ 255 ∷ 255 ∷ 255 ∷ 255 ∷ 255 ∷ 255 ∷ 255 ∷ 255 ∷ 255 ∷ 255 ∷ 255 ∷ 255 ∷ 255 ∷ 255 ∷ 255 ∷ 255 ∷ 60 ∷ 47 ∷ 62 ∷ 20 ∷ 255 ∷ 255 ∷ 255 ∷ 255 ∷ 255 ∷ 255 ∷ 255 ∷ 255 ∷ 255 ∷ 255 ∷ 255 ∷ 255 ∷ 255 ∷ 255 ∷ 255 ∷ 255 ∷ 255 ∷ 255 ∷ 255 ∷ 255 ∷ 255 ∷ 255 ∷ 255 ∷ 255 ∷ 255 ∷ 255 ∷ 255 ∷ 255 ∷ 40 ∷ 64 ∷ 41 ∷ 61 ∷ 255 ∷ []
 
 abbrev pub greek : List (ℕ × ℕ)
 greek = (16, 916) ∷ (18, 934) ∷ (19, 915) ∷ (20, 923) ∷ (21, 937) ∷ (22, 928) ∷ (23, 936) ∷ (24, 931) ∷ (25, 920) ∷ (26, 926) ∷ []
@@ -115,3 +118,28 @@ coded_none c small is = ap code_or_none (sym is) ∙ code_is c small
 
 pub coded_some : (c : ℕ) → c < 256 → get_or codes c 0 ≢ 255 → Some (get_or codes c 0) ≡ code_of main c
 coded_some c small other = ap (λ (b : Bool). cond b None (Some (get_or codes c 0))) (sym (ne_eqb (get_or codes c 0) 255 other)) ∙ code_is c small
+
+-- ---- the same of the codes after the escape
+
+abbrev escaped_code_test : ℕ → Bool
+escaped_code_test c = agrees (code_or_none (get_or escaped_codes c 0)) (code_of extension c)
+
+escaped_code_is : (c : ℕ) → c < 128 → code_or_none (get_or escaped_codes c 0) ≡ code_of extension c
+unfolding code_of
+escaped_code_is c small = agree (code_or_none (get_or escaped_codes c 0)) (code_of extension c) (each_passes escaped_code_test 128 c refl small)
+
+pub escaped_none : (c : ℕ) → c < 128 → get_or escaped_codes c 0 ≡ 255 → None ≡ code_of extension c
+escaped_none c small is = ap code_or_none (sym is) ∙ escaped_code_is c small
+
+pub escaped_some : (c : ℕ) → c < 128 → get_or escaped_codes c 0 ≢ 255 → Some (get_or escaped_codes c 0) ≡ code_of extension c
+escaped_some c small other = ap (λ (b : Bool). cond b None (Some (get_or escaped_codes c 0))) (sym (ne_eqb (get_or escaped_codes c 0) 255 other)) ∙ escaped_code_is c small
+
+passed_over : (entry : ℕ × ℕ) (others : List (ℕ × ℕ)) (c : ℕ) → entry.1 < 128 → 128 ≤ c → code_of (entry ∷ others) c ≡ code_of others c
+unfolding code_of
+passed_over entry others c low big = rw (ne_eqb entry.1 c (λ same_one. omega (arith, low, same_one))) refl
+
+-- the only entry from U+0080 on is the last
+pub euro_is : (c : ℕ) → 128 ≤ c → code_of ((101, 8364) ∷ []) c ≡ code_of extension c
+euro_is c big =
+    sym (passed_over (10, 12) _ c (omega arith) big ∙ passed_over (20, 94) _ c (omega arith) big ∙ passed_over (40, 123) _ c (omega arith) big ∙ passed_over (41, 125) _ c (omega arith) big ∙ passed_over (47, 92) _ c (omega arith) big
+    ∙ passed_over (60, 91) _ c (omega arith) big ∙ passed_over (61, 126) _ c (omega arith) big ∙ passed_over (62, 93) _ c (omega arith) big ∙ passed_over (64, 124) _ c (omega arith) big)

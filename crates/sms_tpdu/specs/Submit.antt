@@ -1,5 +1,6 @@
 -- SMS-SUBMIT (3GPP TS 23.040, 9.2.2.2).
 pub mod Flags
+pub mod Front
 pub mod ValidityPeriod
 pub mod ValidityPeriodLaws
 pub mod Laws

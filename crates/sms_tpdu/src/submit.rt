@@ -7,12 +7,14 @@ ghost use Rattle.sms_tpdu.specs.Submit.Flags.{submit_octet};
 ghost use Rattle.sms_tpdu.specs.Submit.ValidityPeriod.{validity_octets};
 
 pub mod flags;
+pub mod front;
 pub mod validity;
 pub mod view;
 
 use crate::fault::UnitFault;
 use crate::submit::flags::SubmitFlags;
-use crate::submit::validity::{ValidityFormat, put_validity};
+use crate::submit::front::{FRONT_MAX, put_front};
+use crate::submit::validity::ValidityFormat;
 use crate::submit::view::SubmitView;
 use crate::unit::Unit;
 use crate::user_data::UserData;
@@ -76,9 +78,6 @@ impl Model for Submit {
     }) };
 }
 
-/// The most octets before the user data.
-const FRONT_MAX: usize = 23;
-
 impl Submit {
     /// The flags in the first octet.
     fn flags(&self) -> SubmitFlags
@@ -100,10 +99,16 @@ impl Submit {
             (address_octets self.now.target ++
             (self.now.pid ∷ self.now.dcs ∷ validity_octets self.now.validity)))) }
     {
-        out.extend_from_slice(&[self.flags().to_octet(), self.reference])?;
-        self.target.write_to(out)?;
-        out.extend_from_slice(&[self.pid, self.dcs])?;
-        put_validity(out, &self.validity)
+        put_front(
+            out,
+            self.flags(),
+            self.reference,
+            &self.target,
+            self.pid,
+            self.dcs,
+            &self.validity,
+        )?;
+        Ok(())
     }
 }
 

@@ -126,38 +126,67 @@ fn put_place(out: &mut Vec<u8>, place: Option<Concat>) -> Result<(), AllocError>
     Ok(())
 }
 
-/// The octets of user data with septets that are lent.
-fn write_septets(
-    alloc: Global,
-    place: Option<Concat>,
-    septets: &[u8],
-) -> Result<Vec<u8>, AllocError>
-    requires reference { IfSome place IsReferenceInRange }
-    requires room { SeptetsHaveRoom (length (header_octets (place_header place))) septets.now }
-    ensures { IfOk result (λ octets. SpellsUserData
-        (user_after place (body.Septets septets.now)) octets.items) }
+/// Room for user data whose units are lent, with their length before them.
+pub fn room_for_units(place: Option<Concat>, units: UnitsView<'_>) -> usize
+    requires { HasRoom (length (header_octets (place_header place))) units }
+    ensures { result ≤ 2 ^ 63 }
 {
-    let taken = octets_of_place(place);
-    let mut out = Vec::with_capacity(alloc, 1 + taken + room_for_septets(septets.len()))?;
-    out.push(length_of_septets(taken, septets))?;
-    put_place(&mut out, place)?;
-    put_septets(&mut out, taken, septets)?;
-    Ok(out)
+    let data = match units {
+        UnitsView::Gsm(septets) => room_for_septets(septets.len()),
+        UnitsView::Ucs2(units) => 2 * units.len(),
+    };
+    1 + octets_of_place(place) + data
 }
 
-/// The octets of user data with 16-bit units that are lent.
-fn write_ucs2(alloc: Global, place: Option<Concat>, units: &[u16]) -> Result<Vec<u8>, AllocError>
+/// Adds user data with septets that are lent, with their length before them.
+fn put_lent_septets(
+    out: &mut Vec<u8>,
+    place: Option<Concat>,
+    septets: &[u8],
+) -> Result<(), AllocError>
+    requires reference { IfSome place IsReferenceInRange }
+    requires room { SeptetsHaveRoom (length (header_octets (place_header place))) septets.now }
+    ensures { OnOk result ((written : List ℕ)
+        × SpellsUserData (user_after place (body.Septets septets.now)) written
+        × (out.new.items ≡ out.old.items ++ written)) }
+{
+    let taken = octets_of_place(place);
+    out.push(length_of_septets(taken, septets))?;
+    put_place(out, place)?;
+    put_septets(out, taken, septets)
+}
+
+/// Adds user data with 16-bit units that are lent, with their length before them.
+fn put_lent_ucs2(out: &mut Vec<u8>, place: Option<Concat>, units: &[u16]) -> Result<(), AllocError>
     requires reference { IfSome place IsReferenceInRange }
     requires room { Ucs2HaveRoom (length (header_octets (place_header place))) units.now }
-    ensures { IfOk result (λ octets. SpellsUserData
-        (user_after place (body.Octets (octets_high_first units.now))) octets.items) }
+    ensures { OnOk result ((written : List ℕ)
+        × SpellsUserData (user_after place (body.Octets (octets_high_first units.now))) written
+        × (out.new.items ≡ out.old.items ++ written)) }
 {
     let count = octets_of_place(place) + 2 * units.len();
-    let mut out = Vec::with_capacity(alloc, 1 + count)?;
     out.push(count as u8)?;
-    put_place(&mut out, place)?;
-    put_units(&mut out, units)?;
-    Ok(out)
+    put_place(out, place)?;
+    put_units(out, units)?;
+    Ok(())
+}
+
+/// Adds user data whose units are lent, with their length before them.
+pub fn put_lent(
+    out: &mut Vec<u8>,
+    place: Option<Concat>,
+    units: UnitsView<'_>,
+) -> Result<(), AllocError>
+    requires reference { IfSome place IsReferenceInRange }
+    requires room { HasRoom (length (header_octets (place_header place))) units }
+    ensures { OnOk result ((written : List ℕ)
+        × SpellsUserData (user_after place (units_body units.entry)) written
+        × (out.new.items ≡ out.old.items ++ written)) }
+{
+    match units {
+        UnitsView::Gsm(septets) => put_lent_septets(out, place, septets),
+        UnitsView::Ucs2(units) => put_lent_ucs2(out, place, units),
+    }
 }
 
 /// The octets of user data whose units are lent: their length, the header of the place, where one
@@ -175,10 +204,9 @@ pub fn write_units(
     ensures { IfOk result (λ octets. SpellsUserData
         (user_after place (units_body units.entry)) octets.items) }
 {
-    match units {
-        UnitsView::Gsm(septets) => write_septets(alloc, place, septets),
-        UnitsView::Ucs2(units) => write_ucs2(alloc, place, units),
-    }
+    let mut out = Vec::with_capacity(alloc, room_for_units(place, units))?;
+    put_lent(&mut out, place, units)?;
+    Ok(out)
 }
 
 impl UserData {
