@@ -157,18 +157,21 @@ pub struct Ear<'a, 'b, 'c, R: Read, W: Write> {
     end: usize,
     /// Whether a call of it failed.
     pub failed: bool,
+    /// Whether a call told the end.
+    pub ended: bool,
     /// Whether it was the output that failed, which could not be flushed.
     is_mute: bool,
 }
 
 impl<'a, 'b, 'c, R: Read, W: Write> Ear<'a, 'b, 'c, R, W> {
-    /// One that has not failed.
+    /// One that has not failed, and has not told its end.
     pub fn new(
         alloc: Global,
         input: &'c mut R,
         output: &'b RefCell<&'a mut W>,
     ) -> Result<Ear<'a, 'b, 'c, R, W>, AllocError>
-        ensures { IfOk result (λ ear. ear.failed ≡ false) }
+        ensures failed { IfOk result (λ ear. ear.failed ≡ false) }
+        ensures ended { IfOk result (λ ear. ear.ended ≡ false) }
     {
         Ok(Ear {
             input,
@@ -177,6 +180,7 @@ impl<'a, 'b, 'c, R: Read, W: Write> Ear<'a, 'b, 'c, R, W> {
             start: 0,
             end: 0,
             failed: false,
+            ended: false,
             is_mute: false,
         })
     }
@@ -225,6 +229,8 @@ impl<R: Read, W: Write> Source for Ear<'_, '_, '_, R, W> {
 
     ghost has_failed = { λ e. e.failed };
 
+    ghost has_ended = { λ e. e.ended };
+
     fn read(&mut self, buffer: &mut [u8]) -> Result<usize, DeviceFailed> {
         if self.start >= self.end {
             match fill(self.input, self.output, &mut self.room) {
@@ -244,6 +250,7 @@ impl<R: Read, W: Write> Source for Ear<'_, '_, '_, R, W> {
             None => 0,
         };
         self.start = self.start.saturating_add(count);
+        self.ended = count == 0 && !buffer.is_empty();
         Ok(count)
     }
 
