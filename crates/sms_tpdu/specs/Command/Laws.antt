@@ -1,8 +1,7 @@
 -- An SMS-COMMAND is a lawful field, and what is written is read back.
-use Rattle.std.proofs.Common.{◌≡◌, ℕ, ◌≤◌, ◌||◌, Bool, true, false, not, cond, leb, List, [], ◌∷◌, length, Ok, Err, refl, lit<, arith}
+use Rattle.std.proofs.Common.{◌≡◌, ℕ, ◌≤◌, true, false, leb, List, [], ◌∷◌, length, Ok, refl, lit<, arith}
 use Rattle.std.proofs.lemmas.Bool.{le-leb}
 use Rattle.sms_text.specs.Octets.{IsOctets}
-use Rattle.sms_field.specs.Bit.{bit}
 use Rattle.sms_field.specs.BitLaws.{AreBits, summed_bits}
 use Rattle.sms_field.specs.ChainReading.{chained, ended}
 use Rattle.sms_field.specs.Field.{IsLawful, up_to}

@@ -1,7 +1,6 @@
 -- An SMS-STATUS-REPORT is a lawful field, and what is written is read back.
-use Rattle.std.proofs.Common.{◌≡◌, ℕ, ◌||◌, Bool, true, false, not, cond, List, [], ◌∷◌, ◌++◌, Ok, Err, refl, sym, subst, lit<, arith}
+use Rattle.std.proofs.Common.{◌≡◌, ℕ, true, false, not, List, [], ◌∷◌, ◌++◌, Ok, refl, sym, subst, lit<, arith}
 use Rattle.sms_text.specs.Octets.{IsOctets}
-use Rattle.sms_field.specs.Bit.{bit}
 use Rattle.sms_field.specs.BitLaws.{AreBits, summed_bits}
 use Rattle.sms_field.specs.ChainReading.{chained}
 use Rattle.sms_field.specs.Field.{IsLawful}
