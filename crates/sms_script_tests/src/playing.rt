@@ -1,6 +1,6 @@
 //! Scripts played where every event is noted and nothing comes of it, and with devices that fail.
 
-ghost use Rattle.std.specs.Prelude.{◌≡◌, codes, length, replicate, []};
+ghost use Rattle.std.specs.Prelude.{◌≡◌, ◌≤◌, codes, length, replicate, [], IfOk};
 ghost use Rattle.sms_script.specs.Play.Runs.{nothing_ended};
 
 use crate::found::{holds, same};
@@ -102,7 +102,9 @@ impl Read for Endless {
 }
 
 /// Takes one octet, which leads a text.
-fn take_first(taken: &mut Vec<u8>, octets: &[u8]) -> std::io::Result<usize> {
+fn take_first(taken: &mut Vec<u8>, octets: &[u8]) -> std::io::Result<usize>
+    ensures { IfOk result (λ n. n ≤ length octets.now) }
+{
     let Some(first) = octets.first() else {
         return Ok(0);
     };

@@ -1,38 +1,20 @@
 //! Octets of the worked examples, cut at every length and with every octet replaced by every other,
-//! come to a world of two phones in which a text has just been stored.
+//! come to a world of two phones in which a text has just been stored. Those that no CP message
+//! reads change nothing.
 
 mod rows;
 
 use crate::found::holds;
-use crate::two::{Two, all_answer, has_stored, is_stored, new_two};
+use crate::two::{Two, all_answer, happens, has_stored, is_stored, new_two};
 use crate::way::{ANSWERS, SENT, are_put_out, first_phone_stands, were_put_out, whole_way};
 use rows::{Hostile, TRANSFERS, UNITS};
 use sms_message::Dropped;
 use sms_party::Status;
 use sms_relay::unwrap_view;
-use sms_world::{Entry, Event, Octets, WorldFault};
+use sms_world::{Event, Octets, WorldFault};
 use std::alloc::{AllocError, Global};
 use std::process::Abort;
 use std::test::Fail;
-
-/// Which octets come.
-#[derive(Clone, Copy, PartialEq, Eq)]
-enum Which {
-    /// Those that no CP message reads.
-    Unread,
-    /// Those that one reads.
-    Read,
-}
-
-/// Whether octets are of those that come.
-fn are_of(which: Which, octets: &[u8]) -> bool {
-    let found = if unwrap_view(octets).is_err() {
-        Which::Unread
-    } else {
-        Which::Read
-    };
-    found == which
-}
 
 /// Whether the stores are as after the fourth event.
 fn stores_stand(two: &Two) -> bool {
@@ -54,19 +36,6 @@ fn stands(two: &Two) -> bool {
         && texts_stand(two)
 }
 
-/// Whether the first text of a store is `hi`.
-fn begins_with_hi(store: &[Entry]) -> bool {
-    match store {
-        [entry, ..] => entry.text.as_str() == "hi",
-        [] => false,
-    }
-}
-
-/// Whether what was put out and stored up to the fourth event is there.
-fn keeps(two: &Two) -> bool {
-    are_put_out(&two.world, &SENT[..6]) && begins_with_hi(two.world.store(1))
-}
-
 /// Octets come from the first phone, or to the second, with another octet at a place.
 fn coming_with(
     alloc: Global,
@@ -86,37 +55,42 @@ fn coming_with(
     })
 }
 
-/// Whether octets are of those that come.
-fn is_of(which: Which, event: &Event) -> bool {
+/// Whether no CP message reads the octets that come.
+fn is_unread(event: &Event) -> bool {
     match event {
-        Event::Inject { octets, .. } => are_of(which, octets.as_slice()),
+        Event::Inject { octets, .. } => unwrap_view(octets.as_slice()).is_err(),
         _ => false,
     }
 }
 
-/// Octets are told to be no CP message just where none reads them.
-fn is_told(rt: &impl Abort, two: &mut Two, which: Which, event: &Event) {
-    let told = two.world.step(event) == Err(WorldFault::Party(Dropped::NotCp));
-    holds(rt, event, told == (which == Which::Unread));
+/// Octets are told to be no CP message.
+fn is_not_cp(rt: &impl Abort, two: &mut Two, event: &Event) {
+    let not_cp = Err(WorldFault::Party(Dropped::NotCp));
+    holds(rt, event, happens(two, event) == not_cp);
 }
 
-/// Octets come at a side, where they are of those that come.
+/// Octets come at a side with another octet at a place, where no CP message reads them.
 fn come_to(
     rt: &impl Abort,
     alloc: Global,
     two: &mut Two,
-    which: Which,
     up: bool,
     octets: &[u8],
     place: usize,
     octet: u8,
 ) -> Result<(), AllocError> {
     let event = coming_with(alloc, up, octets, place, octet)?;
-    if is_of(which, &event) {
-        is_told(rt, two, which, &event);
+    if is_unread(&event) {
+        is_not_cp(rt, two, &event);
     }
     drop(event);
     Ok(())
+}
+
+/// Octets come at both sides as they are.
+fn come_cut(rt: &impl Abort, alloc: Global, two: &mut Two, front: &[u8]) -> Result<(), AllocError> {
+    come_to(rt, alloc, two, true, front, front.len(), 0)?;
+    come_to(rt, alloc, two, false, front, front.len(), 0)
 }
 
 /// Octets come at both sides with each octet at a place.
@@ -124,50 +98,28 @@ fn come_with_each(
     rt: &impl Abort,
     alloc: Global,
     two: &mut Two,
-    which: Which,
     octets: &[u8],
     place: usize,
 ) -> Result<(), AllocError> {
     for octet in 0..=255u8 {
-        come_to(rt, alloc, two, which, true, octets, place, octet)?;
-        come_to(rt, alloc, two, which, false, octets, place, octet)?;
+        come_to(rt, alloc, two, true, octets, place, octet)?;
+        come_to(rt, alloc, two, false, octets, place, octet)?;
     }
     Ok(())
 }
 
-/// Whether what must stay has stayed.
-fn is_well(which: Which, two: &Two) -> bool {
-    match which {
-        Which::Unread => stands(two),
-        Which::Read => keeps(two),
-    }
-}
-
-/// Octets come at both sides as they are.
-fn come_cut(
-    rt: &impl Abort,
-    alloc: Global,
-    two: &mut Two,
-    which: Which,
-    front: &[u8],
-) -> Result<(), AllocError> {
-    come_to(rt, alloc, two, which, true, front, front.len(), 0)?;
-    come_to(rt, alloc, two, which, false, front, front.len(), 0)
-}
-
-/// Octets come at both sides, cut at each place and with each octet at each place, and what must
-/// stay stays.
+/// Octets come at both sides, cut at each place and with each octet at each place, and all that can
+/// be seen stays.
 fn come_damaged(
     rt: &impl Abort,
     alloc: Global,
     two: &mut Two,
-    which: Which,
     octets: &[u8],
 ) -> Result<(), AllocError> {
     for place in 0..octets.len() {
-        come_cut(rt, alloc, two, which, &octets[..place])?;
-        come_with_each(rt, alloc, two, which, octets, place)?;
-        holds(rt, &(place, octets), is_well(which, two));
+        come_cut(rt, alloc, two, &octets[..place])?;
+        come_with_each(rt, alloc, two, octets, place)?;
+        holds(rt, &(place, octets), stands(two));
     }
     Ok(())
 }
@@ -177,25 +129,19 @@ fn all_come_damaged(
     rt: &impl Abort,
     alloc: Global,
     two: &mut Two,
-    which: Which,
     rows: &[Hostile],
 ) -> Result<(), AllocError> {
     for row in rows {
-        come_damaged(rt, alloc, two, which, row.octets)?;
+        come_damaged(rt, alloc, two, row.octets)?;
     }
     Ok(())
 }
 
 /// The octets of all rows come damaged.
-fn all_rows_come(
-    rt: &impl Abort,
-    alloc: Global,
-    two: &mut Two,
-    which: Which,
-) -> Result<(), AllocError> {
-    all_come_damaged(rt, alloc, two, which, UNITS.as_slice())?;
-    all_come_damaged(rt, alloc, two, which, TRANSFERS.as_slice())?;
-    all_come_damaged(rt, alloc, two, which, rows::ANSWERS.as_slice())
+fn all_rows_come(rt: &impl Abort, alloc: Global, two: &mut Two) -> Result<(), AllocError> {
+    all_come_damaged(rt, alloc, two, UNITS.as_slice())?;
+    all_come_damaged(rt, alloc, two, TRANSFERS.as_slice())?;
+    all_come_damaged(rt, alloc, two, rows::ANSWERS.as_slice())
 }
 
 /// The text goes as far as its store.
@@ -218,10 +164,10 @@ fn goes_on(rt: &impl Abort, alloc: Global, two: &mut Two) -> Result<(), AllocErr
     Ok(())
 }
 
-/// Octets that no CP message reads come, and the text goes the rest of its way as without them.
+/// Damaged octets come, and the text goes the rest of its way as without them.
 fn unread_octets_come(rt: &impl Abort, alloc: Global, two: &mut Two) -> Result<(), AllocError> {
     goes_to_the_store(rt, alloc, two)?;
-    all_rows_come(rt, alloc, two, Which::Unread)?;
+    all_rows_come(rt, alloc, two)?;
     goes_on(rt, alloc, two)
 }
 
@@ -229,20 +175,6 @@ fn unread_octets_come(rt: &impl Abort, alloc: Global, two: &mut Two) -> Result<(
 fn unread_octets_change_nothing(rt: HostRuntime) -> Result<(), Fail> {
     let mut two = new_two(rt.alloc())?;
     let come = unread_octets_come(&rt, rt.alloc(), &mut two);
-    drop(two);
-    Ok(come?)
-}
-
-/// Octets that a CP message reads come.
-fn read_octets_come(rt: &impl Abort, alloc: Global, two: &mut Two) -> Result<(), AllocError> {
-    goes_to_the_store(rt, alloc, two)?;
-    all_rows_come(rt, alloc, two, Which::Read)
-}
-
-#[test]
-fn read_octets_change_nothing_that_was_put_out_or_stored(rt: HostRuntime) -> Result<(), Fail> {
-    let mut two = new_two(rt.alloc())?;
-    let come = read_octets_come(&rt, rt.alloc(), &mut two);
     drop(two);
     Ok(come?)
 }

@@ -1,7 +1,7 @@
 //! Texts of three segments that come in any order, to a phone that has room or has none.
 
 use crate::found::{holds, same};
-use crate::two::{Two, are_stored, coming, is_stored, new_two, two_with_room, typing};
+use crate::two::{Two, are_stored, coming, happens, is_stored, new_two, two_with_room, typing};
 use sms_message::Outcome;
 use sms_world::Event;
 use std::alloc::{AllocError, Global};
@@ -11,21 +11,21 @@ use std::test::Fail;
 /// Carries these packets.
 fn carry(two: &mut Two, numbers: &[u64]) {
     for number in numbers {
-        let _ = two.world.step(&Event::Carry(*number));
+        let _ = happens(two, &Event::Carry(*number));
     }
 }
 
 /// Pushes three segments.
 fn push_three(two: &mut Two) {
     for _ in 0..3u8 {
-        let _ = two.world.step(&Event::Push(1));
+        let _ = happens(two, &Event::Push(1));
     }
 }
 
 /// Lets a text of three segments be accepted and pushed: its segments are packets 13 to 15.
 fn push_text(alloc: Global, two: &mut Two, text: &str) -> Result<(), AllocError> {
     let typed = typing(alloc, text)?;
-    let _ = two.world.step(&typed);
+    let _ = happens(two, &typed);
     carry(two, &[1, 3, 5, 7, 9, 11]);
     push_three(two);
     Ok(())
@@ -35,8 +35,8 @@ fn push_text(alloc: Global, two: &mut Two, text: &str) -> Result<(), AllocError>
 /// not.
 fn not_repeated(two: &mut Two, order: [u64; 3]) -> Option<u64> {
     for number in order {
-        let _ = two.world.step(&Event::Carry(number));
-        let again = two.world.step(&Event::Carry(number));
+        let _ = happens(two, &Event::Carry(number));
+        let again = happens(two, &Event::Carry(number));
         if again != Ok(Outcome::Repeat) {
             return Some(number);
         }
@@ -103,21 +103,21 @@ fn delivery_of_one(alloc: Global) -> Result<Event, AllocError> {
 fn push_after_one(alloc: Global, two: &mut Two, text: &str) -> Result<(), AllocError> {
     push_text(alloc, two, text)?;
     let one = delivery_of_one(alloc)?;
-    let _ = two.world.step(&one);
+    let _ = happens(two, &one);
     Ok(())
 }
 
 /// Carries a packet twice, and says whether both times have this answer.
 fn is_twice(two: &mut Two, number: u64, wanted: Outcome) -> bool {
-    let first = two.world.step(&Event::Carry(number));
-    let second = two.world.step(&Event::Carry(number));
+    let first = happens(two, &Event::Carry(number));
+    let second = happens(two, &Event::Carry(number));
     first == Ok(wanted) && second == Ok(wanted)
 }
 
 /// Carries a packet twice: the first time with this answer, then as a repeat.
 fn is_taken(two: &mut Two, number: u64, wanted: Outcome) -> bool {
-    let first = two.world.step(&Event::Carry(number));
-    let second = two.world.step(&Event::Carry(number));
+    let first = happens(two, &Event::Carry(number));
+    let second = happens(two, &Event::Carry(number));
     first == Ok(wanted) && second == Ok(Outcome::Repeat)
 }
 

@@ -99,10 +99,14 @@ pub fn is_stored(store: &[Entry], text: &str) -> bool {
     }
 }
 
+/// An event, and its answer.
+pub fn happens(two: &mut Two, event: &Event) -> Result<Outcome, WorldFault> {
+    two.world.step(event)
+}
+
 /// An event is answered so.
 pub fn answers(rt: &impl Abort, two: &mut Two, event: &Event, wanted: Result<Outcome, WorldFault>) {
-    let answer = two.world.step(event);
-    holds(rt, event, answer == wanted);
+    holds(rt, event, happens(two, event) == wanted);
 }
 
 /// Events are answered so, one after another.
@@ -115,9 +119,9 @@ pub fn all_answer(rt: &impl Abort, two: &mut Two, events: &[Event], wanted: &[Ou
 /// An event, and once more where it wants memory: then nothing has come of it before.
 fn at_last(two: &mut Two, event: &Event) -> Result<Outcome, WorldFault> {
     let before = two.world.packet_count();
-    let first = two.world.step(event);
+    let first = happens(two, event);
     if first == Err(WorldFault::Party(Dropped::Memory)) && two.world.packet_count() == before {
-        two.world.step(event)
+        happens(two, event)
     } else {
         first
     }
