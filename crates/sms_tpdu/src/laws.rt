@@ -13,6 +13,7 @@ ghost use Rattle.sms_tpdu.specs.Report.SubmitError.{submit_error, IsSubmitError,
 ghost use Rattle.sms_tpdu.specs.Report.DeliverAck.{deliver_ack, IsDeliverAck, SpellsDeliverAck};
 ghost use Rattle.sms_tpdu.specs.Report.DeliverError.{deliver_error, IsDeliverError, SpellsDeliverError};
 ghost use Rattle.sms_tpdu.specs.UserData.ConcatenationFound.{ElementsAreOne, ConcatIsThere, ConcatIsOne, ConcatIsPlace};
+ghost use Rattle.sms_tpdu.specs.UserData.Spans.{UserDataLie};
 ghost use Rattle.sms_tpdu.specs.UserData.Header.{header, IsHeader, SpellsHeader};
 ghost use Rattle.sms_tpdu.specs.declared.fault.UnitFault.TheVariants.{Short};
 
@@ -79,4 +80,9 @@ pub fn places_are_computed()
     ensures there { ConcatIsThere }
     ensures one { ConcatIsOne }
     ensures in_range { ConcatIsPlace }
+{}
+
+/// User data lie in the octets of which they were read where their spans say.
+pub fn user_data_lie()
+    ensures { UserDataLie }
 {}

@@ -7,6 +7,7 @@ ghost use Rattle.sms_tpdu.specs.Submit.Flags.{submit_octet};
 ghost use Rattle.sms_tpdu.specs.Submit.ValidityPeriod.{validity_octets};
 
 pub mod flags;
+pub mod spans;
 pub mod validity;
 pub mod view;
 
