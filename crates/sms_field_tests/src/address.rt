@@ -4,7 +4,10 @@ mod rows;
 
 use crate::found::is;
 use rows::{BAD, FOUND, Found, NAMED, Named, REFUSED, SPELLED, Spelled, WRITTEN};
-use sms_field::{Address, AddressFault, FieldFault, Refusal, Symbols, TextFault};
+use sms_field::{
+    Address, AddressFault, AddressView, DigitsView, FieldFault, NameView, Refusal, Symbols,
+    SymbolsView, TextFault,
+};
 use std::alloc::Global;
 use std::process::Abort;
 use std::test::Fail;
@@ -167,5 +170,48 @@ fn names_read(rt: HostRuntime) -> Result<(), Fail> {
     for row in NAMED.as_slice() {
         is_named(&rt, rt.alloc(), row)?;
     }
+    Ok(())
+}
+
+/// Digits that lie in octets are 1 to 5.
+fn are_five(rt: &impl Abort, digits: &DigitsView) {
+    is(rt, "count", digits.count(), 5);
+    is(rt, "first", digits.digit(0), Some(1));
+    is(rt, "last", digits.digit(4), Some(5));
+    is(rt, "none", digits.digit(5), None);
+}
+
+/// A name that lies in octets is `hi`.
+fn is_hi(rt: &impl Abort, name: &NameView) {
+    is(rt, "count", name.count(), 2);
+    is(rt, "last", name.septet(1), Some(b'i'));
+    is(rt, "none", name.septet(2), None);
+    is(rt, "packed", name.packed(), [0xE8, 0x34].as_slice());
+}
+
+/// What stands in an address that lies in octets is these digits, or this name.
+fn are_seen(rt: &impl Abort, symbols: SymbolsView, named: bool) {
+    match symbols {
+        SymbolsView::Digits(digits) => {
+            is(rt, "digits", named, false);
+            are_five(rt, &digits);
+        }
+        SymbolsView::Name(name) => {
+            is(rt, "name", named, true);
+            is_hi(rt, &name);
+        }
+    }
+}
+
+#[test]
+fn addresses_where_they_lie(rt: HostRuntime) -> Result<(), Fail> {
+    let digits: [u8; 6] = [0x05, 0x91, 0x21, 0x43, 0xF5, 0x00];
+    let (address, _) = AddressView::read(&digits)?;
+    are_seen(&rt, address.symbols(), false);
+    is(&rt, "octets", AddressView::length_in(&digits), 5);
+    let name: [u8; 5] = [0x04, 0xD0, 0xE8, 0x34, 0x00];
+    let (address, _) = AddressView::read(&name)?;
+    are_seen(&rt, address.symbols(), true);
+    is(&rt, "octets", AddressView::length_in(&name), 4);
     Ok(())
 }

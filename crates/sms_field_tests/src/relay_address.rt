@@ -4,7 +4,7 @@ mod rows;
 
 use crate::found::is;
 use rows::{BAD, REFUSED, SPELLED, Spelled};
-use sms_field::{AddressFault, FieldFault, Refusal, RpAddress, TextFault};
+use sms_field::{AddressFault, FieldFault, Refusal, RpAddress, RpAddressView, TextFault};
 use std::alloc::Global;
 use std::process::Abort;
 use std::test::Fail;
@@ -131,4 +131,24 @@ fn relay_addresses_read(rt: HostRuntime) -> Result<(), Fail> {
     is(&rt, NAMED, address.type_of_number, 5);
     let copy = address.copy(rt.alloc())?;
     has_text(&rt, rt.alloc(), &copy, NAMED, "123")
+}
+
+/// A relay address that lies in octets has the digits 1 to 3.
+fn are_three(rt: &impl Abort, address: Option<RpAddressView>) {
+    match address {
+        Some(address) => {
+            is(rt, "count", address.digits().count(), 3);
+            is(rt, "last", address.digits().digit(2), Some(3));
+        }
+        None => is(rt, "address", false, true),
+    }
+}
+
+#[test]
+fn a_relay_address_where_it_lies(rt: HostRuntime) -> Result<(), Fail> {
+    let octets: [u8; 5] = [0x03, 0x91, 0x21, 0xF3, 0x00];
+    let (address, _) = RpAddressView::read(&octets)?;
+    are_three(&rt, address);
+    is(&rt, "octets", RpAddressView::length_in(&octets), 4);
+    Ok(())
 }

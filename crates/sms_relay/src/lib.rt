@@ -27,4 +27,6 @@ pub use rp_kind::{RpKind, RpType};
 pub use side::Side;
 pub use transaction::Transaction;
 pub use unwrapping::{unwrap, unwrap_view};
-pub use wrap::{wrap_acknowledgement, wrap_answer, wrap_transfer};
+pub use wrap::{
+    wrap_acknowledgement, wrap_answer, wrap_answer_octets, wrap_transfer, wrap_transfer_octets,
+};

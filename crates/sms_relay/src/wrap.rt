@@ -1,6 +1,6 @@
 //! Writing a packet: a unit in an RP message, and that in a CP message.
 
-ghost use Rattle.std.specs.Prelude.{◌≡◌, ◌<◌, ℕ, List, length, Option, Some, Err, IfOk, option_copied};
+ghost use Rattle.std.specs.Prelude.{◌≡◌, ◌<◌, ◌↔◌, ℕ, List, length, Option, Some, Err, IfOk, IsSomeAnd, option_copied};
 ghost use Rattle.std.specs.Option.{ForSome};
 ghost use Rattle.sms_relay.specs.RpUserData.{IsUserData};
 ghost use Rattle.sms_relay.specs.Carried.{acknowledgement, transfer, answer, relay_of, CarriesRelay, Carries, SpellsOptional};
@@ -115,6 +115,44 @@ pub fn wrap_transfer<U: Unit>(
     Ok(wrap_message(alloc, flag, value, message)?)
 }
 
+/// A copy of octets, if they are not too many for user data.
+fn user_data_of(alloc: Global, octets: &[u8]) -> Result<Octets, WrapFault>
+    ensures copied { IfOk result (λ user. (user ≡ octets.now) × IsUserData user) }
+    ensures too_long { (result ≡ Err DataTooLong) ↔ (233 < length octets.now) }
+{
+    if usize::from(USER_DATA_MAX) < octets.len() {
+        return Err(WrapFault::DataTooLong);
+    }
+    Ok(Octets::from_slice(alloc, octets)?)
+}
+
+/// The octets of a CP-DATA around an RP-DATA around these octets, which are not looked at.
+///
+/// The flag and the value are those of the transaction identifier (3GPP TS 24.011, 8.1.2). The flag
+/// is false from the side that opened the transaction, and true from the other; the value is 0 to
+/// 6.
+///
+/// `DataTooLong` comes exactly where there are more than 233 octets.
+pub fn wrap_transfer_octets(
+    alloc: Global,
+    flag: bool,
+    value: u8,
+    side: Side,
+    reference: u8,
+    address: Option<&RpAddress>,
+    octets: &[u8],
+) -> Result<Vec<u8>, WrapFault>
+    requires { value < 7 }
+    ensures carried { IfOk result (λ packet.
+        Carries flag value (transfer side reference (option_copied address.entry) octets.now)
+        packet.items) }
+    ensures too_long { (result ≡ Err DataTooLong) ↔ (233 < length octets.now) }
+{
+    let user = user_data_of(alloc, octets)?;
+    let message = transfer_of(alloc, side, reference, address, user)?;
+    Ok(wrap_message(alloc, flag, value, message)?)
+}
+
 /// The octets of a unit, if there is one and they are not too many for user data.
 fn octets_of_some<U: Unit>(alloc: Global, unit: Option<&U>) -> Result<Option<Octets>, WrapFault>
     ensures spelled { IfOk result (λ octets.
@@ -175,6 +213,49 @@ pub fn wrap_answer<U: Unit>(
         SpellsOptional U.spells (option_copied unit.entry) (Some octets) × (233 < length octets) }
 {
     let user = octets_of_some(alloc, unit)?;
+    let message = answer_of(side, reference, cause, user);
+    Ok(wrap_message(alloc, flag, value, message)?)
+}
+
+/// A copy of octets, if there are any and they are not too many for user data.
+fn user_data_of_some(alloc: Global, octets: Option<&[u8]>) -> Result<Option<Octets>, WrapFault>
+    ensures copied { IfOk result (λ user.
+        (user ≡ option_copied octets.entry) × ForSome user IsUserData) }
+    ensures too_long { (result ≡ Err DataTooLong)
+        ↔ IsSomeAnd (option_copied octets.entry) (λ o. 233 < length o) }
+{
+    match octets {
+        Some(octets) => Ok(Some(user_data_of(alloc, octets)?)),
+        None => Ok(None),
+    }
+}
+
+/// The octets of a CP-DATA around the answer to a transfer, and these octets if there are any, which
+/// are not looked at: an RP-ACK, or an RP-ERROR with a cause of 0 to 127.
+///
+/// The flag and the value are those of the transaction identifier (3GPP TS 24.011, 8.1.2). The flag
+/// is false from the side that opened the transaction, and true from the other; the value is 0 to
+/// 6.
+///
+/// `DataTooLong` comes exactly where there are more than 233 octets.
+pub fn wrap_answer_octets(
+    alloc: Global,
+    flag: bool,
+    value: u8,
+    side: Side,
+    reference: u8,
+    cause: Option<u8>,
+    octets: Option<&[u8]>,
+) -> Result<Vec<u8>, WrapFault>
+    requires value { value < 7 }
+    requires cause { ForSome cause (λ c. c < 128) }
+    ensures carried { IfOk result (λ packet.
+        Carries flag value (answer side reference cause (option_copied octets.entry))
+        packet.items) }
+    ensures too_long { (result ≡ Err DataTooLong)
+        ↔ IsSomeAnd (option_copied octets.entry) (λ o. 233 < length o) }
+{
+    let user = user_data_of_some(alloc, octets)?;
     let message = answer_of(side, reference, cause, user);
     Ok(wrap_message(alloc, flag, value, message)?)
 }

@@ -6,6 +6,7 @@ ghost use Rattle.std.specs.Prelude.{◌<◌};
 ghost use Rattle.std.specs.Option.{ForSome};
 
 use crate::found::is;
+use crate::shared::{DELIVERY_OF_HI, REPORT_OF_DELIVERY};
 use crate::written::is_written;
 use rows::{
     AGAIN, Again, DELIVER, DELIVER_ACK, DELIVER_ERROR, HEADER, NO_PACKETS, NO_RELAYS, PACKETS,
@@ -14,7 +15,7 @@ use rows::{
 use sms_field::{Refusal, RpAddress};
 use sms_relay::{
     CpBody, CpMessage, Inner, RelayFault, RpBody, RpMessage, Side, WrapFault, unwrap,
-    wrap_acknowledgement, wrap_answer, wrap_transfer,
+    wrap_acknowledgement, wrap_answer, wrap_answer_octets, wrap_transfer, wrap_transfer_octets,
 };
 use sms_tpdu::{Deliver, DeliverAck, DeliverError, Header, Submit, SubmitAck, SubmitError, Unit};
 use std::alloc::{AllocError, Global};
@@ -514,4 +515,33 @@ fn refuses_to_wrap_234_octets(rt: HostRuntime) -> Result<(), Fail> {
     let refused = wrapped(rt.alloc(), &octets)?.err();
     is(&rt, octets.len(), refused, Some(WrapFault::DataTooLong));
     Ok(())
+}
+
+/// The packet of a delivery from the centre +1000.
+fn delivered(alloc: Global, octets: &[u8]) -> Result<Vec<u8>, Fail> {
+    let centre = RpAddress::from_text(alloc, "+1000")?;
+    let packet = wrap_transfer_octets(alloc, false, 0, Side::ToPhone, 0, Some(&centre), octets)?;
+    Ok(packet)
+}
+
+#[test]
+fn octets_in_packets(rt: HostRuntime) -> Result<(), Fail> {
+    let packet = delivered(rt.alloc(), &DELIVERY_OF_HI[11..])?;
+    is(&rt, "transfer", packet.as_slice(), DELIVERY_OF_HI);
+    let report = Some([0, 0].as_slice());
+    let packet = wrap_answer_octets(rt.alloc(), true, 0, Side::FromPhone, 0, None, report)?;
+    is(&rt, "answer", packet.as_slice(), REPORT_OF_DELIVERY);
+    Ok(())
+}
+
+#[test]
+fn too_many_octets_for_a_packet(rt: HostRuntime) {
+    let unit = [0; 234];
+    let long = wrap_answer_octets(rt.alloc(), true, 0, Side::FromPhone, 0, None, Some(&unit));
+    is(
+        &rt,
+        "too long",
+        long.err() == Some(WrapFault::DataTooLong),
+        true,
+    );
 }

@@ -4,6 +4,7 @@ pub mod Front
 pub mod ValidityPeriod
 pub mod ValidityPeriodLaws
 pub mod Laws
+pub mod Spans
 use Rattle.std.specs.Prelude.{◌≡◌, ℕ, List, ◌∷◌, ◌++◌, ◌<◌, Bool}
 use Rattle.sms_field.specs.Field.{Field, ◌>>=◌, always, octet, octet_by, map_reason}
 use Rattle.sms_field.specs.Address.{address, address_octets}

@@ -6,6 +6,7 @@ ghost use Rattle.sms_tpdu.specs.Deliver.{deliver, flags_in};
 ghost use Rattle.sms_tpdu.specs.Deliver.Flags.{deliver_octet};
 
 pub mod flags;
+pub mod spans;
 pub mod view;
 
 use crate::deliver::flags::DeliverFlags;

@@ -17,6 +17,7 @@ ghost use Rattle.sms_tpdu.specs.StatusReport.Flags.{status_report_flags};
 ghost use Rattle.sms_tpdu.specs.Command.{command, IsCommand, SpellsCommand};
 ghost use Rattle.sms_tpdu.specs.Command.Flags.{command_flags};
 ghost use Rattle.sms_tpdu.specs.UserData.ConcatenationFound.{ElementsAreOne, ConcatIsThere, ConcatIsOne, ConcatIsPlace};
+ghost use Rattle.sms_tpdu.specs.UserData.Spans.{UserDataLie};
 ghost use Rattle.sms_tpdu.specs.UserData.Header.{header, IsHeader, SpellsHeader};
 ghost use Rattle.sms_tpdu.specs.declared.fault.UnitFault.TheVariants.{Short};
 
@@ -94,4 +95,9 @@ pub fn places_are_computed()
     ensures there { ConcatIsThere }
     ensures one { ConcatIsOne }
     ensures in_range { ConcatIsPlace }
+{}
+
+/// User data lie in the octets of which they were read where their spans say.
+pub fn user_data_lie()
+    ensures { UserDataLie }
 {}

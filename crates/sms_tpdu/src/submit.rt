@@ -8,6 +8,7 @@ ghost use Rattle.sms_tpdu.specs.Submit.ValidityPeriod.{validity_octets};
 
 pub mod flags;
 pub mod front;
+pub mod spans;
 pub mod validity;
 pub mod view;
 

@@ -8,6 +8,7 @@ pub mod elements;
 pub mod header;
 pub mod lengths;
 pub mod lent;
+pub mod spans;
 pub mod view;
 pub mod writing;
 

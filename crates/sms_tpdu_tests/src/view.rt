@@ -1,7 +1,11 @@
 //! A delivery where it lies.
 
 use crate::found::{holds, same};
-use sms_tpdu::{BodyView, Deliver, DeliverView, HeaderElement, HeaderView, SeptetsView, View};
+use sms_field::Span;
+use sms_tpdu::{
+    BodyView, Concat, Deliver, DeliverView, HeaderElement, HeaderView, SeptetsView, SubmitView,
+    UserSpans, View, Width,
+};
 use std::process::Abort;
 use std::test::Fail;
 
@@ -76,4 +80,66 @@ fn a_delivery_where_it_lies(rt: HostRuntime) -> Result<(), Fail> {
     let deliver = view.to_value(rt.alloc())?;
     is_valued(&rt, &deliver);
     Ok(())
+}
+
+#[test]
+fn where_the_parts_of_a_delivery_lie(rt: HostRuntime) -> Result<(), Fail> {
+    let (view, used) = DeliverView::read(&INPUT)?;
+    let spans = view.spans(&INPUT, used);
+    let origin = Span {
+        offset: 1,
+        length: 4,
+    };
+    let user = UserSpans {
+        header: Some(Span {
+            offset: 16,
+            length: 5,
+        }),
+        body: Span {
+            offset: 21,
+            length: 2,
+        },
+        fill: 1,
+    };
+    same(&rt, &"TP-OA", &spans.origin, &origin);
+    same(&rt, &"TP-UD", &spans.user, &user);
+    Ok(())
+}
+
+/// A submission of `hi` whose TP-VP has one octet.
+static SUBMISSION: [u8; 12] = [
+    0x11, 0x00, 0x04, 0x91, 0x01, 0x20, 0x00, 0x00, 0xA7, 0x02, 0xE8, 0x34,
+];
+
+#[test]
+fn where_the_parts_of_a_submission_lie(rt: HostRuntime) -> Result<(), Fail> {
+    let (view, used) = SubmitView::read(&SUBMISSION)?;
+    let spans = view.spans(&SUBMISSION, used);
+    let target = Span {
+        offset: 2,
+        length: 4,
+    };
+    let user = UserSpans {
+        header: None,
+        body: Span {
+            offset: 10,
+            length: 2,
+        },
+        fill: 0,
+    };
+    same(&rt, &"TP-DA", &spans.target, &target);
+    same(&rt, &"TP-UD", &spans.user, &user);
+    Ok(())
+}
+
+#[test]
+fn the_place_that_a_header_tells_where_it_lies(rt: HostRuntime) {
+    let place = HeaderView::new(&INPUT[16..21]).concat();
+    let first_of_two = Concat {
+        width: Width::Eight,
+        reference: 7,
+        maximum: 2,
+        sequence: 1,
+    };
+    same(&rt, &"the place", &place, &Some(first_of_two));
 }

@@ -87,18 +87,7 @@ impl Header {
         ensures value { result ≡ concat_of_header (Some self.now) }
         ensures in_range { IsPlace result }
     {
-        let mut last = None;
-        let mut rest = self.octets.as_slice();
-        while let [identifier, length, after @ ..] = rest {
-            let length = *length as usize;
-            if after.len() < length {
-                return None;
-            }
-            let (octets, others) = after.split_at(length);
-            last = told_by(*identifier, octets).or(last);
-            rest = others;
-        }
-        if rest.is_empty() { last } else { None }
+        HeaderView::new(&self.octets).concat()
     }
 
     /// The same header.
@@ -130,28 +119,6 @@ pub(crate) fn put_element(out: &mut Vec<u8>, concat: Concat) -> Result<(), Alloc
             concat.sequence,
         ]),
     }
-}
-
-/// The place of a segment that an element tells.
-fn told_by(identifier: u8, octets: &[u8]) -> Option<Concat>
-    ensures { ToldBy (record { identifier = identifier; octets = octets.now }) result }
-{
-    let concat = match (identifier, octets) {
-        (0, [reference, maximum, sequence]) => Concat {
-            width: Width::Eight,
-            reference: *reference as u16,
-            maximum: *maximum,
-            sequence: *sequence,
-        },
-        (8, [high, low, maximum, sequence]) => Concat {
-            width: Width::Sixteen,
-            reference: u16::from_be_bytes([*high, *low]),
-            maximum: *maximum,
-            sequence: *sequence,
-        },
-        _ => return None,
-    };
-    (1 <= concat.sequence && concat.sequence <= concat.maximum).then_some(concat)
 }
 
 /// The length octet and the octets; a length above 139 is `UnitFault::HeaderTooLong`.

@@ -1,11 +1,12 @@
 //! User data seen in a unit's octets: a header, and septets or octets.
 
-ghost use Rattle.std.specs.Prelude.{true, false, ◌≡◌, ◌+◌, ◌-◌, ◌≤◌, length, Some, None, IfOk};
+ghost use Rattle.std.specs.Prelude.{true, false, ◌≡◌, ◌+◌, ◌-◌, ◌≤◌, length, Some, None, IfOk, option_map};
 ghost use Rattle.sms_field.specs.Answer.{Sees};
 ghost use Rattle.sms_tpdu.specs.UserData as formats;
 ghost use Rattle.sms_tpdu.specs.UserData.{FitsAlphabet, header_octets, user_data, length_in};
 ghost use Rattle.sms_tpdu.specs.UserData.Lengths as lengths;
 ghost use Rattle.sms_tpdu.specs.UserData.Seen.{user_data_in};
+ghost use Rattle.sms_tpdu.specs.UserData.Spans.{span_of, spans_before};
 
 pub mod body;
 pub mod header;
@@ -13,10 +14,11 @@ pub mod header;
 use crate::fault::UnitFault;
 use crate::user_data::UserData;
 use crate::user_data::lengths::{fill_bits, greatest_length, length_of_header, octets_of_length};
+use crate::user_data::spans::UserSpans;
 use crate::user_data::view::body::{BodyView, SeptetsView, body_from};
 use crate::user_data::view::header::HeaderView;
 use crate::view::View;
-use sms_field::{Alphabet, Cursor, Fault};
+use sms_field::{Alphabet, Cursor, Fault, Span};
 use std::alloc::{AllocError, Global};
 use std::marker::Model;
 
@@ -135,6 +137,17 @@ fn header_and_body_seen_at<'a>(
     Ok(header_and_body_seen(header, alphabet, count, octets))
 }
 
+/// Where a header lies, which ends before a place.
+fn header_span(header: &Option<HeaderView>, end: usize) -> Option<Span>
+    ensures { result ≡ option_map (λ h. span_of (end - length h) (length h)) header.now }
+{
+    let length = header.as_ref()?.as_slice().len();
+    Some(Span {
+        offset: end.saturating_sub(length),
+        length,
+    })
+}
+
 impl<'a> UserDataView<'a> {
     ghost use Rattle.sms_tpdu.specs.UserData.BodySeen.{seen_body};
 
@@ -206,6 +219,24 @@ impl<'a> UserDataView<'a> {
                 })
             }
             _ => BodyView::Octets(self.octets),
+        }
+    }
+
+    /// Where header and body lie in the octets of which these user data were read, which end before
+    /// a place.
+    pub fn spans(&self, end: usize) -> UserSpans
+        ensures { result ≡ spans_before end self.now }
+    {
+        let length = self.octets.len();
+        let offset = end.saturating_sub(length);
+        let fill = match self.alphabet {
+            Alphabet::Gsm7 => fill_bits(self.taken()),
+            _ => 0,
+        };
+        UserSpans {
+            header: header_span(&self.header, offset),
+            body: Span { offset, length },
+            fill,
         }
     }
 }

@@ -1,12 +1,16 @@
 //! A user data header where it lies in a unit's octets.
 
-ghost use Rattle.std.specs.Prelude.{◌≡◌, ◌≤◌, length, IfOk, IfErr};
+ghost use Rattle.std.specs.Prelude.{◌≡◌, ◌≤◌, length, Option, Some, IfOk, IfErr};
 ghost use Rattle.sms_field.specs.Reading.{Reads};
 ghost use Rattle.sms_field.specs.WholeAnswer.{IsFaultOf, SeesExactly};
 ghost use Rattle.sms_tpdu.specs.UserData.Header.{header};
+ghost use Rattle.sms_tpdu.specs.declared.user_data.concat.Concat.{Concat};
+ghost use Rattle.sms_tpdu.specs.UserData.ConcatenationFound.{IsPlace, concat_of_header};
+ghost use Rattle.sms_tpdu.specs.UserData.Concatenation.{ToldBy, IsConcatOf};
 ghost use Rattle.sms_tpdu.specs.declared.fault.UnitFault.TheVariants.{Short};
 
 use crate::fault::UnitFault;
+use crate::user_data::concat::{Concat, Width};
 use crate::user_data::header::{HEADER_MAX, Header};
 use crate::view::{View, see};
 use sms_field::{Cursor, Fault};
@@ -49,6 +53,30 @@ impl<'a> HeaderView<'a> {
         self.octets
     }
 
+    /// The place of a segment that the header tells, if it tells one.
+    ///
+    /// Of several elements that tell one the last counts. An element whose sequence is not 1 to its
+    /// maximum tells none; nor does a header whose last element is cut.
+    pub fn concat(&self) -> Option<Concat>
+        ensures told { IsConcatOf self.now result }
+        ensures only { (other : Option Concat) → IsConcatOf self.now other → other ≡ result }
+        ensures value { result ≡ concat_of_header (Some self.now) }
+        ensures in_range { IsPlace result }
+    {
+        let mut last = None;
+        let mut rest = self.octets;
+        while let [identifier, length, after @ ..] = rest {
+            let length = *length as usize;
+            if after.len() < length {
+                return None;
+            }
+            let (octets, others) = after.split_at(length);
+            last = told_by(*identifier, octets).or(last);
+            rest = others;
+        }
+        if rest.is_empty() { last } else { None }
+    }
+
     /// Sees a length octet and the header after it at the front of the octets, and says how many
     /// octets they take.
     pub fn read(input: &'a [u8]) -> Result<(HeaderView<'a>, usize), Fault<UnitFault>>
@@ -58,6 +86,28 @@ impl<'a> HeaderView<'a> {
     {
         see(input)
     }
+}
+
+/// The place of a segment that an element tells.
+fn told_by(identifier: u8, octets: &[u8]) -> Option<Concat>
+    ensures { ToldBy (record { identifier = identifier; octets = octets.now }) result }
+{
+    let concat = match (identifier, octets) {
+        (0, [reference, maximum, sequence]) => Concat {
+            width: Width::Eight,
+            reference: *reference as u16,
+            maximum: *maximum,
+            sequence: *sequence,
+        },
+        (8, [high, low, maximum, sequence]) => Concat {
+            width: Width::Sixteen,
+            reference: u16::from_be_bytes([*high, *low]),
+            maximum: *maximum,
+            sequence: *sequence,
+        },
+        _ => return None,
+    };
+    (1 <= concat.sequence && concat.sequence <= concat.maximum).then_some(concat)
 }
 
 /// The length octet and the octets; a length above 139 is `UnitFault::HeaderTooLong`.
