@@ -5,10 +5,10 @@
 mod rows;
 
 use crate::found::holds;
-use crate::two::{Two, all_answer, happens, has_stored, is_stored, new_two};
+use crate::two::{Two, all_answer, answers, happens, has_stored, is_stored, new_two};
 use crate::way::{ANSWERS, SENT, are_put_out, first_phone_stands, were_put_out, whole_way};
 use rows::{Hostile, TRANSFERS, UNITS};
-use sms_message::Dropped;
+use sms_message::{Dropped, Outcome};
 use sms_party::Status;
 use sms_relay::unwrap_view;
 use sms_world::{Event, Octets, WorldFault};
@@ -147,28 +147,27 @@ fn all_rows_come(rt: &impl Abort, alloc: Global, two: &mut Two) -> Result<(), Al
 /// The text goes as far as its store.
 fn goes_to_the_store(rt: &impl Abort, alloc: Global, two: &mut Two) -> Result<(), AllocError> {
     let events = whole_way(alloc)?;
-    all_answer(rt, two, &events[..4], &ANSWERS[..4]);
+    all_answer(rt, two, &events, &ANSWERS[..4]);
     drop(events);
     holds(rt, &"four events", stands(two));
     Ok(())
 }
 
 /// The text goes the rest of its way.
-fn goes_on(rt: &impl Abort, alloc: Global, two: &mut Two) -> Result<(), AllocError> {
-    let events = whole_way(alloc)?;
-    all_answer(rt, two, &events[4..], &ANSWERS[4..]);
-    drop(events);
+fn goes_on(rt: &impl Abort, two: &mut Two) {
+    answers(rt, two, &Event::Carry(6), Ok(Outcome::Delivered));
+    answers(rt, two, &Event::Carry(3), Ok(Outcome::Accepted { text: 1 }));
     were_put_out(rt, &two.world, &SENT);
     first_phone_stands(rt, two);
     has_stored(rt, two, "hi");
-    Ok(())
 }
 
 /// Damaged octets come, and the text goes the rest of its way as without them.
 fn unread_octets_come(rt: &impl Abort, alloc: Global, two: &mut Two) -> Result<(), AllocError> {
     goes_to_the_store(rt, alloc, two)?;
     all_rows_come(rt, alloc, two)?;
-    goes_on(rt, alloc, two)
+    goes_on(rt, two);
+    Ok(())
 }
 
 #[test]
