@@ -173,7 +173,7 @@ def seen(kind, octets):
 # ---- the lines that show prints
 
 
-ESCAPES = {"n": "\n", "r": "\r", "t": "\t"}
+ESCAPES = {"n": "\n", "r": "\r", "t": "\t", "f": "\f"}
 
 
 def unescaped(text):

@@ -91,7 +91,8 @@ pub extern "C" fn sms_joiner_open(
     open_max: usize,
     remembered: usize,
 ) -> u32
-    ensures { result ≡ 0 → IfSome handle.new.kept.held (λ inside. inside.joiner
+    ensures held { result ≡ 0 → count handle.new.kept.held ≡ 1 }
+    ensures holds { result ≡ 0 → IfSome handle.new.kept.held (λ inside. inside.joiner
         ≡ record { open_max = open_max; remembered = remembered; holds = new_joiner }) }
 {
     let old = mem::replace(handle, Handle::closed(alloc)).into_box();
@@ -216,6 +217,7 @@ pub extern "C" fn sms_joiner_offer(
     refused: &mut Refused,
 ) -> u32
     ensures closed { handle.old.kept.held ≡ None → result ≡ 10 }
+    ensures held { count handle.new.kept.held ≡ count handle.old.kept.held }
     ensures same { (result ≡ 0 → ⊥) → handle.new.kept.held ≡ handle.old.kept.held }
     ensures outcome { (result ≡ 0 → ⊥) → outcome.new ≡ outcome.old }
     ensures refused { RefusesUnit result octets.now refused.new }
@@ -313,6 +315,7 @@ pub extern "C" fn sms_joiner_would_finish(
 #[unsafe(no_mangle)]
 pub extern "C" fn sms_joiner_age(alloc: Global, handle: &mut Handle, seconds: u64) -> u32
     ensures closed { handle.old.kept.held ≡ None → result ≡ 10 }
+    ensures held { count handle.new.kept.held ≡ count handle.old.kept.held }
     ensures aged { IfSome handle.old.kept.held (λ before. (result ≡ 0)
         × IfSome handle.new.kept.held (λ after.
         IsSame after.joiner.holds (aged seconds before.joiner.holds)

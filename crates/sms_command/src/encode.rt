@@ -106,7 +106,6 @@ struct Content {
     dcs: u8,
     /// TP-UD.
     user: UserData,
-    ghost fits: { FitsAlphabet (alphabet_at dcs) user },
 }
 
 /// The content of a segment.
@@ -118,6 +117,7 @@ fn content_of(
 ) -> Result<Content, Fault>
     requires sendable { IsSendable width segment.now }
     requires reference { width ≡ Eight → reference < 256 }
+    ensures { IfOk result (λ content. FitsAlphabet (alphabet_at content.dcs) content.user) }
 {
     let user = segment.user(alloc, width, reference)?;
     let dcs = segment.coding_scheme();
@@ -130,7 +130,9 @@ fn encode_deliver(
     draft: &Draft<'_>,
     frame: &Frame,
     content: Content,
-) -> Result<Vec<u8>, Fault> {
+) -> Result<Vec<u8>, Fault>
+    requires { FitsAlphabet (alphabet_at content.dcs) content.user }
+{
     let origin = frame.address.copy(alloc)?;
     let Content { dcs, user } = content;
     let deliver = Deliver {
@@ -164,7 +166,9 @@ fn encode_submit(
     frame: &Frame,
     content: Content,
     reference: u8,
-) -> Result<Vec<u8>, Fault> {
+) -> Result<Vec<u8>, Fault>
+    requires { FitsAlphabet (alphabet_at content.dcs) content.user }
+{
     let target = frame.address.copy(alloc)?;
     let Content { dcs, user } = content;
     let submit = Submit {
@@ -188,7 +192,9 @@ fn encode(
     frame: &Frame,
     content: Content,
     place: usize,
-) -> Result<Vec<u8>, Fault> {
+) -> Result<Vec<u8>, Fault>
+    requires { FitsAlphabet (alphabet_at content.dcs) content.user }
+{
     match draft.kind {
         DraftKind::Deliver => encode_deliver(alloc, draft, frame, content),
         DraftKind::Submit => {

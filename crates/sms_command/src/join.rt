@@ -1,6 +1,6 @@
 //! Texts that are joined from units, one a line of the input.
 
-ghost use Rattle.std.specs.Prelude.{◌<◌};
+ghost use Rattle.std.specs.Prelude.{IfOk};
 ghost use Rattle.sms_tpdu.specs.UserData.ConcatenationFound.{IsPlace};
 
 use crate::digits::read_octets;
@@ -31,7 +31,6 @@ struct Piece {
     /// Its place among the segments of its message, if it is one.
     concat: Option<Concat>,
     units: Units,
-    ghost place: { IsPlace concat },
 }
 
 /// The place of a segment that the header tells, if there is one and it tells one.
@@ -57,7 +56,9 @@ fn units_of(alloc: Global, alphabet: Alphabet, body: Body) -> Result<Option<Unit
 }
 
 /// The piece that an SMS-DELIVER has.
-fn piece_of(alloc: Global, octets: &[u8]) -> Result<Piece, Fault> {
+fn piece_of(alloc: Global, octets: &[u8]) -> Result<Piece, Fault>
+    ensures { IfOk result (λ piece. IsPlace piece.concat) }
+{
     let (deliver, _) = DeliverView::read(octets)?;
     let user = deliver.user.to_value(alloc)?;
     let concat = concat_of(&user.header);
@@ -85,7 +86,9 @@ fn piece_in(
     octets: &mut Vec<u8>,
     has_centre: bool,
     layer: &mut Layer,
-) -> Result<Piece, Fault> {
+) -> Result<Piece, Fault>
+    ensures { IfOk result (λ piece. IsPlace piece.concat) }
+{
     read_octets(octets, line?, true)?;
     if !has_centre {
         *layer = Layer::Unit;
@@ -181,7 +184,9 @@ impl Joining {
     }
 
     /// Offers a piece, and adds what comes of it.
-    fn offer(&mut self, number: u64, piece: Piece, page: &mut Page) -> Result<(), Fault> {
+    fn offer(&mut self, number: u64, piece: Piece, page: &mut Page) -> Result<(), Fault>
+        requires { IsPlace piece.concat }
+    {
         let Piece {
             origin,
             stamp,
@@ -214,7 +219,9 @@ impl Joining {
     }
 
     /// Takes a piece, after what is old at its moment is dropped.
-    fn take_piece(&mut self, number: u64, piece: Piece, page: &mut Page) -> Result<(), Fault> {
+    fn take_piece(&mut self, number: u64, piece: Piece, page: &mut Page) -> Result<(), Fault>
+        requires { IsPlace piece.concat }
+    {
         let gone = self.go_on(piece.stamp, page);
         let offered = self.offer(number, piece, page);
         gone?;

@@ -52,9 +52,9 @@ fn play_script<N: Network, S: Source, K: Sink>(
 
 /// Plays the script that a source gives, and writes its transcript into a sink.
 ///
-/// Neither may have failed yet, nor may the source have told its end. A script that is at fault, a read that fails, a write that fails
-/// and want of memory end it at once; what was written for the lines before stands. The sink is not
-/// flushed.
+/// Neither may have failed yet, nor may the source have told its end. A script that is at fault, a
+/// read that fails, a write that fails and want of memory end it at once; what was written for the
+/// lines before stands. The sink is not flushed.
 pub fn play<N: Network, S: Source, K: Sink>(
     alloc: Global,
     source: &mut S,

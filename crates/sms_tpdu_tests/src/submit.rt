@@ -1,7 +1,6 @@
 //! Submissions.
 
 ghost use Rattle.std.specs.Prelude.{◌≤◌, length};
-ghost use Rattle.sms_field.specs.Coding.{alphabet_at};
 ghost use Rattle.sms_text.specs.Bits.{AreSeptets};
 
 use crate::again::rewritten;
@@ -9,9 +8,7 @@ use crate::deliver::octets_in;
 use crate::found::{are, holds, same};
 use sms_field::{Address, Stamp, Symbols, Validity};
 use sms_text::septets_in;
-use sms_tpdu::{
-    Concat, Refusal, Submit, SubmitFront, SubmitView, Unit, UnitFault, UnitsView, Width,
-};
+use sms_tpdu::{Refusal, Submit, SubmitFront, SubmitView, Unit, UnitFault, UnitsView};
 use std::alloc::{AllocError, Global};
 use std::test::Fail;
 
@@ -192,10 +189,10 @@ fn reads_and_writes_submissions(rt: HostRuntime) -> Result<(), Fail> {
     Ok(())
 }
 
-/// The octets of a submission of septets that are lent, alone or as the first of two segments.
+/// The octets of the first submission, of septets that are lent.
 #[tactic(auto, unfolding(sms_field::specs::Coding::alphabet_at))]
-fn lent(alloc: Global, is_segment: bool, septets: &[u8]) -> Result<Vec<u8>, AllocError>
-    requires few { length septets.now ≤ 100 }
+fn lent(alloc: Global, septets: &[u8]) -> Result<Vec<u8>, AllocError>
+    requires few { length septets.now ≤ 160 }
     requires septets { AreSeptets septets.now }
 {
     let target = Address::from_text(alloc, "+46708251358").map_err(|_| AllocError)?;
@@ -209,40 +206,20 @@ fn lent(alloc: Global, is_segment: bool, septets: &[u8]) -> Result<Vec<u8>, Allo
         pid: 0,
         dcs: 0,
     };
-    let units = UnitsView::Gsm(septets);
-    if !is_segment {
-        return front.write_with(alloc, None, units);
-    }
-    let first = Concat {
-        width: Width::Eight,
-        reference: 10,
-        maximum: 2,
-        sequence: 1,
-    };
-    front.write_with(alloc, Some(first), units)
+    front.write_with(alloc, None, UnitsView::Gsm(septets))
 }
 
 /// The same of a text whose octets are its septets.
-fn lent_text(alloc: Global, is_segment: bool, text: &str) -> Result<Vec<u8>, Fail> {
+fn lent_text(alloc: Global, text: &str) -> Result<Vec<u8>, Fail> {
     match septets_in(text) {
-        Some(septets) if septets.len() <= 100 => Ok(lent(alloc, is_segment, septets)?),
+        Some(septets) if septets.len() <= 160 => Ok(lent(alloc, septets)?),
         _ => Err("another text".into()),
     }
 }
 
 #[test]
-fn writes_units_that_are_lent(rt: HostRuntime) -> Result<(), Fail> {
-    let alone = lent_text(rt.alloc(), false, "hellohello")?;
-    are(&rt, &"alone", &alone, ROWS[0].octets);
-    let segment = lent_text(rt.alloc(), true, "hi")?;
-    are(
-        &rt,
-        &"a segment",
-        &segment,
-        &[
-            0x51, 0x00, 0x0B, 0x91, 0x64, 0x07, 0x28, 0x15, 0x53, 0xF8, 0x00, 0x00, 0xAA, 0x09,
-            0x05, 0x00, 0x03, 0x0A, 0x02, 0x01, 0xD0, 0x69,
-        ],
-    );
+fn writes_septets_that_are_lent(rt: HostRuntime) -> Result<(), Fail> {
+    let written = lent_text(rt.alloc(), "hellohello")?;
+    are(&rt, &"hellohello", &written, ROWS[0].octets);
     Ok(())
 }

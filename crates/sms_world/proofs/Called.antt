@@ -71,7 +71,7 @@ acts_called limits m n act told put (inr s) h = subst (λ (v : Machine). AreCall
 run_called : (Keeps : Machine → Event → Type 0) (limits : Limits) (phones : List AddressValue) (past : List (Event × Told)) (m : Machine) → RunWith Keeps (start limits phones) past m → AreCalled limits m.senders
 unfolding start
 run_called Keeps limits phones [] m run = subst (λ (v : Machine). AreCalled limits v.senders) run ([], refl)
-run_called Keeps limits phones (e ∷ past) m (old, run, keeps, put, act, is, acts) = acts_called limits old m act e.1 put acts (run_called Keeps limits phones past old run)
+run_called Keeps limits phones (e ∷ past) m (old, run, keeps, (put, (act, is, acts))) = acts_called limits old m act e.1 put acts (run_called Keeps limits phones past old run)
 
 last_or_before : {X : Type 0} (xs : List X) (x : X) (place : ℕ) (y : X) → slice_get (xs ++ x ∷ []) place ≡ Some y → (slice_get xs place ≡ Some y) ⊎ ((place ≡ length xs) × (x ≡ y))
 last_or_before [] x zero y e = let same : x ≡ y = cc in inr (refl, same)
@@ -87,13 +87,14 @@ last_or_before {X} (z ∷ xs) x (suc place) y e = go (last_or_before xs x place 
 typed_there : (texts : List Text) (phone : ℕ) (ended : List (ℕ × Bool)) (place n : ℕ) (good : Bool) → AreTyped texts phone ended → slice_get (reverse ended) place ≡ Some (n, good) → IsTypedAt texts phone (suc place) n
 typed_there texts phone [] place n good h e = absurd cc
 typed_there texts phone (x ∷ ended) place n good h e =
-    go (last_or_before (reverse ended) x place (n, good) (subst (λ l. slice_get l place ≡ Some (n, good)) (reverse-append (x ∷ []) ended) e))
+    go (λ k. typed_there texts phone ended place n good h.1 k) (last_or_before (reverse ended) x place (n, good) (subst (λ l. slice_get l place ≡ Some (n, good)) (reverse-append (x ∷ []) ended) e))
   where
-    go : (slice_get (reverse ended) place ≡ Some (n, good)) ⊎ ((place ≡ length (reverse ended)) × (x ≡ (n, good))) → IsTypedAt texts phone (suc place) n
-    go (inl k) = typed_there texts phone ended place n good h.1 k
-    go (inr k) =
-        let at : suc (length ended) ≡ suc place = ap suc (sym (k.0 ∙ length-reverse ended)) in
-        subst (λ i. IsTypedAt texts phone i n) at (subst (λ (y : ℕ × Bool). IsTypedAt texts phone (suc (length ended)) y.0) k.1 h.0)
+    go : (slice_get (reverse ended) place ≡ Some (n, good) → IsTypedAt texts phone (suc place) n)
+        → (slice_get (reverse ended) place ≡ Some (n, good)) ⊎ ((place ≡ length (reverse ended)) × (x ≡ (n, good))) → IsTypedAt texts phone (suc place) n
+    go earlier (inl k) = earlier k
+    go earlier (inr k) =
+        let same : suc (length ended) ≡ suc place = ap suc (sym (k.0 ∙ length-reverse ended)) in
+        subst (λ i. IsTypedAt texts phone i n) same (subst (λ (y : ℕ × Bool). IsTypedAt texts phone (suc (length ended)) y.0) k.1 h.0)
 
 pub ended_typed : (Keeps : Machine → Event → Type 0) → EndedAreTyped → (limits : Limits) (phones : List AddressValue) (past : List (Event × Told)) (m : Machine) → RunWith Keeps (start limits phones) past m
     → (phone place n : ℕ) (good : Bool) → slice_get (reverse (m.senders.sender phone).ended) place ≡ Some (n, good) → IsTypedAt m.senders.texts phone (suc place) n

@@ -35,6 +35,7 @@ pub mod Refusals
 pub mod Accepted
 pub mod Numbered
 pub mod Understood
+pub mod Determined
 pub mod Unread
 pub mod Rejecting
 pub mod Rows

@@ -14,7 +14,7 @@ use Rattle.sms_world.specs.World.Value.{WorldValue}
 receiving : RefusedOnlyWhereFull → (limits : Limits) (phones : List AddressValue) (past : List (Event × Told)) (m : Machine)
     → OrderlyRun (start limits phones) past m → ReceivingRun (start limits phones) past m
 receiving refused limits phones [] m run = run
-receiving refused limits phones (e ∷ past) m (old, run, orderly, put, step) =
+receiving refused limits phones (e ∷ past) m (old, run, orderly, (put, step)) =
     (old, receiving refused limits phones past old run, (put, step, refused limits phones past old run e.0 orderly e.1 put m step))
 
 pub promised : ClaimsHold → RefusedOnlyWhereFull → (limits : Limits) (phones : List AddressValue) (past : List (Event × Told)) (world : WorldValue) → Promised limits phones past world

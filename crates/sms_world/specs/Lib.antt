@@ -4,6 +4,7 @@ pub mod World
 pub mod Network
 pub mod Below
 pub mod Machine
+pub mod Determined
 pub mod Texts
 pub mod Orderly
 pub mod OrderTests

@@ -7,6 +7,7 @@ ghost use Rattle.sms_world.specs.Below.{Below};
 ghost use Rattle.sms_world.specs.Claims.Pieces.{EachMessageHasItsPiece};
 ghost use Rattle.sms_world.specs.Claims.RememberedKeys.{KeysAreOfFinished};
 ghost use Rattle.sms_world.specs.Claims.OpenSets.{OpenSetsAreOpenTexts};
+ghost use Rattle.sms_world.specs.Determined.{RunsAreDetermined};
 ghost use Rattle.sms_world.specs.Headline.Once.{AcceptedAtMostOnce};
 ghost use Rattle.sms_world.specs.Headline.Finished.{FinishedTexts};
 ghost use Rattle.sms_world.specs.Headline.Refused.{RefusedOnlyWhereFull};
@@ -60,6 +61,13 @@ pub(crate) fn laws_below()
 /// Each event is one act: a text has one cut, and octets are read as one message.
 pub fn events_are_one_act()
     ensures { IsOneAct }
+{
+    laws_below();
+}
+
+/// A run is determined by its first state, its events and its answers.
+pub fn runs_are_determined()
+    ensures { RunsAreDetermined }
 {
     laws_below();
 }

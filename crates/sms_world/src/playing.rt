@@ -14,10 +14,10 @@ use std::alloc::Global;
 /// Plays the script that a source gives on phones and a service centre, and writes its transcript
 /// into a sink: what every event answered and put out, and what stands at the phones in the end.
 ///
-/// Neither may have failed yet, nor may the source have told its end. A script that is at fault, a read that fails, a write that fails
-/// and want of memory end it at once; what was written for the lines before stands. Where memory
-/// runs out within an event, the event is told as `drop memory` and the script goes on. The sink is
-/// not flushed.
+/// Neither may have failed yet, nor may the source have told its end. A script that is at fault, a
+/// read that fails, a write that fails and want of memory end it at once; what was written for the
+/// lines before stands. Where memory runs out within an event, the event is told as `drop memory`
+/// and the script goes on. The sink is not flushed.
 pub fn play<S: Source, K: Sink>(
     alloc: Global,
     source: &mut S,

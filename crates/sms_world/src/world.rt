@@ -13,6 +13,7 @@ ghost use Rattle.sms_script.specs.Meaning.Known.{ArePhones};
 ghost use Rattle.sms_script.specs.Play.Runs.{IsTick};
 ghost use Rattle.sms_script.specs.Script.Limits.{AreLimits};
 ghost use Rattle.sms_script.specs.Transcript.Shown.{shown};
+ghost use Rattle.sms_world.specs.Headline.OfRun.{KeepsPromises};
 ghost use Rattle.sms_world.specs.Machine.{start};
 ghost use Rattle.sms_world.specs.Machine.Event.{Compose, Carry, Timeout, Push, Tick, Inject};
 ghost use Rattle.sms_world.specs.World.Parties.{place_at, on_way};
@@ -24,7 +25,7 @@ ghost use Rattle.sms_world.specs.World.Steps.{event_of, PutsMore, Steps, IfNowhe
 ghost use Rattle.sms_world.specs.World.Steps.{GivesPacket, GivesStore, GivesStatus};
 
 use crate::fault::WorldFault;
-use crate::laws::{claims_hold, laws_below};
+use crate::laws::{claims_hold, deliveries_are_refused_only_where_full, laws_below};
 use crate::world::parties::Parties;
 use crate::world::sent_packet::SentPacket;
 use sms_field::{Address, END_OF_2099};
@@ -104,8 +105,10 @@ impl World {
         ensures once { AcceptsOnce self.new }
         ensures accepted { AcceptedWereAccepted self.new }
         ensures copies { CopiesMayComeInTime self.new }
+        ensures promised { KeepsPromises self.new }
     {
         claims_hold();
+        deliveries_are_refused_only_where_full();
         self.happen(event)
     }
 

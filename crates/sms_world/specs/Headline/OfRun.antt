@@ -44,3 +44,9 @@ pub record RunPromises (limits : Limits) (phones : List AddressValue) (past : Li
 abbrev pub Promised : Limits → List AddressValue → List (Event × Told) → WorldValue → Type 0
 Promised limits phones past world =
     (m : Machine) → StandsFor world m → RunPromises limits phones past m world
+
+-- so it is whatever run led to the world
+abbrev pub KeepsPromises : WorldValue → Type 0
+KeepsPromises world =
+    (limits : Limits) (phones : List AddressValue) (past : List (Event × Told))
+    → Promised limits phones past world

@@ -1,3 +1,4 @@
+use Rattle.sms_world.proofs.Promises.{promised}
 use Rattle.sms_world.specs.World.Steps.{event_of}
 use Rattle.sms_world.proofs.world.World.step.Goals as goal
 
@@ -15,3 +16,7 @@ returns-clause-accepted c = c.claims_hold.ensures.accepted c.happen.new.self
 
 pub returns-clause-copies : goal.returns-clause-copies
 returns-clause-copies c = c.claims_hold.ensures.copies c.happen.new.self
+
+pub returns-clause-promised : goal.returns-clause-promised
+returns-clause-promised c = λ limits phones past.
+    promised c.claims_hold.ensures c.deliveries_are_refused_only_where_full.ensures limits phones past c.happen.new.self

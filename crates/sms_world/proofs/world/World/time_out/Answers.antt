@@ -48,7 +48,7 @@ returns-clause-packets c =
     puts_more v c.args.self.now (Timeout c.args.phone) true (c.args.phone) c.timeout.new.self c.make_room.new.packets.items c.self.view_is c.in_ok-make_room.ensures.items c.in_ok-step.step c.keep.new.packets.items c.keep.ensures.packets
 
 pub returns-in_err-make_room-clause-unmoved : goal.returns-in_err-make_room-clause-unmoved
-returns-in_err-make_room-clause-unmoved c = dropped_somewhere c.from_residual.result Memory c.from_residual.ensures.1
+returns-in_err-make_room-clause-unmoved c = dropped_somewhere _ c.from_residual.result Memory c.from_residual.ensures.1
 
 pub returns-in_err-step-clause-unmoved : goal.returns-in_err-step-clause-unmoved
-returns-in_err-step-clause-unmoved c = dropped_somewhere c.from_residual-in_err-step.result c.in_err-step.field-0.0 c.from_residual-in_err-step.ensures.1
+returns-in_err-step-clause-unmoved c = dropped_somewhere _ c.from_residual-in_err-step.result c.in_err-step.field-0.0 c.from_residual-in_err-step.ensures.1
