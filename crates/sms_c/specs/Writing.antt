@@ -7,10 +7,10 @@ use Rattle.sms_field.specs.declared.validity.Validity.{Validity}
 use Rattle.sms_tpdu.specs.Deliver.{Delivery, SpellsDeliver}
 use Rattle.sms_tpdu.specs.Submit.{Submission, SpellsSubmit}
 use Rattle.sms_tpdu.specs.declared.user_data.concat.Width.{Width}
-use Rattle.sms_tpdu.specs.declared.user_data.concat.Width.TheVariants.{Eight, Sixteen}
 use Rattle.sms_join.specs.SegmentUser.{dcs_of, user_of}
 use Rattle.sms_join.specs.Segments.{AreSegments}
 use Rattle.sms_join.specs.declared.segment.Segment.{Segment}
+use Rattle.sms_c.specs.Parts.{bits_of}
 use Rattle.sms_c.specs.Times.{validity_of}
 use Rattle.sms_c.specs.declared.writing.Reference.{Reference}
 use Rattle.sms_c.specs.declared.writing.SubmitFields.{SubmitFields}
@@ -19,10 +19,6 @@ use Rattle.sms_c.specs.declared.writing.DeliverFields.{DeliverFields}
 -- 0 is no, and all else is yes
 abbrev pub is_set : ℕ → Bool
 is_set octet = if octet == 0 then false else true
-
-abbrev pub bits_of : Width → ℕ
-bits_of Eight = 8
-bits_of Sixteen = 16
 
 -- the fields, a recipient and a segment as an SMS-SUBMIT
 abbrev pub submission : SubmitFields → Validity → AddressValue → Width → Segment → Submission

@@ -1,6 +1,6 @@
 //! What C sees of the parts of a unit: values, and where the rest lies in the caller's octets.
 
-ghost use Rattle.std.specs.Prelude.{◌≡◌, ℕ, ◌+◌, slice_range, IfSome, IfOk, OnErr};
+ghost use Rattle.std.specs.Prelude.{◌≡◌, ℕ, is_some, IfSome, IfOk, OnErr};
 ghost use Rattle.std.specs.Str.{chars};
 ghost use Rattle.std.specs.String.{string_bytes};
 ghost use Rattle.sms_field.specs.Reading.{Reads};
@@ -8,14 +8,15 @@ ghost use Rattle.sms_field.specs.Address.{address as address_field};
 ghost use Rattle.sms_field.specs.AddressValue.{AddressValue};
 ghost use Rattle.sms_field.specs.AddressText.{address_text as text_of_address};
 ghost use Rattle.sms_c.specs.HandedOut.{IsHandedOut};
-ghost use Rattle.sms_tpdu.specs.UserData.{length_in};
+ghost use Rattle.sms_tpdu.specs.UserData.ConcatenationFound.{concat_of_header};
 ghost use Rattle.sms_c.specs.Parts as seen;
+ghost use Rattle.sms_c.specs.Parts.{ShowsUser};
 
 use crate::out::hand_out;
 use crate::status::{Failure, status_of};
 use sms_field::{AddressView, Alphabet, alphabet_of};
 use sms_text::{text_of_gsm, text_of_ucs2, units_of_octets, unpack};
-use sms_tpdu::{BodyView, HeaderView, UserDataView};
+use sms_tpdu::{BodyView, Concat, HeaderView, UserDataView, UserSpans, Width};
 use std::alloc::Global;
 
 /// Octets in the caller's octets.
@@ -35,14 +36,23 @@ impl Span {
 
     /// The octets of a span; none where it does not lie in them.
     pub fn of(self, octets: &[u8]) -> Option<&[u8]>
-        ensures { IfSome result (λ part. part.now
-            ≡ slice_range octets.now self.offset (self.offset + self.length)) }
+        ensures { IfSome result (λ part. part.now ≡ seen.octets_at octets.now self) }
     {
         let end = self.offset.checked_add(self.length)?;
         if end > octets.len() {
             return None;
         }
-        Some(&octets[self.offset..end])
+        Some(&octets[self.offset..][..self.length])
+    }
+
+    /// Where a part lies.
+    pub fn at(part: sms_field::Span) -> Span
+        ensures { result ≡ seen.span_at part }
+    {
+        Span {
+            offset: part.offset,
+            length: part.length,
+        }
     }
 }
 
@@ -117,87 +127,91 @@ pub fn alphabet_number(alphabet: Alphabet) -> u8
     }
 }
 
-/// The address whose octets begin at an offset.
-pub fn address_seen(octets: &[u8], offset: usize, view: &AddressView) -> AddressSeen
+/// The address that lies at a span.
+pub fn address_seen(view: &AddressView, span: sms_field::Span) -> AddressSeen
     ensures kind { result.type_of_number ≡ view.now.kind }
     ensures plan { result.plan ≡ view.now.plan }
-    ensures offset { result.octets.offset ≡ offset }
+    ensures octets { result.octets ≡ seen.span_at span }
 {
-    let length = match octets.get(offset) {
-        Some(count) => 2 + usize::from(count.div_ceil(2)),
-        None => 0,
-    };
     AddressSeen {
-        octets: Span { offset, length },
+        octets: Span::at(span),
         type_of_number: view.type_of_number(),
         plan: view.plan(),
     }
 }
 
-/// The place that an element of a header tells.
-fn told_by(identifier: u8, octets: &[u8]) -> Option<Place> {
-    let place = match (identifier, octets) {
-        (0, [reference, maximum, sequence]) => Place {
-            width: 8,
-            reference: u16::from(*reference),
-            maximum: *maximum,
-            sequence: *sequence,
-        },
-        (8, [high, low, maximum, sequence]) => Place {
-            width: 16,
-            reference: 256 * u16::from(*high) + u16::from(*low),
-            maximum: *maximum,
-            sequence: *sequence,
-        },
-        _ => return None,
-    };
-    (1 <= place.sequence && place.sequence <= place.maximum).then_some(place)
-}
-
-/// The place that a header tells.
-pub fn place_of(header: &HeaderView) -> Place {
-    let mut last = Place::NONE;
-    for element in header.elements() {
-        if let Some(place) = told_by(element.identifier, element.octets) {
-            last = place;
-        }
-    }
-    last
-}
-
-/// User data that end at an offset.
-pub fn user_seen(user: &UserDataView, dcs: u8, end: usize) -> UserSeen
-    ensures alphabet { result.alphabet ≡ seen.alphabet_of_dcs dcs }
-    ensures length { result.length ≡ length_in user.now }
+/// Where a header lies, and that it is there.
+fn header_seen(span: Option<sms_field::Span>) -> Span
+    ensures { result ≡ seen.span_if span }
 {
-    let (body, fill, count) = match user.body() {
-        BodyView::Septets(septets) => {
-            let (octets, fill) = septets.packed();
-            (octets, fill, septets.count())
-        }
-        BodyView::Octets(octets) => (octets, 0, octets.len().min(255) as u8),
+    match span {
+        Some(span) => Span::at(span),
+        None => Span::NONE,
+    }
+}
+
+/// 1 where there is a header, and 0 where there is none.
+fn has_header(header: &Option<HeaderView>) -> u8
+    ensures { result ≡ seen.bit (is_some header.now) }
+{
+    match header {
+        Some(_) => 1,
+        None => 0,
+    }
+}
+
+/// The place that a header tells, if there is one.
+fn place_told(header: &Option<HeaderView>) -> Option<Concat>
+    ensures { result ≡ concat_of_header header.now }
+{
+    match header {
+        Some(header) => header.concat(),
+        None => None,
+    }
+}
+
+/// The place of a segment.
+fn place_seen(place: Option<Concat>) -> Place
+    ensures { result ≡ seen.place_seen place }
+{
+    let Some(place) = place else {
+        return Place::NONE;
     };
-    let body = Span {
-        offset: end.saturating_sub(body.len()),
-        length: body.len(),
+    let width = match place.width {
+        Width::Eight => 8,
+        Width::Sixteen => 16,
     };
-    let (header, place, has_header) = match user.header() {
-        Some(header) => {
-            let length = header.as_slice().len();
-            let offset = body.offset.saturating_sub(length);
-            (Span { offset, length }, place_of(header), 1)
-        }
-        None => (Span::NONE, Place::NONE, 0),
-    };
+    Place {
+        width,
+        reference: place.reference,
+        maximum: place.maximum,
+        sequence: place.sequence,
+    }
+}
+
+/// How many septets or octets a body has.
+fn count_in(user: &UserDataView) -> u8
+    ensures { seen.CountsSeptets user.now.body result }
+{
+    match user.body() {
+        BodyView::Septets(septets) => septets.count(),
+        BodyView::Octets(octets) => octets.len().min(255) as u8,
+    }
+}
+
+/// User data that lie at these spans.
+pub fn user_seen(user: &UserDataView, dcs: u8, spans: UserSpans) -> UserSeen
+    ensures { ShowsUser user.now dcs spans result }
+{
     UserSeen {
-        header,
-        body,
-        place,
+        header: header_seen(spans.header),
+        body: Span::at(spans.body),
+        place: place_seen(place_told(user.header())),
         length: user.length(),
         alphabet: alphabet_number(alphabet_of(dcs)),
-        has_header,
-        fill,
-        count,
+        has_header: has_header(user.header()),
+        fill: spans.fill,
+        count: count_in(user),
     }
 }
 

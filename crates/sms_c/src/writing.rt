@@ -9,6 +9,7 @@ ghost use Rattle.sms_tpdu.specs.Submit.ValidityPeriod.{IsInRange};
 ghost use Rattle.sms_tpdu.specs.declared.user_data.concat.Width.TheVariants.{Eight};
 ghost use Rattle.sms_join.specs.SegmentUser.{IsSendable};
 ghost use Rattle.sms_join.specs.Segments.{AreSegments};
+ghost use Rattle.sms_c.specs.Parts.{bits_of};
 ghost use Rattle.sms_c.specs.Writing as seen;
 ghost use Rattle.sms_c.specs.Writing.{IsCutInto, WritesDeliver, WritesSubmit};
 
@@ -33,7 +34,7 @@ pub struct Reference {
 
 /// The width of a reference that it can hold.
 fn width_of(reference: Reference) -> Result<Width, Failure>
-    ensures width { IfOk result (λ width. reference.width ≡ seen.bits_of width) }
+    ensures width { IfOk result (λ width. reference.width ≡ bits_of width) }
     ensures in_range { IfOk result (λ width. width ≡ Eight → reference.reference < 256) }
 {
     match reference.width {
