@@ -127,23 +127,23 @@ fn content_of(
 /// The octets of an SMS-DELIVER after which no more messages wait.
 fn encode_deliver(
     alloc: Global,
-    draft: &Draft<'_>,
-    frame: &Frame,
+    report: bool,
+    origin: Address,
+    stamp: Stamp,
     content: Content,
 ) -> Result<Vec<u8>, Fault>
     requires { FitsAlphabet (alphabet_at content.dcs) content.user }
 {
-    let origin = frame.address.copy(alloc)?;
     let Content { dcs, user } = content;
     let deliver = Deliver {
         more: false,
         looped: false,
-        report: draft.report,
+        report,
         reply: false,
         origin,
         pid: 0,
         dcs,
-        stamp: frame.stamp,
+        stamp,
         user,
     };
     Ok(deliver.write(alloc)?)
@@ -196,7 +196,10 @@ fn encode(
     requires { FitsAlphabet (alphabet_at content.dcs) content.user }
 {
     match draft.kind {
-        DraftKind::Deliver => encode_deliver(alloc, draft, frame, content),
+        DraftKind::Deliver => {
+            let origin = frame.address.copy(alloc)?;
+            encode_deliver(alloc, draft.report, origin, frame.stamp, content)
+        }
         DraftKind::Submit => {
             let first = draft.reference.unwrap_or(0);
             let reference = first.wrapping_add((place % 256) as u8);
