@@ -37,7 +37,7 @@ extern "C" {
 /* The number of this interface: structs and calls change only with it. */
 #define SMS_ABI 1
 
-/* Enough octets for any text of one unit, any unit, any packet, any text of an address. */
+/* Enough octets for any text of one unit, any unit that is written, any packet, any text of an address. */
 #define SMS_TEXT_MAX 480
 #define SMS_UNIT_MAX 184
 #define SMS_PACKET_MAX 258
@@ -185,6 +185,39 @@ typedef struct sms_report {
     uint8_t alphabet; /* by which TP-UDL counts */
 } sms_report;
 
+typedef struct sms_status_report {
+    sms_address recipient; /* TP-RA */
+    sms_span data;         /* TP-UD */
+    size_t used;
+    uint8_t more;         /* TP-MMS as its meaning: 1 where more messages wait */
+    uint8_t looped;       /* TP-LP */
+    uint8_t qualifier;    /* TP-SRQ: 1 where it is the result of an SMS-COMMAND, 0 of an SMS-SUBMIT */
+    uint8_t has_header;   /* TP-UDHI: the data begin with a header */
+    uint8_t reference;    /* TP-MR of the submission, or of the command */
+    sms_stamp stamp;      /* TP-SCTS: when the centre took the message */
+    sms_stamp discharged; /* TP-DT: when it came to its recipient, or when the centre last tried */
+    uint8_t status;       /* TP-ST, the octet as it came: 3GPP TS 23.040, 9.2.3.15 */
+    uint8_t has_pid;
+    uint8_t pid;
+    uint8_t has_dcs;
+    uint8_t dcs;
+    uint8_t has_data;
+    uint8_t length;   /* TP-UDL */
+    uint8_t alphabet; /* by which TP-UDL counts */
+} sms_status_report;
+
+typedef struct sms_command {
+    sms_address target; /* TP-DA of the message in question */
+    sms_span data;      /* TP-CD; its length is TP-CDL */
+    size_t used;
+    uint8_t has_header; /* TP-UDHI: the data begin with a header */
+    uint8_t report;     /* TP-SRR */
+    uint8_t reference;  /* TP-MR of the command */
+    uint8_t pid;
+    uint8_t kind;    /* TP-CT, the octet as it came: 3GPP TS 23.040, 9.2.3.19 */
+    uint8_t message; /* TP-MN: TP-MR of the message in question */
+} sms_command;
+
 /* Reads the unit at the front of the octets. SMS_OK: *out is the unit, *refused as it was.
  * SMS_REFUSED: *refused says where and why, *out is as it was. No other status, no memory. */
 sms_status sms_deliver_read(const uint8_t *octets, size_t count, sms_deliver *out, sms_refused *refused);
@@ -194,6 +227,9 @@ sms_status sms_deliver_ack_read(const uint8_t *octets, size_t count, sms_report 
 sms_status sms_deliver_error_read(const uint8_t *octets, size_t count, sms_report *out, sms_refused *refused);
 sms_status sms_submit_ack_read(const uint8_t *octets, size_t count, sms_report *out, sms_refused *refused);
 sms_status sms_submit_error_read(const uint8_t *octets, size_t count, sms_report *out, sms_refused *refused);
+/* SMS-STATUS-REPORT. TP-PI is read where another octet follows TP-ST, so give the octets of the unit alone. */
+sms_status sms_status_report_read(const uint8_t *octets, size_t count, sms_status_report *out, sms_refused *refused);
+sms_status sms_command_read(const uint8_t *octets, size_t count, sms_command *out, sms_refused *refused);
 
 /* The text of an address, or of user data, that a call above found in these same octets: its digits
  * (after a + where the type is 1) or its name; septets or UCS-2 as text, where an unpaired surrogate

@@ -31,6 +31,8 @@ NAMES = {
     "sms_deliver": "DeliverSeen",
     "sms_submit": "SubmitSeen",
     "sms_report": "ReportSeen",
+    "sms_status_report": "StatusReportSeen",
+    "sms_command": "CommandSeen",
     "sms_cp": "CpSeen",
     "sms_rp": "RpSeen",
     "sms_envelope": "Envelope",

@@ -30,8 +30,26 @@ WORKED = {
     "deliver-error": ["00C10700040302F0A1", "40D100"],
     "submit-ack": ["010030217251409080", "4107302172514090800004046162C3D4"],
     "submit-error": ["01D60030217251409080", "41C50130217251409080AA"],
+    "status-report": [
+        "06040D91945152991136F00160124130340A0160124130940A00",
+        "FA0702812199309251619580993092516195804687007F0402AABB",
+        "060804D061F13021725140908030217251409080000103",
+    ],
+    "command": ["02070002050491012000", "FE0841000602812103AABBCC00"],
 }
-FRONTS = {"deliver": 0xC5, "submit": 0xFD, "deliver-ack": 0x40, "deliver-error": 0x40, "submit-ack": 0x41, "submit-error": 0x41}
+FRONTS = {
+    "deliver": 0xC5,
+    "submit": 0xFD,
+    "deliver-ack": 0x40,
+    "deliver-error": 0x40,
+    "submit-ack": 0x41,
+    "submit-error": 0x41,
+    "status-report": 0xFC,
+    "command": 0xFC,
+}
+# TP-MTI, and where the address stands.
+TYPES = {"submit": 1, "submit-ack": 1, "submit-error": 1, "status-report": 2, "command": 2}
+ADDRESSES = {"deliver": 1, "submit": 2, "status-report": 2, "command": 5}
 READERS = {
     "deliver": sms.Deliver.read,
     "submit": sms.Submit.read,
@@ -39,6 +57,8 @@ READERS = {
     "deliver-error": sms.DeliverReport.read_error,
     "submit-ack": sms.SubmitReport.read_ack,
     "submit-error": sms.SubmitReport.read_error,
+    "status-report": sms.StatusReport.read,
+    "command": sms.Command.read,
 }
 
 
@@ -51,11 +71,11 @@ def drawn(kind, chance):
             unit[chance.randrange(len(unit))] = chance.randrange(256)
         return bytes(unit[: chance.randrange(len(unit) + 1)] if chance.randrange(4) == 0 else unit)
     unit = bytearray(chance.getrandbits(8) for _ in range(chance.randrange(1, 190)))
-    unit[0] = unit[0] & FRONTS[kind] | (kind.startswith("submit"))
+    unit[0] = unit[0] & FRONTS[kind] | TYPES.get(kind, 0)
     if way == 1:
         return bytes(unit)
     # an address of up to 20 digits, and decimal digits in the stamp, so that more of them are read
-    at = {"deliver": 1, "submit": 2}.get(kind)
+    at = ADDRESSES.get(kind)
     if at is not None and len(unit) > 16:
         unit[at] = chance.randrange(21)
         for place in range(at + 2, at + 2 + (unit[at] + 1) // 2):
@@ -145,6 +165,11 @@ def lines_of_report(kind, report):
         lines.append(("cause", f"{report.cause:02X}"))
     if report.stamp is not None:
         lines.append(("stamp", stamp_line(report.stamp)))
+    return [*lines, *lines_of_parts(report)]
+
+
+def lines_of_parts(report):
+    lines = []
     if report.pid is not None:
         lines.append(("pid", f"{report.pid:02X}"))
     if report.dcs is not None:
@@ -152,6 +177,37 @@ def lines_of_report(kind, report):
     if report.data is not None:
         lines += [("length", str(report.length)), ("user", report.data.hex().upper() or "-")]
     return lines
+
+
+def lines_of_status_report(report):
+    flags = [("more", report.more), ("loop", report.looped), ("qualifier", report.qualifier), ("header", report.has_header)]
+    return [
+        ("type", "status-report"),
+        *[(name, yes(told)) for name, told in flags],
+        ("reference", f"{report.reference:02X}"),
+        ("recipient", report.recipient),
+        ("number", f"{report.type_of_number} {report.plan}"),
+        ("stamp", stamp_line(report.stamp)),
+        ("discharged", stamp_line(report.discharged)),
+        ("status", f"{report.status:02X}"),
+        *lines_of_parts(report),
+    ]
+
+
+def lines_of_command(command):
+    return [
+        ("type", "command"),
+        ("header", yes(command.has_header)),
+        ("report", yes(command.report)),
+        ("reference", f"{command.reference:02X}"),
+        ("pid", f"{command.pid:02X}"),
+        ("command", f"{command.kind:02X}"),
+        ("message", f"{command.message:02X}"),
+        ("recipient", command.target),
+        ("number", f"{command.type_of_number} {command.plan}"),
+        ("length", str(len(command.data))),
+        ("data", command.data.hex().upper() or "-"),
+    ]
 
 
 def seen(kind, octets):
@@ -164,6 +220,10 @@ def seen(kind, octets):
         lines = lines_of_deliver(unit)
     elif kind == "submit":
         lines = lines_of_submit(unit)
+    elif kind == "status-report":
+        lines = lines_of_status_report(unit)
+    elif kind == "command":
+        lines = lines_of_command(unit)
     else:
         lines = lines_of_report(kind, unit)
     rest = len(octets) - unit.used
@@ -173,6 +233,9 @@ def seen(kind, octets):
 # ---- the lines that show prints
 
 
+# Lines of text, which is escaped, and lines of an octet and its words.
+TEXTS = ("text", "from", "to", "recipient")
+WORDED = ("status", "command")
 ESCAPES = {"n": "\n", "r": "\r", "t": "\t", "f": "\f"}
 
 
@@ -185,10 +248,12 @@ def shown(block):
     for line in block.split("\n"):
         fault = re.search(r"at (\d+: .*)$", line)
         name, _, value = line.partition(": ")
-        if fault and name not in ("text", "from", "to"):
+        if fault and name not in TEXTS:
             lines.append(("at", fault[1]))
+        elif name in WORDED:
+            lines.append((name, value[:2]))
         else:
-            lines.append((name, unescaped(value) if name in ("text", "from", "to") else value))
+            lines.append((name, unescaped(value) if name in TEXTS else value))
     return lines
 
 
@@ -207,7 +272,7 @@ def main():
     program, count = sys.argv[1], int(sys.argv[2]) if len(sys.argv) > 2 else 200_000
     chance, read, failed = random.Random(20_00), 0, 0
     for kind in WORKED:
-        much = count // 4 if kind in ("deliver", "submit") else count // 8
+        much = count // 4 if kind in ("deliver", "submit") else count // 12
         units = [it for it in (drawn(kind, chance) for _ in range(much)) if it]
         blocks = blocks_of(program, kind, units)
         if blocks is None:

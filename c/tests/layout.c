@@ -86,6 +86,35 @@ static void units(void)
     FIELD(sms_report, has_data);
     FIELD(sms_report, length);
     FIELD(sms_report, alphabet);
+    STRUCT(sms_status_report);
+    FIELD(sms_status_report, recipient);
+    FIELD(sms_status_report, data);
+    FIELD(sms_status_report, used);
+    FIELD(sms_status_report, more);
+    FIELD(sms_status_report, looped);
+    FIELD(sms_status_report, qualifier);
+    FIELD(sms_status_report, has_header);
+    FIELD(sms_status_report, reference);
+    FIELD(sms_status_report, stamp);
+    FIELD(sms_status_report, discharged);
+    FIELD(sms_status_report, status);
+    FIELD(sms_status_report, has_pid);
+    FIELD(sms_status_report, pid);
+    FIELD(sms_status_report, has_dcs);
+    FIELD(sms_status_report, dcs);
+    FIELD(sms_status_report, has_data);
+    FIELD(sms_status_report, length);
+    FIELD(sms_status_report, alphabet);
+    STRUCT(sms_command);
+    FIELD(sms_command, target);
+    FIELD(sms_command, data);
+    FIELD(sms_command, used);
+    FIELD(sms_command, has_header);
+    FIELD(sms_command, report);
+    FIELD(sms_command, reference);
+    FIELD(sms_command, pid);
+    FIELD(sms_command, kind);
+    FIELD(sms_command, message);
 }
 
 static void packets(void)

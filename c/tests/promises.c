@@ -226,6 +226,102 @@ static void reports(void)
     free(octets);
 }
 
+static int is_date(const sms_stamp *stamp, const char *wanted)
+{
+    sms_date date;
+    char told[64];
+    if (sms_stamp_date(stamp, &date) != SMS_OK)
+        return wanted == NULL;
+    snprintf(told, sizeof told, "%04d-%02d-%02d %02d:%02d:%02d %d", date.year, date.month, date.day, date.hour, date.minute,
+             date.second, date.quarters);
+    return wanted != NULL && strcmp(told, wanted) == 0;
+}
+
+/* Status reports that other tools read: the unit tests of oFono 1.31, and a modem's listing among the tests of Gammu 1.42.
+ * The zone of the third has the digit 10, so neither of its stamps is a date. */
+static const struct {
+    const char *hex;
+    uint8_t reference;
+    const char *recipient;
+    uint8_t type_of_number;
+    const char *stamp;
+    const char *discharged;
+} STATUS_REPORTS[] = {
+    {"06040D91945152991136F00160124130340A0160124130940A00", 0x04, "+4915259911630", 1, "2010-06-21 14:03:43 -20",
+     "2010-06-21 14:03:49 -20"},
+    {"06050D91945152991136F00160124130640A0160124130450A00", 0x05, "+4915259911630", 1, "2010-06-21 14:03:46 -20",
+     "2010-06-21 14:03:54 -20"},
+    {"0606098121436587F9019012413064A0019012413045A000", 0x06, "123456789", 0, NULL, NULL},
+    {"06E80C91666666666666909070618422809090706184628000", 0xE8, "+666666666666", 1, "2009-09-07 16:48:22 8",
+     "2009-09-07 16:48:26 8"},
+};
+
+static void status_reports(void)
+{
+    sms_status_report r;
+    sms_refused refused;
+    uint8_t text[SMS_ADDRESS_TEXT_MAX];
+    size_t count, needed;
+    for (size_t i = 0; i < sizeof STATUS_REPORTS / sizeof STATUS_REPORTS[0]; i++) {
+        uint8_t *octets = block(STATUS_REPORTS[i].hex, &count);
+        memset(&r, 0xA5, sizeof r);
+        CHECK(sms_status_report_read(octets, count, &r, &refused) == SMS_OK && r.used == count);
+        CHECK(!r.more && !r.looped && !r.qualifier && !r.has_header && r.reference == STATUS_REPORTS[i].reference);
+        CHECK(r.recipient.type_of_number == STATUS_REPORTS[i].type_of_number && r.recipient.plan == 1);
+        CHECK(r.recipient.octets.offset == 2 && r.recipient.octets.length == 2 + (octets[2] + 1u) / 2);
+        CHECK(sms_address_text(octets, count, &r.recipient, text, sizeof text, &needed) == SMS_OK);
+        CHECK(is_text(text, needed, STATUS_REPORTS[i].recipient));
+        CHECK(is_date(&r.stamp, STATUS_REPORTS[i].stamp) && is_date(&r.discharged, STATUS_REPORTS[i].discharged));
+        CHECK(memcmp(r.stamp.octets, octets + count - 15, 7) == 0 && memcmp(r.discharged.octets, octets + count - 8, 7) == 0);
+        CHECK(r.status == 0 && !r.has_pid && !r.has_dcs && !r.has_data && r.length == 0 && r.alphabet == SMS_GSM7);
+        for (size_t front = 0; front < count; front++) {
+            sms_status_report same = r;
+            CHECK(sms_status_report_read(octets, front, &r, &refused) == SMS_REFUSED && memcmp(&same, &r, sizeof r) == 0);
+        }
+        free(octets);
+    }
+    /* all flags, and all parts after TP-ST */
+    uint8_t *octets = block("FA0702812199309251619580993092516195804687007F0402AABB", &count);
+    CHECK(sms_status_report_read(octets, count, &r, &refused) == SMS_OK && r.used == count);
+    CHECK(r.more == 1 && r.looped == 1 && r.qualifier == 1 && r.has_header == 1 && r.status == 0x46);
+    CHECK(r.has_pid == 1 && r.pid == 0x7F && r.has_dcs == 1 && r.dcs == 4 && r.alphabet == SMS_EIGHT_BIT);
+    CHECK(r.has_data == 1 && r.length == 2 && r.data.offset == 25 && r.data.length == 2);
+    /* it ends at TP-ST where no octet follows, and else there are TP-PI and what it says */
+    CHECK(sms_status_report_read(octets, 20, &r, &refused) == SMS_OK && r.used == 20 && !r.has_pid && !r.has_data);
+    CHECK(sms_status_report_read(octets, 26, &r, &refused) == SMS_REFUSED && refused.place == 26 && refused.reason == SMS_SHORT);
+    octets[24] = 160;
+    CHECK(sms_status_report_read(octets, count, &r, &refused) == SMS_REFUSED);
+    CHECK(refused.place == 24 && refused.reason == SMS_DATA_TOO_LONG);
+    free(octets);
+}
+
+static void commands(void)
+{
+    sms_command c;
+    sms_refused refused;
+    uint8_t text[SMS_ADDRESS_TEXT_MAX];
+    size_t count, needed;
+    uint8_t *octets = block("02070002050491012000", &count);
+    CHECK(sms_command_read(octets, count, &c, &refused) == SMS_OK && c.used == count);
+    CHECK(!c.has_header && !c.report && c.reference == 7 && c.pid == 0 && c.kind == 2 && c.message == 5);
+    CHECK(c.target.octets.offset == 5 && c.target.octets.length == 4 && c.target.type_of_number == 1 && c.target.plan == 1);
+    CHECK(sms_address_text(octets, count, &c.target, text, sizeof text, &needed) == SMS_OK && is_text(text, needed, "+1002"));
+    CHECK(c.data.offset == 10 && c.data.length == 0);
+    free(octets);
+    octets = block("FE0841000602812103AABBCC00", &count);
+    CHECK(sms_command_read(octets, count, &c, &refused) == SMS_OK && c.used == 12);
+    CHECK(c.has_header == 1 && c.report == 1 && c.reference == 8 && c.pid == 0x41 && c.kind == 0 && c.message == 6);
+    CHECK(c.data.offset == 9 && c.data.length == 3);
+    octets[8] = 158;
+    sms_command same = c;
+    CHECK(sms_command_read(octets, count, &c, &refused) == SMS_REFUSED && memcmp(&same, &c, sizeof c) == 0);
+    CHECK(refused.place == 8 && refused.reason == SMS_DATA_TOO_LONG);
+    octets[0] = 1;
+    CHECK(sms_command_read(octets, count, &c, &refused) == SMS_REFUSED);
+    CHECK(refused.place == 0 && refused.reason == SMS_WRONG_TYPE);
+    free(octets);
+}
+
 static void joins(void)
 {
     char text[200];
@@ -315,6 +411,16 @@ static sms_status submit_error(const uint8_t *octets, size_t count, sms_refused 
     sms_report seen;
     return sms_submit_error_read(octets, count, &seen, refused);
 }
+static sms_status status_report(const uint8_t *octets, size_t count, sms_refused *refused)
+{
+    sms_status_report seen;
+    return sms_status_report_read(octets, count, &seen, refused);
+}
+static sms_status command(const uint8_t *octets, size_t count, sms_refused *refused)
+{
+    sms_command seen;
+    return sms_command_read(octets, count, &seen, refused);
+}
 static sms_status cp(const uint8_t *octets, size_t count, sms_refused *refused)
 {
     sms_cp seen;
@@ -329,7 +435,7 @@ static sms_status rp(const uint8_t *octets, size_t count, sms_refused *refused)
 /* each worked unit is read whole, and each front of it is refused at its end */
 static void cuts(void)
 {
-    static const struct {
+    const struct {
         reader read;
         const char *hex;
     } units[] = {
@@ -339,6 +445,12 @@ static void cuts(void)
         {deliver_error, "00C10700040302F0A1"},
         {submit_ack, "010030217251409080"},
         {submit_error, "01D60030217251409080"},
+        {status_report, STATUS_REPORTS[0].hex},
+        {status_report, STATUS_REPORTS[1].hex},
+        {status_report, STATUS_REPORTS[2].hex},
+        {status_report, STATUS_REPORTS[3].hex},
+        {command, "02070002050491012000"},
+        {command, "FE0841000602812103AABBCC"},
         {cp, "390107020900050003C9"},
         {cp, "3904"},
         {cp, "391061"},
@@ -407,6 +519,23 @@ static void rubbish(unsigned turns)
         (void)sms_submit_error_read(own, count, &r, &refused);
         (void)sms_cp_read(own, count, &cp, &refused);
         (void)sms_rp_read(own, count, &rp, &refused);
+        if (count > 5) {
+            own[0] = (uint8_t)((own[0] & 0xFC) | 2);
+            own[2] %= 12;
+            own[5] %= 12;
+        }
+        sms_status_report report;
+        sms_command command;
+        if (sms_status_report_read(own, count, &report, &refused) == SMS_OK) {
+            CHECK(report.used <= count && (!report.has_data || report.data.offset + report.data.length == report.used));
+            CHECK(sms_address_text(own, count, &report.recipient, text, SMS_ADDRESS_TEXT_MAX, &needed) == SMS_OK);
+        } else
+            CHECK(refused.place <= count);
+        if (sms_command_read(own, count, &command, &refused) == SMS_OK) {
+            CHECK(command.used <= count && command.data.offset + command.data.length == command.used);
+            CHECK(sms_address_text(own, count, &command.target, text, SMS_ADDRESS_TEXT_MAX, &needed) == SMS_OK);
+        } else
+            CHECK(refused.place <= count);
         free(own);
     }
 }
@@ -417,6 +546,8 @@ int main(int argc, char **argv)
     writes();
     packets();
     reports();
+    status_reports();
+    commands();
     joins();
     cuts();
     rubbish(argc > 1 ? (unsigned)strtoul(argv[1], NULL, 10) : 200000);

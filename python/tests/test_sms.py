@@ -42,6 +42,31 @@ class Readers(unittest.TestCase):
         self.assertEqual((report.cause, report.data), (0xD6, None))
         self.assertEqual(report.stamp, sms.Stamp(bytes.fromhex("30217251409080")))
 
+    def test_status_reports(self):
+        stamp, discharged = "0160124130340A", "0160124130940A"
+        report = sms.StatusReport.read(bytes.fromhex(f"06040D91945152991136F0{stamp}{discharged}00"))
+        self.assertEqual((report.recipient, report.type_of_number, report.plan), ("+4915259911630", 1, 1))
+        self.assertEqual((report.reference, report.status, report.used), (4, 0, 26))
+        self.assertEqual((report.more, report.looped, report.qualifier, report.has_header), (False,) * 4)
+        self.assertEqual((report.pid, report.dcs, report.data), (None, None, None))
+        self.assertEqual(report.stamp.date, sms.Date(2010, 6, 21, 14, 3, 43, -20))
+        self.assertEqual(report.discharged, sms.Stamp(bytes.fromhex(discharged)))
+        report = sms.StatusReport.read(bytes.fromhex("FA0702812199309251619580993092516195804687007F0402AABB"))
+        self.assertEqual((report.more, report.looped, report.qualifier, report.has_header), (True,) * 4)
+        self.assertEqual((report.status, report.pid, report.dcs), (0x46, 0x7F, 4))
+        self.assertEqual((report.data, report.length, report.alphabet), (bytes.fromhex("AABB"), 2, sms.Alphabet.EIGHT_BIT))
+        with self.assertRaisesRegex(sms.Refused, "^at 19: short$"):
+            sms.StatusReport.read(bytes.fromhex("06080281219930925161958099309251619580"))
+
+    def test_commands(self):
+        command = sms.Command.read(bytes.fromhex("FE0841000602812103AABBCC00"))
+        self.assertEqual((command.target, command.type_of_number, command.plan), ("12", 0, 1))
+        self.assertEqual((command.reference, command.pid, command.kind, command.message), (8, 0x41, 0, 6))
+        self.assertEqual((command.has_header, command.report), (True, True))
+        self.assertEqual((command.data, command.used), (bytes.fromhex("AABBCC"), 12))
+        with self.assertRaisesRegex(sms.Refused, "^at 8: data too long$"):
+            sms.Command.read(bytes.fromhex("02070002050281219E"))
+
 
 class Writers(unittest.TestCase):
     def test_submit_comes_back(self):

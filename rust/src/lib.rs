@@ -689,6 +689,111 @@ impl Report {
     }
 }
 
+// ---- status reports, and commands
+
+/// SMS-STATUS-REPORT: how it stands with a message that a phone has submitted (3GPP TS 23.040, 9.2.2.3).
+#[derive(Clone, Debug, PartialEq, Eq)]
+pub struct StatusReport {
+    /// TP-MMS: more messages wait in the centre.
+    pub more: bool,
+    /// TP-LP.
+    pub looped: bool,
+    /// TP-SRQ: it is the result of an SMS-COMMAND, and not of an SMS-SUBMIT.
+    pub qualifier: bool,
+    /// TP-UDHI: the data begin with a header.
+    pub has_header: bool,
+    /// TP-MR of the submission, or of the command.
+    pub reference: u8,
+    /// TP-RA: the recipient's digits, after a + where the number is international, or its name.
+    pub recipient: String,
+    pub type_of_number: u8,
+    pub plan: u8,
+    /// TP-SCTS: when the centre took the message.
+    pub stamp: Stamp,
+    /// TP-DT: when it came to its recipient, or when the centre last tried.
+    pub discharged: Stamp,
+    /// TP-ST, the octet as it came (9.2.3.15).
+    pub status: u8,
+    pub pid: Option<u8>,
+    pub dcs: Option<u8>,
+    /// TP-UD.
+    pub data: Option<Vec<u8>>,
+    /// TP-UDL.
+    pub length: u8,
+    /// By which TP-UDL counts.
+    pub alphabet: Alphabet,
+}
+
+impl StatusReport {
+    /// Reads the unit at the front of the octets, and says how many it takes. TP-PI is read where another octet follows
+    /// TP-ST.
+    pub fn read(octets: &[u8]) -> Result<(StatusReport, usize), Refused> {
+        let seen = read(raw::sms_status_report_read, octets)?;
+        let data = &octets[seen.data.offset..][..seen.data.length];
+        let report = StatusReport {
+            more: seen.more == 1,
+            looped: seen.looped == 1,
+            qualifier: seen.qualifier == 1,
+            has_header: seen.has_header == 1,
+            reference: seen.reference,
+            recipient: address_of(octets, &seen.recipient),
+            type_of_number: seen.recipient.type_of_number,
+            plan: seen.recipient.plan,
+            stamp: Stamp(seen.stamp.octets),
+            discharged: Stamp(seen.discharged.octets),
+            status: seen.status,
+            pid: (seen.has_pid == 1).then_some(seen.pid),
+            dcs: (seen.has_dcs == 1).then_some(seen.dcs),
+            data: (seen.has_data == 1).then(|| data.to_vec()),
+            length: seen.length,
+            alphabet: Alphabet::of(seen.alphabet),
+        };
+        Ok((report, seen.used))
+    }
+}
+
+/// SMS-COMMAND: what a phone asks of a centre about a message that it has submitted (3GPP TS 23.040, 9.2.2.4).
+#[derive(Clone, Debug, PartialEq, Eq)]
+pub struct Command {
+    /// TP-UDHI: the data begin with a header.
+    pub has_header: bool,
+    /// TP-SRR.
+    pub report: bool,
+    /// TP-MR of the command.
+    pub reference: u8,
+    pub pid: u8,
+    /// TP-CT, the octet as it came (9.2.3.19).
+    pub kind: u8,
+    /// TP-MN: TP-MR of the message in question.
+    pub message: u8,
+    /// TP-DA of the message in question: digits, after a + where the number is international, or a name.
+    pub target: String,
+    pub type_of_number: u8,
+    pub plan: u8,
+    /// TP-CD.
+    pub data: Vec<u8>,
+}
+
+impl Command {
+    /// Reads the unit at the front of the octets, and says how many it takes.
+    pub fn read(octets: &[u8]) -> Result<(Command, usize), Refused> {
+        let seen = read(raw::sms_command_read, octets)?;
+        let command = Command {
+            has_header: seen.has_header == 1,
+            report: seen.report == 1,
+            reference: seen.reference,
+            pid: seen.pid,
+            kind: seen.kind,
+            message: seen.message,
+            target: address_of(octets, &seen.target),
+            type_of_number: seen.target.type_of_number,
+            plan: seen.target.plan,
+            data: octets[seen.data.offset..][..seen.data.length].to_vec(),
+        };
+        Ok((command, seen.used))
+    }
+}
+
 // ---- packets
 
 /// A message of the connection (3GPP TS 24.011, 7.2), which lends its user data.

@@ -105,6 +105,37 @@ structs! {
         length: u8,
         alphabet: u8,
     }
+    "sms_status_report" StatusReport {
+        recipient: Address,
+        data: Span,
+        used: usize,
+        more: u8,
+        looped: u8,
+        qualifier: u8,
+        has_header: u8,
+        reference: u8,
+        stamp: Stamp,
+        discharged: Stamp,
+        status: u8,
+        has_pid: u8,
+        pid: u8,
+        has_dcs: u8,
+        dcs: u8,
+        has_data: u8,
+        length: u8,
+        alphabet: u8,
+    }
+    "sms_command" Command {
+        target: Address,
+        data: Span,
+        used: usize,
+        has_header: u8,
+        report: u8,
+        reference: u8,
+        pid: u8,
+        kind: u8,
+        message: u8,
+    }
     "sms_cp" Cp { user: Span, used: usize, flag: u8, value: u8, kind: u8, cause: u8, }
     "sms_rp" Rp {
         address: Span,
@@ -160,6 +191,10 @@ extern "C" {
     pub fn sms_deliver_error_read(octets: *const u8, count: usize, out: *mut Report, refused: *mut Refused) -> u32;
     pub fn sms_submit_ack_read(octets: *const u8, count: usize, out: *mut Report, refused: *mut Refused) -> u32;
     pub fn sms_submit_error_read(octets: *const u8, count: usize, out: *mut Report, refused: *mut Refused) -> u32;
+    pub fn sms_status_report_read(
+        octets: *const u8, count: usize, out: *mut StatusReport, refused: *mut Refused,
+    ) -> u32;
+    pub fn sms_command_read(octets: *const u8, count: usize, out: *mut Command, refused: *mut Refused) -> u32;
     pub fn sms_address_text(
         octets: *const u8, count: usize, address: *const Address, out: *mut u8, room: usize, needed: *mut usize,
     ) -> u32;

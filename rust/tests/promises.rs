@@ -1,8 +1,8 @@
 //! What the crate promises.
 
 use sms::{
-    Alphabet, Cp, CpBody, Deliver, DeliverFields, Envelope, Error, Joiner, Offer, Place, Reason, Reference, Refused, Report,
-    Rp, RpBody, Stamp, Submit, SubmitFields, Validity,
+    Alphabet, Command, Cp, CpBody, Deliver, DeliverFields, Envelope, Error, Joiner, Offer, Place, Reason, Reference, Refused,
+    Report, Rp, RpBody, Stamp, StatusReport, Submit, SubmitFields, Validity,
 };
 
 const HELLO: [u8; 28] = [
@@ -65,6 +65,44 @@ fn reads_reports() {
     let (report, _) =
         Report::read_submit_error(&[0x01, 0xD6, 0x00, 0x30, 0x21, 0x72, 0x51, 0x40, 0x90, 0x80]).unwrap();
     assert_eq!((report.cause, report.data), (Some(0xD6), None));
+}
+
+#[test]
+fn reads_status_reports() {
+    let plain = [
+        0x06, 0x04, 0x0D, 0x91, 0x94, 0x51, 0x52, 0x99, 0x11, 0x36, 0xF0, 0x01, 0x60, 0x12, 0x41, 0x30, 0x34, 0x0A, 0x01, 0x60,
+        0x12, 0x41, 0x30, 0x94, 0x0A, 0x00,
+    ];
+    let (report, used) = StatusReport::read(&plain).unwrap();
+    assert_eq!((report.recipient.as_str(), report.type_of_number, report.plan), ("+4915259911630", 1, 1));
+    assert_eq!((report.reference, report.status, used), (4, 0, 26));
+    assert_eq!((report.more, report.looped, report.qualifier, report.has_header), (false, false, false, false));
+    assert_eq!((report.pid, report.dcs, report.data), (None, None, None));
+    assert_eq!(report.stamp.0, plain[11..18]);
+    let date = report.discharged.date().unwrap();
+    assert_eq!((date.year, date.month, date.day, date.second, date.quarters), (2010, 6, 21, 49, -20));
+    let full = [
+        0xFA, 0x07, 0x02, 0x81, 0x21, 0x99, 0x30, 0x92, 0x51, 0x61, 0x95, 0x80, 0x99, 0x30, 0x92, 0x51, 0x61, 0x95, 0x80, 0x46,
+        0x87, 0x00, 0x7F, 0x04, 0x02, 0xAA, 0xBB,
+    ];
+    let (report, used) = StatusReport::read(&full).unwrap();
+    assert_eq!((report.more, report.looped, report.qualifier, report.has_header), (true, true, true, true));
+    assert_eq!((report.status, report.pid, report.dcs, used), (0x46, Some(0x7F), Some(4), 27));
+    assert_eq!((report.data.as_deref(), report.length), (Some(&[0xAA, 0xBB][..]), 2));
+    assert_eq!(report.alphabet, Alphabet::EightBit);
+    assert_eq!(StatusReport::read(&full[..19]), Err(Refused { place: 19, reason: Reason::Short }));
+}
+
+#[test]
+fn reads_commands() {
+    let octets = [0xFE, 0x08, 0x41, 0x00, 0x06, 0x02, 0x81, 0x21, 0x03, 0xAA, 0xBB, 0xCC, 0x00];
+    let (command, used) = Command::read(&octets).unwrap();
+    assert_eq!((command.target.as_str(), command.type_of_number, command.plan), ("12", 0, 1));
+    assert_eq!((command.reference, command.pid, command.kind, command.message), (8, 0x41, 0, 6));
+    assert_eq!((command.has_header, command.report, used), (true, true, 12));
+    assert_eq!(command.data, [0xAA, 0xBB, 0xCC]);
+    let refused = Refused { place: 8, reason: Reason::DataTooLong };
+    assert_eq!(Command::read(&[0x02, 0x07, 0x00, 0x02, 0x05, 0x02, 0x81, 0x21, 0x9E]), Err(refused));
 }
 
 #[test]

@@ -3,8 +3,10 @@ pub mod Kept
 pub mod Offers
 pub mod Parts
 pub mod Seen
+pub mod SeenCommand
 pub mod SeenRelay
 pub mod SeenReport
+pub mod SeenStatusReport
 pub mod Status
 pub mod Times
 pub mod Wrapping

@@ -1,5 +1,5 @@
 -- What C sees of a report that was read.
-use Rattle.std.specs.Prelude.{◌≡◌, ℕ, List, Option, Some, None, is_some, unwrap_or}
+use Rattle.std.specs.Prelude.{◌≡◌, ℕ, ◌-◌, length, Option, Some, None, is_some, unwrap_or}
 use Rattle.sms_tpdu.specs.declared.report.ReportData.{ReportData}
 use Rattle.sms_tpdu.specs.Report.{report_alphabet}
 use Rattle.sms_tpdu.specs.Report.DeliverAck.{DeliverAckValue}
@@ -7,12 +7,19 @@ use Rattle.sms_tpdu.specs.Report.DeliverError.{DeliverErrorValue}
 use Rattle.sms_tpdu.specs.Report.SubmitAck.{SubmitAckValue}
 use Rattle.sms_tpdu.specs.Report.SubmitError.{SubmitErrorValue}
 use Rattle.sms_c.specs.Parts.{alphabet_number, bit}
+use Rattle.sms_c.specs.declared.parts.Span.{Span}
 use Rattle.sms_c.specs.declared.reading.report.ReportSeen.{ReportSeen}
 
 -- TP-UDL, where there are data
 abbrev pub length_of : Option ReportData → ℕ
 length_of None = 0
 length_of (Some user) = user.length
+
+-- the last octets of those that a report takes, as many as its data have
+abbrev pub data_span : Option ReportData → ℕ → Span
+data_span None used = record { offset = 0; length = 0 }
+data_span (Some user) used =
+    record { offset = used - length user.octets; length = length user.octets }
 
 -- the parts that a report may have: without a data coding scheme the alphabet is the 7-bit one
 pub record ShowsParts (pid dcs : Option ℕ) (user : Option ReportData) (seen : ReportSeen)

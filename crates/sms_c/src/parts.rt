@@ -1,11 +1,12 @@
 //! What C sees of the parts of a unit: values, and where the rest lies in the caller's octets.
 
-ghost use Rattle.std.specs.Prelude.{◌≡◌, ℕ, is_some, IfSome, IfOk, OnErr};
+ghost use Rattle.std.specs.Prelude.{◌≡◌, ℕ, drop, is_some, IfSome, IfOk, OnErr};
 ghost use Rattle.std.specs.Str.{chars};
 ghost use Rattle.std.specs.String.{string_bytes};
 ghost use Rattle.sms_field.specs.Reading.{Reads};
 ghost use Rattle.sms_field.specs.Address.{address as address_field};
 ghost use Rattle.sms_field.specs.AddressValue.{AddressValue};
+ghost use Rattle.sms_field.specs.Lies.{TakesOctets};
 ghost use Rattle.sms_field.specs.AddressText.{address_text as text_of_address};
 ghost use Rattle.sms_c.specs.HandedOut.{IsHandedOut};
 ghost use Rattle.sms_tpdu.specs.UserData.ConcatenationFound.{concat_of_header};
@@ -137,6 +138,18 @@ pub fn address_seen(view: &AddressView, span: sms_field::Span) -> AddressSeen
         octets: Span::at(span),
         type_of_number: view.type_of_number(),
         plan: view.plan(),
+    }
+}
+
+/// Where the address lies that begins after so many octets. Not looked at is whether it can be read.
+pub fn address_after(octets: &[u8], before: usize) -> sms_field::Span
+    ensures begins { result.offset ≡ before }
+    ensures takes { TakesOctets address_field (drop before octets.now) result.length }
+{
+    let (_, after) = octets.split_at(before.min(octets.len()));
+    sms_field::Span {
+        offset: before,
+        length: AddressView::length_in(after),
     }
 }
 

@@ -28,6 +28,7 @@ __all__ = [
     "Alphabet",
     "BadAddress",
     "Closed",
+    "Command",
     "Cp",
     "Date",
     "Deliver",
@@ -46,6 +47,7 @@ __all__ = [
     "Rp",
     "Segment",
     "Stamp",
+    "StatusReport",
     "Submit",
     "SubmitReport",
     "TooLong",
@@ -529,6 +531,93 @@ class SubmitReport:
     def read_error(octets: Octets) -> Report:
         """As it stands in an RP-ERROR."""
         return _report(raw.lib.sms_submit_error_read, octets)
+
+
+@dataclass(frozen=True)
+class StatusReport:
+    """SMS-STATUS-REPORT: how it stands with a message that a phone has submitted (3GPP TS 23.040, 9.2.2.3). `status` is
+    the octet TP-ST (9.2.3.15), `discharged` is TP-DT, and `qualifier` says that it is the result of an SMS-COMMAND."""
+
+    used: int
+    more: bool
+    looped: bool
+    qualifier: bool
+    has_header: bool
+    reference: int
+    recipient: str
+    type_of_number: int
+    plan: int
+    stamp: Stamp
+    discharged: Stamp
+    status: int
+    pid: Optional[int]
+    dcs: Optional[int]
+    data: Optional[bytes]
+    length: int
+    alphabet: Alphabet
+
+    @classmethod
+    def read(cls, octets: Octets) -> StatusReport:
+        """Reads the unit at the front of the octets, of which it takes `used`; raises `Refused`. TP-PI is read where
+        another octet follows TP-ST."""
+        octets = bytes(octets)
+        seen = _read(raw.lib.sms_status_report_read, octets, raw.StatusReport())
+        return cls(
+            used=seen.used,
+            more=bool(seen.more),
+            looped=bool(seen.looped),
+            qualifier=bool(seen.qualifier),
+            has_header=bool(seen.has_header),
+            reference=seen.reference,
+            recipient=_address(octets, seen.recipient),
+            type_of_number=seen.recipient.type_of_number,
+            plan=seen.recipient.plan,
+            stamp=Stamp(bytes(seen.stamp.octets)),
+            discharged=Stamp(bytes(seen.discharged.octets)),
+            status=seen.status,
+            pid=seen.pid if seen.has_pid else None,
+            dcs=seen.dcs if seen.has_dcs else None,
+            data=_at(octets, seen.data) if seen.has_data else None,
+            length=seen.length,
+            alphabet=Alphabet(seen.alphabet),
+        )
+
+
+@dataclass(frozen=True)
+class Command:
+    """SMS-COMMAND: what a phone asks of a centre about a message that it has submitted (3GPP TS 23.040, 9.2.2.4). `kind`
+    is the octet TP-CT (9.2.3.19), `message` is TP-MN, and `data` is TP-CD."""
+
+    used: int
+    has_header: bool
+    report: bool
+    reference: int
+    pid: int
+    kind: int
+    message: int
+    target: str
+    type_of_number: int
+    plan: int
+    data: bytes
+
+    @classmethod
+    def read(cls, octets: Octets) -> Command:
+        """Reads the unit at the front of the octets, of which it takes `used`; raises `Refused`."""
+        octets = bytes(octets)
+        seen = _read(raw.lib.sms_command_read, octets, raw.Command())
+        return cls(
+            used=seen.used,
+            has_header=bool(seen.has_header),
+            report=bool(seen.report),
+            reference=seen.reference,
+            pid=seen.pid,
+            kind=seen.kind,
+            message=seen.message,
+            target=_address(octets, seen.target),
+            type_of_number=seen.target.type_of_number,
+            plan=seen.target.plan,
+            data=_at(octets, seen.data),
+        )
 
 
 # ---- packets

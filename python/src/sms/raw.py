@@ -106,6 +106,43 @@ class Report(Structure):
     ]
 
 
+class StatusReport(Structure):
+    _fields_ = [
+        ("recipient", Address),
+        ("data", Span),
+        ("used", c_size_t),
+        ("more", c_uint8),
+        ("looped", c_uint8),
+        ("qualifier", c_uint8),
+        ("has_header", c_uint8),
+        ("reference", c_uint8),
+        ("stamp", Stamp),
+        ("discharged", Stamp),
+        ("status", c_uint8),
+        ("has_pid", c_uint8),
+        ("pid", c_uint8),
+        ("has_dcs", c_uint8),
+        ("dcs", c_uint8),
+        ("has_data", c_uint8),
+        ("length", c_uint8),
+        ("alphabet", c_uint8),
+    ]
+
+
+class Command(Structure):
+    _fields_ = [
+        ("target", Address),
+        ("data", Span),
+        ("used", c_size_t),
+        ("has_header", c_uint8),
+        ("report", c_uint8),
+        ("reference", c_uint8),
+        ("pid", c_uint8),
+        ("kind", c_uint8),
+        ("message", c_uint8),
+    ]
+
+
 class Cp(Structure):
     _fields_ = [
         ("user", Span),
@@ -182,6 +219,8 @@ STRUCTS = {
     "sms_deliver": Deliver,
     "sms_submit": Submit,
     "sms_report": Report,
+    "sms_status_report": StatusReport,
+    "sms_command": Command,
     "sms_cp": Cp,
     "sms_rp": Rp,
     "sms_envelope": Envelope,
@@ -205,6 +244,8 @@ CALLS = {
     "sms_deliver_error_read": [*_IN, POINTER(Report), _REFUSED],
     "sms_submit_ack_read": [*_IN, POINTER(Report), _REFUSED],
     "sms_submit_error_read": [*_IN, POINTER(Report), _REFUSED],
+    "sms_status_report_read": [*_IN, POINTER(StatusReport), _REFUSED],
+    "sms_command_read": [*_IN, POINTER(Command), _REFUSED],
     "sms_address_text": [*_IN, POINTER(Address), *_OUT],
     "sms_user_text": [*_IN, POINTER(User), *_OUT],
     "sms_stamp_date": [POINTER(Stamp), POINTER(Date)],

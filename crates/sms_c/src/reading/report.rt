@@ -13,7 +13,7 @@ ghost use Rattle.sms_tpdu.specs.declared.fault.UnitFault.{UnitFault};
 ghost use Rattle.sms_tpdu.specs.declared.fault.UnitFault.TheVariants.{Short};
 ghost use Rattle.sms_c.specs.Parts as seen;
 ghost use Rattle.sms_c.specs.Status.{unit_refused as told};
-ghost use Rattle.sms_c.specs.SeenReport.{length_of, ShowsParts, ShowsDeliverAck, ShowsDeliverError, ShowsSubmitAck, ShowsSubmitError};
+ghost use Rattle.sms_c.specs.SeenReport.{length_of, data_span, ShowsParts, ShowsDeliverAck, ShowsDeliverError, ShowsSubmitAck, ShowsSubmitError};
 
 use crate::parts::{Span, alphabet_number, bit};
 use crate::status::{OK, Refused, unit_refused};
@@ -51,7 +51,7 @@ pub struct ReportSeen {
 }
 
 /// 1 and an octet that is there; 0 and 0 where it is not.
-fn octet_seen(octet: Option<u8>) -> (u8, u8)
+pub fn octet_seen(octet: Option<u8>) -> (u8, u8)
     ensures there { result.0 ≡ seen.bit (is_some octet) }
     ensures value { result.1 ≡ unwrap_or octet 0 }
 {
@@ -62,7 +62,8 @@ fn octet_seen(octet: Option<u8>) -> (u8, u8)
 }
 
 /// Where the data of a report lie that takes so many octets, that they are there, and their length.
-fn data_seen(user: &Option<ReportDataView>, used: usize) -> (Span, u8, u8)
+pub fn data_seen(user: &Option<ReportDataView>, used: usize) -> (Span, u8, u8)
+    ensures span { result.0 ≡ data_span user.now used }
     ensures there { result.1 ≡ seen.bit (is_some user.now) }
     ensures length { result.2 ≡ length_of user.now }
 {
@@ -77,7 +78,7 @@ fn data_seen(user: &Option<ReportDataView>, used: usize) -> (Span, u8, u8)
 }
 
 /// The number of the alphabet by which the data are counted.
-fn counted_by(dcs: Option<u8>) -> u8
+pub fn counted_by(dcs: Option<u8>) -> u8
     ensures { result ≡ seen.alphabet_number (report_alphabet dcs) }
 {
     match dcs {
