@@ -1,5 +1,7 @@
 //! Scripts that are told in other ways than a transcript, and outputs that are flushed in time.
 
+ghost use Rattle.std.specs.Prelude.{◌≤◌, length};
+
 mod rows;
 
 use crate::fed::{are_fed, are_fed_as_json, fed_with};
@@ -96,16 +98,16 @@ impl Read for Asking<'_> {
 }
 
 /// Copies a line and its line feed to the front of a buffer, which has room for them.
-fn copy_line(line: &[u8], buffer: &mut [u8]) -> usize {
+fn copy_line(line: &[u8], buffer: &mut [u8]) -> usize
+    ensures { result ≤ length buffer.old }
+{
     let count = line.len().min(buffer.len());
     buffer[..count].copy_from_slice(&line[..count]);
-    match buffer.get_mut(count) {
-        Some(end) => {
-            *end = b'\n';
-            count + 1
-        }
-        None => count,
+    if count == buffer.len() {
+        return count;
     }
+    buffer[count] = b'\n';
+    count + 1
 }
 
 /// Counts what is written.
