@@ -4,8 +4,11 @@
 mod fault;
 mod laws;
 mod network;
+mod notes;
+mod order;
 mod playing;
 mod running;
+mod watched;
 mod words;
 mod world;
 
@@ -13,16 +16,19 @@ pub use fault::WorldFault;
 pub use laws::{
     accepted_texts_were_accepted, claims_hold, copies_may_come_in_time,
     deliveries_are_refused_only_where_full, each_message_has_its_piece, events_are_one_act,
-    few_answers_are_told_apart, finished_texts_are_whole, keys_are_of_finished_texts,
-    open_sets_are_open_texts, order_is_tested, runs_are_determined, segments_are_accepted_once,
-    stores_stand, submissions_reject_duplicates, unread_octets_change_nothing,
-    unread_units_change_no_party,
+    facts_are_told, few_answers_are_told_apart, finished_texts_are_whole,
+    keys_are_of_finished_texts, notes_stay_right, open_sets_are_open_texts, order_is_tested,
+    order_is_told, runs_are_determined, segments_are_accepted_once, stores_stand,
+    submissions_reject_duplicates, unread_octets_change_nothing, unread_units_change_no_party,
+    watching_goes_on,
 };
+pub use order::{Breach, Disorder, TextSegment};
 pub use playing::{play, told_stores_stand};
-pub use running::run;
+pub use running::{run, run_watched};
 pub use sms_message::{Dropped, Outcome};
 pub use sms_party::{Entry, Status};
 pub use sms_script::{
     DeviceFailed, Event, Limits, Octets, PlayFault, ScriptFault, Sink, Source, Text, Watched,
 };
+pub use watched::WatchedWorld;
 pub use world::World;
