@@ -44,6 +44,7 @@ pub mod Verdict
 pub mod Fitting
 pub mod Holding
 pub mod Calling
+pub mod Untyped
 pub mod Keeping
 pub mod Stepping
 pub mod Settings
@@ -52,6 +53,12 @@ pub mod Asking
 pub mod Fronts
 pub mod Backwards
 pub mod Watching
+pub mod FewOut
+pub mod Alike
+pub mod Factual
+pub mod Wanting
+pub mod Counted
+pub mod Followed
 pub mod Unread
 pub mod Rejecting
 pub mod Rows

@@ -59,6 +59,7 @@ use Rattle.sms_world.specs.Texts.Keys.{stamp_given}
 use Rattle.sms_world.specs.Claims.Pieces.{IsTyped, IsSentOf, MessageOf, DeliveryOf, SubmissionOf, EachHasItsPiece, CentreSound}
 use Rattle.sms_world.specs.Ledger.{Mark, Submits, Delivers, Neither, mark_of, message_mark, delivery_mark, mark_at, TextNote, note_of, SenderNoted, called, called_marks, ReceiverNote, ReceiverNoted, heard, ends_given, stamped_so, Ledger, IsLedgerOf}
 use Rattle.sms_world.specs.Noted.{Facts, AreFacts, neithers, with_marks, sender_noted, recipient_of, holds, submission_noted, delivery_noted, push_mark, push_noted, other_noted, carry_noted, noted}
+use Rattle.sms_world.proofs.Untyped.{late_untyped, answers_untyped}
 use Rattle.sms_world.proofs.Calling.{Called, late_called, answers_called, composes_called}
 use Rattle.sms_world.proofs.Centres.{each_unended}
 use Rattle.sms_world.proofs.Checked.{nth_map, nth_noted}
@@ -213,7 +214,6 @@ fault_right l m h reject now (Carry k) why f z = go (mark_at l.marks k)
 -- the facts of what was done, as the case of a packet needs them
 pub record Given (f : Facts) (r : Next) (to : Place) : Type 0 where
   pub as_many : f.put ≡ length r.put
-  pub text_is : (number : ℕ) (t : Text) (before : List Text) → r.answer ≡ Ok (outcome.Typed number) → r.after.senders.texts ≡ t ∷ before → f.text ≡ note_of r.after.phones t
   pub goes : f.to ≡ to
 
 module _ (law : Below) (m : Machine) (l : Ledger) (sound : Sound m) (h : IsLedgerOf l m) where
@@ -395,7 +395,8 @@ module _ (law : Below) (m : Machine) (l : Ledger) (sound : Sound m) (h : IsLedge
   down_right phone (Data true tag relay) origin about f x may g =
       other_down phone (Data true tag relay) origin about f refl g.goes
       (unfold by_sender in sent_right phone f (sender_receives m.senders phone tag relay)
-      (answers_called m.senders phone (l.sender phone) sound.once.senders (h.senders phone) tag relay) (answers_grown m.senders phone tag relay) g.text_is)
+      (answers_called m.senders phone (l.sender phone) sound.once.senders (h.senders phone) tag relay) (answers_grown m.senders phone tag relay)
+      (λ number t before e s. absurd (answers_untyped m.senders phone tag relay number e)))
   down_right phone (Data false tag (Transfer ToPhone (Deliver d))) (Some o) about f x may g = unfold by_receiver receiver_opened receiver_takes units_in_delivery in
       delivery_right phone tag d o f x may g.as_many
   down_right phone (Data false tag (Transfer ToPhone (Deliver d))) None about f x may g = absurd x
@@ -435,12 +436,14 @@ module _ (law : Below) (m : Machine) (l : Ledger) (sound : Sound m) (h : IsLedge
   typed_kept phone target characters pieces f cut g = unfold by_sender in
       sent_right phone f (composes m.senders phone target characters pieces)
       (composes_called m.senders phone (l.sender phone) sound.once.senders (h.senders phone) target characters pieces cut)
-      (composes_grown m.senders phone target characters pieces) g.text_is
+      (composes_grown m.senders phone target characters pieces)
+      (λ number t before e s. g.text_is phone target characters number t before refl e s)
 
   late_kept : (phone : ℕ) (f : Facts) → Kept (Timeout phone) f (by_sender m (times_out m.senders phone))
   unfolding noted
   late_kept phone f g = unfold by_sender in
-      sent_right phone f (times_out m.senders phone) (late_called m.senders phone (l.sender phone) sound.once.senders (h.senders phone)) (late_grown m.senders phone) g.text_is
+      sent_right phone f (times_out m.senders phone) (late_called m.senders phone (l.sender phone) sound.once.senders (h.senders phone)) (late_grown m.senders phone)
+      (λ number t before e s. absurd (late_untyped m.senders phone number e))
 
   carry_kept : (k : ℕ) (f : Facts) → may_happen true m (Carry k) ≡ true → Kept (Carry k) f (carries m (packet m k))
   unfolding may_happen noted carries stays
@@ -460,7 +463,7 @@ module _ (law : Below) (m : Machine) (l : Ledger) (sound : Sound m) (h : IsLedge
       go (Some x) e may g =
           subst (λ v. IsLedgerOf (carry_noted l m.senders.reject m.clock f (carries m (Some x)).answer v) (carries m (Some x)).after) (sym (there ∙ ap (option_map mark_of) e))
           (come_right x.to x.message x.origin x.about f (packet_sent m (IsSentOf m.phones m.senders.texts m.centre.accepted) k sound.once.sent x e) may
-          (record { as_many = g.as_many; text_is = g.text_is; goes = g.goes k x refl e }))
+          (record { as_many = g.as_many; goes = g.goes k x refl e }))
 
   tick_kept : (later : ℕ) (seconds : ℕ) (f : Facts) → m.clock ≤ later → IsLedgerOf l (ticked m later)
   unfolding ticked

@@ -15,6 +15,7 @@ pub mod OrderTold
 pub mod Noted
 pub mod NotesValue
 pub mod Breaches
+pub mod Followed
 pub mod Watched
 pub mod Accepted
 pub mod Understood

@@ -11,13 +11,13 @@ ghost use Rattle.sms_field.specs.Times.{end_of_2099};
 ghost use Rattle.std.specs.VecDeque.{deque_len, deque_capacity};
 ghost use Rattle.sms_message.specs.declared.outcome.Outcome.TheVariants.{Pushed};
 ghost use Rattle.sms_world.specs.Machine.Next.{entered};
-ghost use Rattle.sms_world.specs.Noted.{holds, neithers, with_marks, delivery_noted, push_noted, sender_noted, texts_after, recipient_of};
+ghost use Rattle.sms_world.specs.Noted.{holds, neithers, with_marks, delivery_noted, push_noted, sender_noted, texts_after, recipient_of, noted, carry_noted, other_noted, submission_noted};
 ghost use Rattle.sms_world.specs.declared.notes.receiver.ReceiverNotes.{ReceiverNotes as ReceiversNotes};
 ghost use Rattle.sms_world.specs.declared.notes.mark.Part.{Part as PartValue};
 ghost use Rattle.sms_world.specs.declared.notes.mark.Stamped.{Stamped as StampedValue};
 ghost use Rattle.sms_world.specs.Breaches.{breach_at, repeat_breach, arrival_breach, segment_at, segment_in};
 ghost use Rattle.sms_world.specs.Ledger.{mark_at, same_set, another_finished, another_open, Submits, Delivers, Neither, AreAlike, new_ledger};
-ghost use Rattle.sms_world.specs.NotesValue.{ledger_in, text_at, part_eq, stamped_eq, origin_of_part, free_at, sender_at, receiver_at, HasRoom, MayCome};
+ghost use Rattle.sms_world.specs.NotesValue.{ledger_in, text_at, part_eq, stamped_eq, origin_of_part, free_at, sender_at, receiver_at, HasRoom, HasRoomAt, MayCome, MayHold, IsCounted, IsMarkFor, IsFor, facts_of};
 ghost use Rattle.std.specs.Vec.{vec_len, vec_capacity};
 ghost use Rattle.sms_world.specs.declared.notes.sender.SenderNotes.{SenderNotes as TheSenderNotes};
 ghost use Rattle.sms_world.specs.World.Steps.{event_of};
@@ -218,7 +218,10 @@ impl Notes {
         requires recipient { recipient < length self.old.receivers.items }
         requires moment { now < end_of_2099 }
         requires free { free_at (slice_get self.old.receivers.items recipient) < 2 ^ 64 - 1 }
-        ensures { AreAlike (holds (ledger_in self.old) now (origin_of_part part) (Some recipient))
+        ensures senders { length self.new.senders.items ≡ length self.old.senders.items }
+        ensures receivers { length self.new.receivers.items ≡ length self.old.receivers.items }
+        ensures marks { self.new.marks ≡ self.old.marks }
+        ensures noted { AreAlike (holds (ledger_in self.old) now (origin_of_part part) (Some recipient))
             (ledger_in self.new) }
     {
         let receiver = &mut self.receivers[recipient];
@@ -230,7 +233,7 @@ impl Notes {
 }
 
 impl Notes {
-    /// An event was answered so. There is room for what it adds.
+    /// An event was answered so, for a phone that these facts name. There is room for what it adds.
     pub(crate) fn note(
         &mut self,
         reject: bool,
@@ -238,7 +241,18 @@ impl Notes {
         event: &Event,
         told: Outcome,
         facts: Facts,
-    ) {
+    )
+        requires room { HasRoomAt self.old facts.phone }
+        requires few { facts.put ≤ 2 }
+        requires holds { MayHold self.old }
+        requires moment { now < end_of_2099 }
+        ensures senders { length self.new.senders.items ≡ length self.old.senders.items }
+        ensures receivers { length self.new.receivers.items ≡ length self.old.receivers.items }
+        ensures noted { let l = ledger_in self.old in
+            let noted_so = noted l reject now (event_of event.now) (Ok told) (facts_of facts) in
+            IsFor l (event_of event.now) facts.phone → IsCounted (noted_so.sender facts.phone)
+            → AreAlike noted_so (ledger_in self.new) }
+    {
         match event {
             Event::Compose { .. } | Event::Timeout(_) => {
                 self.call(facts.phone, reject, facts.text, told);
@@ -253,7 +267,18 @@ impl Notes {
     }
 
     /// A packet with this mark came, and was answered so. There is room for what it adds.
-    fn bring(&mut self, reject: bool, now: u64, mark: Option<Mark>, told: Outcome, facts: Facts) {
+    fn bring(&mut self, reject: bool, now: u64, mark: Option<Mark>, told: Outcome, facts: Facts)
+        requires room { HasRoomAt self.old facts.phone }
+        requires few { facts.put ≤ 2 }
+        requires holds { MayHold self.old }
+        requires moment { now < end_of_2099 }
+        ensures senders { length self.new.senders.items ≡ length self.old.senders.items }
+        ensures receivers { length self.new.receivers.items ≡ length self.old.receivers.items }
+        ensures noted { let l = ledger_in self.old in
+            let noted_so = carry_noted l reject now (facts_of facts) (Ok told) mark in
+            IsMarkFor mark facts.phone → IsCounted (noted_so.sender facts.phone)
+            → AreAlike noted_so (ledger_in self.new) }
+    {
         match mark {
             None => {}
             Some(Mark::Submits { text, segment, .. }) => {
@@ -269,7 +294,16 @@ impl Notes {
     }
 
     /// A packet came that brings neither a submission nor a delivery.
-    fn bring_other(&mut self, reject: bool, told: Outcome, facts: Facts) {
+    fn bring_other(&mut self, reject: bool, told: Outcome, facts: Facts)
+        requires room { HasRoomAt self.old facts.phone }
+        requires few { facts.put ≤ 2 }
+        ensures senders { length self.new.senders.items ≡ length self.old.senders.items }
+        ensures receivers { length self.new.receivers.items ≡ length self.old.receivers.items }
+        ensures noted { let l = ledger_in self.old in
+            let to = (facts_of facts).to in
+            let noted_so = other_noted l reject (facts_of facts) (Ok told) to in
+            IsCounted (noted_so.sender facts.phone) → AreAlike noted_so (ledger_in self.new) }
+    {
         if facts.up {
             self.put_neithers(facts.put);
         } else {
@@ -278,7 +312,17 @@ impl Notes {
     }
 
     /// A submission of this segment came, and was answered so.
-    fn submit(&mut self, now: u64, part: Part, told: Outcome) {
+    fn submit(&mut self, now: u64, part: Part, told: Outcome)
+        requires ends { 0 < spare self.old.ends }
+        requires stamps { 0 < spare self.old.stamps }
+        requires holds { MayHold self.old }
+        requires moment { now < end_of_2099 }
+        ensures marks { self.new.marks ≡ self.old.marks }
+        ensures senders { length self.new.senders.items ≡ length self.old.senders.items }
+        ensures receivers { length self.new.receivers.items ≡ length self.old.receivers.items }
+        ensures noted { let l = ledger_in self.old in
+            AreAlike (submission_noted l now (origin_of_part part) (Ok told)) (ledger_in self.new) }
+    {
         let text = text_of(&self.texts, part.text);
         if let (Outcome::Held, Some(recipient)) = (told, recipient_of(text)) {
             self.hold(now, part, recipient);
@@ -286,7 +330,13 @@ impl Notes {
     }
 
     /// The centre was to hand a message to a phone, and answered so.
-    fn put_push(&mut self, facts: Facts, told: Outcome) {
+    fn put_push(&mut self, facts: Facts, told: Outcome)
+        requires { deque_len self.old.marks + 1 ≤ deque_capacity self.old.marks }
+        ensures senders { length self.new.senders.items ≡ length self.old.senders.items }
+        ensures receivers { length self.new.receivers.items ≡ length self.old.receivers.items }
+        ensures noted { let l = ledger_in self.old in
+            AreAlike (push_noted l facts.phone facts.stamp (Ok told)) (ledger_in self.new) }
+    {
         if let Outcome::Pushed = told {
             self.push(facts.phone, facts.stamp);
         }
@@ -315,15 +365,7 @@ impl Notes {
         ensures alike { AreAlike (ledger_in self.old) (ledger_in self.new) }
         ensures senders { length self.new.senders.items ≡ length self.old.senders.items }
         ensures receivers { length self.new.receivers.items ≡ length self.old.receivers.items }
-        ensures marks { IfOk result (λ _. deque_len self.new.marks + 2 ≤ deque_capacity self.new.marks) }
-        ensures texts { IfOk result (λ _. deque_len self.new.texts + 1 ≤ deque_capacity self.new.texts) }
-        ensures ends { IfOk result (λ _. 0 < spare self.new.ends) }
-        ensures stamps { IfOk result (λ _. 0 < spare self.new.stamps) }
-        ensures typed { IfOk result (λ _. (s : TheSenderNotes)
-            → slice_get self.new.senders.items phone ≡ Some s
-            → vec_len s.typed + 1 ≤ vec_capacity s.typed) }
-        ensures room { IfOk result (λ _. (r : ReceiversNotes)
-            → slice_get self.new.receivers.items phone ≡ Some r → HasRoom r) }
+        ensures room { IfOk result (λ _. HasRoomAt self.new phone) }
     {
         self.marks.reserve(2)?;
         self.texts.reserve(1)?;
@@ -343,7 +385,9 @@ impl Notes {
         requires texts { deque_len self.old.texts + 1 ≤ deque_capacity self.old.texts }
         requires typed { (s : TheSenderNotes) → slice_get self.old.senders.items phone ≡ Some s
             → vec_len s.typed + 1 ≤ vec_capacity s.typed }
-        ensures { ((s : TheSenderNotes) → slice_get self.old.senders.items phone ≡ Some s
+        ensures senders { length self.new.senders.items ≡ length self.old.senders.items }
+        ensures receivers { length self.new.receivers.items ≡ length self.old.receivers.items }
+        ensures noted { ((s : TheSenderNotes) → slice_get self.old.senders.items phone ≡ Some s
             → MayCome s outcome)
             → AreAlike (sender_noted (ledger_in self.old) reject phone newest (Ok outcome))
             (ledger_in self.new) }
@@ -359,7 +403,9 @@ impl Notes {
     /// So many packets were put out that bring neither. There is room for their marks.
     pub(crate) fn put_neithers(&mut self, count: usize)
         requires { deque_len self.old.marks + count ≤ deque_capacity self.old.marks }
-        ensures { AreAlike (with_marks (ledger_in self.old) (neithers count))
+        ensures senders { length self.new.senders.items ≡ length self.old.senders.items }
+        ensures receivers { length self.new.receivers.items ≡ length self.old.receivers.items }
+        ensures noted { AreAlike (with_marks (ledger_in self.old) (neithers count))
             (ledger_in self.new) }
     {
         put_neithers(&mut self.marks, count);
@@ -371,7 +417,10 @@ impl Notes {
         requires phone { phone < length self.old.receivers.items }
         requires room { (r : ReceiversNotes) → slice_get self.old.receivers.items phone ≡ Some r
             → HasRoom r }
-        ensures { AreAlike (delivery_noted (ledger_in self.old) now phone text (Ok outcome))
+        ensures senders { length self.new.senders.items ≡ length self.old.senders.items }
+        ensures receivers { length self.new.receivers.items ≡ length self.old.receivers.items }
+        ensures marks { self.new.marks ≡ self.old.marks }
+        ensures noted { AreAlike (delivery_noted (ledger_in self.old) now phone text (Ok outcome))
             (ledger_in self.new) }
     {
         let receiver = &mut self.receivers[phone];
@@ -381,7 +430,9 @@ impl Notes {
     /// The message with this stamp was pushed to a phone. There is room for its mark.
     pub(crate) fn push(&mut self, phone: usize, stamp: u64)
         requires { deque_len self.old.marks + 1 ≤ deque_capacity self.old.marks }
-        ensures { AreAlike (push_noted (ledger_in self.old) phone stamp (Ok Pushed))
+        ensures senders { length self.new.senders.items ≡ length self.old.senders.items }
+        ensures receivers { length self.new.receivers.items ≡ length self.old.receivers.items }
+        ensures noted { AreAlike (push_noted (ledger_in self.old) phone stamp (Ok Pushed))
             (ledger_in self.new) }
     {
         let mark = match self.stamps.get(&Stamped {

@@ -1,13 +1,20 @@
 //! A world that is watched: it tells whether all that has happened in it came in order.
 
-ghost use Rattle.std.specs.Prelude.{◌≡◌, ◌<◌, IfOk, OnErr, length};
+ghost use Rattle.std.specs.Prelude.{◌≡◌, ◌<◌, ◌-◌, ◌×◌, true, Some, IfOk, OnErr, length};
+ghost use Rattle.std.specs.Option.{unwrap_or};
 ghost use Rattle.sms_script.specs.Meaning.Known.{ArePhones};
 ghost use Rattle.sms_script.specs.Play.Runs.{IsTick};
 ghost use Rattle.sms_script.specs.Script.Limits.{AreLimits};
+ghost use Rattle.sms_centre.specs.Centre.Latest.{latest_at};
+ghost use Rattle.sms_world.specs.Breaches.{breach_at, segment_at, breach_after};
+ghost use Rattle.sms_world.specs.Followed.{IsFollowed, ComesInOrder, Follows};
+ghost use Rattle.sms_world.specs.NotesValue.{ledger_in, IsOfText, AreRowsOf};
+ghost use Rattle.sms_world.specs.World.Asked.{way_at, text_after, text_typed_to, no_text};
 ghost use Rattle.sms_world.specs.Watched.{BeginsWatched, GoesOnWatched, OrderIsTold, StoresAreKept};
 ghost use Rattle.sms_world.specs.World.Steps.{event_of, PutsMore, Steps, IfNowhere};
 
 use crate::fault::WorldFault;
+use crate::laws::{facts_are_told, laws_below, watching_goes_on};
 use crate::notes::Notes;
 use crate::notes::mark::{Facts, TextNote};
 use crate::order::Breach;
@@ -32,8 +39,8 @@ pub struct WatchedWorld {
 }
 
 impl Model for WatchedWorld {
-    ghost use Rattle.std.specs.Prelude.{◌≡◌, length};
-    ghost use Rattle.sms_world.specs.NotesValue.{ledger_in};
+    ghost use Rattle.std.specs.Prelude.{◌×◌};
+    ghost use Rattle.sms_world.specs.NotesValue.{ledger_in, AreRowsOf};
     ghost use Rattle.sms_world.specs.Watched.{WatchedValue, IsWatched};
 
     ghost Value = { WatchedValue };
@@ -82,30 +89,39 @@ impl WatchedWorld {
     pub fn step(&mut self, event: &Event) -> Result<Outcome, WorldFault>
         ensures steps { Steps (event_of event.now) self.old.world result self.new.world }
         ensures goes { GoesOnWatched (event_of event.now) self.old result self.new }
+        ensures phones { length self.new.world.parties.phones
+            ≡ length self.old.world.parties.phones }
+        ensures packets { PutsMore self.old.world self.new.world }
+        ensures kept { OnErr result (self.new.world.packets ≡ self.old.world.packets) }
+        ensures ticks { IsTick event.now → self.new.world.packets ≡ self.old.world.packets }
     {
-        let told = if self.breach.is_some() {
-            self.world.step(event)
-        } else {
-            self.watch(event)
-        };
-        self.events = self.events.saturating_add(1);
+        watching_goes_on();
+        let number = self.events.saturating_add(1);
+        let breach = self.breach_after(number, event);
+        let in_order = breach.is_none();
+        let told = happen(&mut self.world, &mut self.notes, in_order, event);
+        self.events = number;
+        self.breach = breach;
         told
     }
 
-    /// What happens at an event, where all those before came in order.
-    fn watch(&mut self, event: &Event) -> Result<Outcome, WorldFault> {
-        let remembered = self.world.limits().remembered;
-        match self.notes.breach_at(remembered, self.world.clock(), event) {
-            None => happen_in_order(&mut self.world, &mut self.notes, event),
-            Some(disorder) => {
-                self.breach = Some(Breach {
-                    event: self.events.saturating_add(1),
-                    disorder,
-                    segment: self.notes.segment_at(event),
-                });
-                self.world.step(event)
-            }
+    /// The first event that came out of order, if this one comes now, as one of this number.
+    fn breach_after(&self, number: u64, event: &Event) -> Option<Breach>
+        ensures { let remembered = self.now.world.limits.remembered in
+            let disorder = breach_at self.now.notes remembered self.now.world.clock (event_of event.now) in
+            let segment = segment_at self.now.notes (event_of event.now) in
+            result ≡ breach_after self.now.breach number disorder segment }
+    {
+        if let Some(first) = self.breach {
+            return Some(first);
         }
+        let remembered = self.world.limits().remembered;
+        let disorder = self.notes.breach_at(remembered, self.world.clock(), event)?;
+        Some(Breach {
+            event: number,
+            disorder,
+            segment: self.notes.segment_at(event),
+        })
     }
 
     /// The world: its packets, its texts and its stores.
@@ -129,12 +145,52 @@ impl WatchedWorld {
     }
 }
 
+/// What happens at an event: it is noted where it comes in order.
+fn happen(
+    world: &mut World,
+    notes: &mut Notes,
+    in_order: bool,
+    event: &Event,
+) -> Result<Outcome, WorldFault>
+    requires rows { AreRowsOf notes.old world.old }
+    requires in_order { in_order ≡ true → IsFollowed world.old (ledger_in notes.old)
+        × ComesInOrder world.old (ledger_in notes.old) (event_of event.now) }
+    ensures steps { Steps (event_of event.now) world.old result world.new }
+    ensures follows { in_order ≡ true → Follows (event_of event.now) world.old
+        (ledger_in notes.old) result world.new (ledger_in notes.new) }
+    ensures rows { AreRowsOf notes.new world.new }
+    ensures phones { length world.new.parties.phones ≡ length world.old.parties.phones }
+    ensures packets { PutsMore world.old world.new }
+    ensures kept { OnErr result (world.new.packets ≡ world.old.packets) }
+    ensures ticks { IsTick event.now → world.new.packets ≡ world.old.packets }
+{
+    if in_order {
+        happen_in_order(world, notes, event)
+    } else {
+        world.step(event)
+    }
+}
+
 /// An event that comes in order happens, and is noted.
 fn happen_in_order(
     world: &mut World,
     notes: &mut Notes,
     event: &Event,
-) -> Result<Outcome, WorldFault> {
+) -> Result<Outcome, WorldFault>
+    requires rows { AreRowsOf notes.old world.old }
+    requires followed { IsFollowed world.old (ledger_in notes.old) }
+    requires in_order { ComesInOrder world.old (ledger_in notes.old) (event_of event.now) }
+    ensures steps { Steps (event_of event.now) world.old result world.new }
+    ensures follows { Follows (event_of event.now) world.old (ledger_in notes.old) result
+        world.new (ledger_in notes.new) }
+    ensures rows { AreRowsOf notes.new world.new }
+    ensures phones { length world.new.parties.phones ≡ length world.old.parties.phones }
+    ensures packets { PutsMore world.old world.new }
+    ensures kept { OnErr result (world.new.packets ≡ world.old.packets) }
+    ensures ticks { IsTick event.now → world.new.packets ≡ world.old.packets }
+{
+    laws_below();
+    watching_goes_on();
     match world.way_of(event) {
         None => world.step(event),
         Some(way) => happen_at_phone(world, notes, way, event),
@@ -147,17 +203,52 @@ fn happen_at_phone(
     notes: &mut Notes,
     way: Way,
     event: &Event,
-) -> Result<Outcome, WorldFault> {
+) -> Result<Outcome, WorldFault>
+    requires rows { AreRowsOf notes.old world.old }
+    requires followed { IsFollowed world.old (ledger_in notes.old) }
+    requires in_order { ComesInOrder world.old (ledger_in notes.old) (event_of event.now) }
+    requires way { way_at world.old (event_of event.now) ≡ Some way }
+    requires within { way.phone < length world.old.parties.phones }
+    ensures steps { Steps (event_of event.now) world.old result world.new }
+    ensures follows { Follows (event_of event.now) world.old (ledger_in notes.old) result
+        world.new (ledger_in notes.new) }
+    ensures rows { AreRowsOf notes.new world.new }
+    ensures phones { length world.new.parties.phones ≡ length world.old.parties.phones }
+    ensures packets { PutsMore world.old world.new }
+    ensures kept { OnErr result (world.new.packets ≡ world.old.packets) }
+    ensures ticks { IsTick event.now → world.new.packets ≡ world.old.packets }
+{
+    laws_below();
+    watching_goes_on();
+    facts_are_told();
+    typed_texts_are_text(event);
     notes.make_room(way.phone)?;
-    let (now, before) = (world.clock(), world.packet_count());
+    let (limits, now, before) = (world.limits(), world.clock(), world.packet_count());
     let told = world.step(event)?;
     let facts = facts_after(world, way, event, told, before);
-    notes.note(world.limits().reject, now, event, told, facts);
+    notes.note(limits.reject, now, event, told, facts);
     Ok(told)
 }
 
-/// What a world tells after an event that was for a phone, beside its answer.
-fn facts_after(world: &World, way: Way, event: &Event, told: Outcome, before: usize) -> Facts {
+/// A text that is typed is a text. Nothing is done.
+fn typed_texts_are_text(event: &Event)
+    ensures { IsOfText (event_of event.now) }
+{
+    if let Event::Compose { text, .. } = event {
+        let _text = text.as_str();
+    }
+}
+
+/// What a world tells after an event that was for a phone, beside its answer, where so many packets
+/// were there before.
+fn facts_after(world: &World, way: Way, event: &Event, told: Outcome, before: usize) -> Facts
+    requires { way.phone < length world.now.parties.phones }
+    ensures put { result.put ≡ length world.now.packets - before }
+    ensures text { result.text ≡ text_after world.now way.phone (event_of event.now) told }
+    ensures stamp { result.stamp
+        ≡ unwrap_or (latest_at world.now.parties.centre.lines way.phone) 0 }
+    ensures way { (result.up ≡ way.up) × (result.phone ≡ way.phone) }
+{
     Facts {
         put: world.packet_count().saturating_sub(before),
         text: text_after(world, way.phone, event, told),
@@ -168,20 +259,43 @@ fn facts_after(world: &World, way: Way, event: &Event, told: Outcome, before: us
 }
 
 /// What is to be noted of a text, where one was typed at a phone.
-fn text_after(world: &World, phone: usize, event: &Event, told: Outcome) -> TextNote {
-    let mut note = TextNote {
+fn text_after(world: &World, phone: usize, event: &Event, told: Outcome) -> TextNote
+    requires { phone < length world.now.parties.phones }
+    ensures { result ≡ text_after world.now phone (event_of event.now) told }
+{
+    match event {
+        Event::Compose { target, .. } => text_typed_to(world, phone, target, told),
+        _ => no_text(phone),
+    }
+}
+
+/// What is to be noted of a text that was typed at a phone to this address, where one was.
+fn text_typed_to(world: &World, phone: usize, target: &Address, told: Outcome) -> TextNote
+    requires { phone < length world.now.parties.phones }
+    ensures { result ≡ text_typed_to world.now phone target.now told }
+{
+    let Outcome::Typed { text: number } = told else {
+        return no_text(phone);
+    };
+    let (size, reference) = world.newest(phone).unwrap_or((0, 0));
+    TextNote {
+        phone,
+        number,
+        recipient: world.recipient_of(target),
+        size,
+        reference,
+    }
+}
+
+/// What is noted of no text.
+fn no_text(phone: usize) -> TextNote
+    ensures { result ≡ no_text phone }
+{
+    TextNote {
         phone,
         number: 0,
         recipient: None,
         size: 0,
         reference: 0,
-    };
-    if let (Event::Compose { target, .. }, Outcome::Typed { text }) = (event, told) {
-        let (size, reference) = world.newest(phone).unwrap_or((0, 0));
-        note.number = text;
-        note.recipient = world.recipient_of(target);
-        note.size = size;
-        note.reference = reference;
     }
-    note
 }

@@ -7,6 +7,7 @@ ghost use Rattle.std.specs.Prelude.{◌≡◌, ◌≢◌, ◌≤◌, ◌<◌, �
 ghost use Rattle.std.specs.Str.{chars};
 ghost use Rattle.std.specs.Vec.{vec_len, vec_capacity};
 ghost use Rattle.std.specs.Option.{option_map};
+ghost use Rattle.sms_field.specs.Times.{end_of_2099};
 ghost use Rattle.sms_message.specs.Does.{packets_of};
 ghost use Rattle.sms_party.specs.Sender.Value.{status_among};
 ghost use Rattle.sms_script.specs.Meaning.Known.{ArePhones};
@@ -343,7 +344,8 @@ impl World {
 
     /// Seconds since the beginning of 2000.
     pub(crate) fn clock(&self) -> u64
-        ensures { result ≡ self.now.clock }
+        ensures clock { result ≡ self.now.clock }
+        ensures within { result < end_of_2099 }
     {
         self.clock
     }

@@ -1,8 +1,12 @@
 -- What a world can be asked for besides, so that what happens in it can be noted.
-use Rattle.std.specs.Prelude.{◌≡◌, ℕ, zero, suc, true, nat_lt, if◌then◌else◌, List, [], ◌∷◌, ◌++◌, length, Option, Some, None, slice_get}
-use Rattle.std.specs.Option.{option_map}
+use Rattle.std.specs.Prelude.{◌≡◌, ℕ, zero, suc, ◌-◌, ◌×◌, true, nat_lt, if◌then◌else◌, List, [], ◌∷◌, ◌++◌, length, Option, Some, None, slice_get}
+use Rattle.std.specs.Option.{option_map, unwrap_or}
 use Rattle.sms_centre.specs.Centre.Latest.{latest_at}
-use Rattle.sms_centre.specs.Centre.Value.{LineValue}
+use Rattle.sms_field.specs.AddressValue.{AddressValue}
+use Rattle.sms_message.specs.Address.{phone_at}
+use Rattle.sms_message.specs.declared.outcome.Outcome.{Outcome}
+use Rattle.sms_message.specs.declared.outcome.Outcome.TheVariants.{Typed}
+use Rattle.sms_centre.specs.Centre.Value.{LineValue, phones_of}
 use Rattle.sms_centre.specs.Centre.State.{Pushing}
 use Rattle.sms_party.specs.Phone.{PhoneValue}
 use Rattle.sms_party.specs.Sent.{nth}
@@ -10,8 +14,11 @@ use Rattle.sms_party.specs.Sender.Texts.{Text}
 use Rattle.sms_party.specs.Sender.Newest.{newest_in}
 use Rattle.sms_script.specs.Transcript.Lines.{PacketValue}
 use Rattle.sms_world.specs.declared.world.sent_packet.Way.{Way}
+use Rattle.sms_world.specs.Ledger.{TextNote}
+use Rattle.sms_world.specs.Noted.{Facts}
 use Rattle.sms_world.specs.Machine.{Machine}
 use Rattle.sms_world.specs.Machine.Event.{Event, Compose, Carry, Timeout, Push, Tick, Inject}
+use Rattle.sms_world.specs.World.Parties.{place_at}
 use Rattle.sms_world.specs.World.Standing.{StandsFor}
 use Rattle.sms_world.specs.World.Value.{WorldValue}
 
@@ -22,6 +29,42 @@ newest_of (Some phone) = newest_in phone.sender
 
 abbrev pub newest_at : List PhoneValue → ℕ → Option (ℕ × ℕ)
 newest_at phones p = newest_of (slice_get phones p)
+
+-- ---- what is told after an event
+
+-- of no text
+abbrev pub no_text : ℕ → TextNote
+no_text phone = record { phone = phone; number = 0; recipient = None; size = 0; reference = 0 }
+
+-- of a text that was typed at a phone, as the one of this number there, to an address
+abbrev pub text_typed : WorldValue → ℕ → AddressValue → ℕ → TextNote
+text_typed v phone target number =
+    let newest = unwrap_or (newest_at v.parties.phones phone) (0, 0) in
+    record {
+      phone = phone;
+      number = number;
+      recipient = phone_at (phones_of v.parties.centre) target;
+      size = newest.0;
+      reference = newest.1;
+    }
+
+-- where one was typed
+abbrev pub text_typed_to : WorldValue → ℕ → AddressValue → Outcome → TextNote
+text_typed_to v phone target (Typed number) = text_typed v phone target number
+text_typed_to v phone target _ = no_text phone
+
+abbrev pub text_after : WorldValue → ℕ → Event → Outcome → TextNote
+text_after v phone (Compose p target characters) told = text_typed_to v phone target told
+text_after v phone _ told = no_text phone
+
+abbrev pub facts_after : WorldValue → WorldValue → Way → Event → Outcome → Facts
+facts_after old new way event told =
+    record {
+      put = length new.packets - length old.packets;
+      text = text_after new way.phone event told;
+      stamp = unwrap_or (latest_at new.parties.centre.lines way.phone) 0;
+      to = place_at way.up way.phone;
+    }
 
 -- ---- the way of an event
 
