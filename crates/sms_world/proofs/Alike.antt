@@ -16,7 +16,7 @@ use Rattle.sms_world.specs.Ledger.{Mark, Submits, Delivers, Neither, mark_at, ca
 use Rattle.sms_world.specs.Noted.{Facts, neithers, with_marks, sender_noted, delivery_noted, other_noted, carry_noted, noted}
 use Rattle.sms_world.specs.Machine.{Machine}
 use Rattle.sms_world.specs.Machine.Event.{Event, Compose, Carry, Timeout, Push, Tick, Inject, Act, Composes, Carries, TimesOut, Pushes, Ticks, Injects, Is}
-use Rattle.sms_world.specs.Machine.Next.{Next, next, stays, carries, packet}
+use Rattle.sms_world.specs.Machine.Next.{Next, next, stays, entered, carries, packet}
 use Rattle.sms_world.specs.Machine.Step.{Acts, Step}
 use Rattle.sms_world.specs.World.Asked.{packet_of, way_at, way_at_phone, way_of_packet}
 use Rattle.sms_world.specs.World.Standing.{StandsFor}
@@ -43,6 +43,9 @@ then l k j a b =
 
 pub from_equal : (l k : Ledger) → l ≡ k → AreAlike l k
 from_equal l k e = subst (λ v. AreAlike l v) e (same l)
+
+pub marks_alike : (l k : Ledger) (marks : List Mark) → AreAlike l k → AreAlike (with_marks l marks) (with_marks k marks)
+marks_alike l k marks a = record { marks = ap (entered marks) a.marks; texts = a.texts; sender = a.sender; ends = a.ends; stamped = a.stamped; free = a.free; receiver = a.receiver }
 
 -- ---- a fault
 

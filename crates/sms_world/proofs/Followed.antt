@@ -14,9 +14,9 @@ use Rattle.sms_world.specs.declared.order.Disorder.{Disorder}
 use Rattle.sms_world.specs.declared.order.TextSegment.{TextSegment}
 use Rattle.sms_world.specs.declared.world.sent_packet.Way.{Way}
 use Rattle.sms_world.specs.Below.{Below}
-use Rattle.sms_world.specs.Breaches.{breach_at, segment_at, Watches, breach_after, WatchingGoesOn}
+use Rattle.sms_world.specs.Breaches.{breach_at, segment_at, IsTold, Watches, breach_after, WatchingGoesOn}
 use Rattle.sms_world.specs.Followed.{IsFollowed, ComesInOrder, Follows}
-use Rattle.sms_world.specs.Ledger.{Ledger, AreAlike}
+use Rattle.sms_world.specs.Ledger.{Ledger, new_ledger, AreAlike}
 use Rattle.sms_world.specs.Machine.{Machine, start}
 use Rattle.sms_world.specs.Machine.Event.{Event}
 use Rattle.sms_world.specs.Machine.Step.{Step, no_memory}
@@ -24,10 +24,12 @@ use Rattle.sms_world.specs.Noted.{Facts, AreFacts, noted}
 use Rattle.sms_world.specs.NotesValue.{IsCounted, IsFor, IsOfText}
 use Rattle.sms_world.specs.Orderly.{IsOrderly}
 use Rattle.sms_world.specs.Told.{Told}
-use Rattle.sms_world.specs.Watched.{WatchedValue, LedTo, ComesOf}
+use Rattle.sms_world.specs.Watched.{WatchedValue, LedTo, ComesOf, IsWatched, OrderIsTold, StoresAreKept}
 use Rattle.sms_world.specs.World.Asked.{facts_after, way_at, FactsAreTold}
 use Rattle.sms_world.specs.World.Standing.{ArePacketsOf, StandsFor}
+use Rattle.sms_world.specs.World.Claims.{StoresAreWhole}
 use Rattle.sms_world.specs.World.Steps.{Steps}
+use Rattle.sms_message.specs.Address.{are_distinct}
 use Rattle.sms_world.specs.World.Value.{WorldValue}
 use Rattle.sms_world.proofs.Alike.{same, then, fault_alike, nothing_noted}
 use Rattle.sms_world.proofs.Checked.{TextsFit}
@@ -37,6 +39,12 @@ use Rattle.sms_world.proofs.FewOut.{step_few}
 use Rattle.sms_world.proofs.Fitting.{run_fits}
 use Rattle.sms_world.proofs.Headline.{Orderly, run_orderly}
 use Rattle.sms_world.proofs.Wanting.{want_of_memory}
+
+no_breach : (breach : Option Breach) (number : ℕ) (disorder : Option Disorder) (segment : Option TextSegment) → breach_after breach number disorder segment ≡ None
+    → (breach ≡ None) × (disorder ≡ None)
+no_breach (Some b) number disorder segment e = cc
+no_breach None number None segment e = (refl, refl)
+no_breach None number (Some d) segment e = cc
 
 -- ---- what a world's limits and clock tell
 
@@ -58,7 +66,7 @@ module _ (law : Below) (watching : WatchingGoesOn) where
       → Watches limits phones ((event, told) ∷ past) n k None
   on limits phones past m l k w event told put n step f facts c a =
       watching.alike limits phones ((event, told) ∷ past) n (noted l limits.reject m.clock event told f) k None a
-      (watching.goes_on limits phones past m l None w event told put n step f facts None None (λ _. sym c))
+      (watching.goes_on limits phones past m l None w event told put n step f facts None (segment_at l event) (λ _. sym c) (λ _. refl))
 
   module _ (old : WorldValue) (l : Ledger) (event : Event) (c : ComesInOrder old l event) where
     -- there is no memory for what is to be noted
@@ -139,12 +147,6 @@ module _ (law : Below) (watching : WatchingGoesOn) where
       → Watches limits phones past m l (Some b) → Watches limits phones past m k (Some b)
   any_notes limits phones past m l k b w = record { distinct = w.distinct; run = w.run; settled = w.settled; tells = w.tells; notes = tt }
 
-  no_breach : (breach : Option Breach) (number : ℕ) (disorder : Option Disorder) (segment : Option TextSegment) → breach_after breach number disorder segment ≡ None
-      → (breach ≡ None) × (disorder ≡ None)
-  no_breach (Some b) number disorder segment e = cc
-  no_breach None number None segment e = (refl, refl)
-  no_breach None number (Some d) segment e = cc
-
   pub watched_on : (old new : WatchedValue) (event : Event) (told : Told) → Steps event old.world told new.world → new.events ≡ min (old.events + 1) (2 ^ 64 - 1)
       → new.breach ≡ breach_after old.breach new.events (breach_at old.notes old.world.limits.remembered old.world.clock event) (segment_at old.notes event)
       → (new.breach ≡ None → Follows event old.world old.notes told new.world new.notes)
@@ -165,7 +167,7 @@ module _ (law : Below) (watching : WatchingGoesOn) where
           let f = some_facts m event told t.0 t.1 in
           let same_breach = breach_there limits phones past m old.notes old.breach led.watches old.world led.stands event in
           let w = watching.goes_on limits phones past m old.notes old.breach led.watches event told t.0 t.1 t.2 f.0 f.2
-          (breach_at old.notes old.world.limits.remembered old.world.clock event) (segment_at old.notes event) (λ _. same_breach) in
+          (breach_at old.notes old.world.limits.remembered old.world.clock event) (segment_at old.notes event) (λ _. same_breach) (λ _. refl) in
           let is : breach_after old.breach (min (suc (length past)) (2 ^ 64 - 1)) (breach_at old.notes old.world.limits.remembered old.world.clock event) (segment_at old.notes event) ≡ Some b
           = ap (λ i. breach_after old.breach i (breach_at old.notes old.world.limits.remembered old.world.clock event) (segment_at old.notes event)) (sym counts) ∙ (sym breach ∙ e) in (
             t.1,
@@ -176,3 +178,44 @@ module _ (law : Below) (watching : WatchingGoesOn) where
               counted = counts;
             },
           )
+
+-- an event that is told as in order comes in order
+pub in_order_there : (w : WatchedValue) → IsWatched w → (number : ℕ) (event : Event)
+    → breach_after w.breach number (breach_at w.notes w.world.limits.remembered w.world.clock event) (segment_at w.notes event) ≡ None
+    → IsFollowed w.world w.notes × ComesInOrder w.world w.notes event
+in_order_there w h number event e =
+    let none = no_breach w.breach number _ _ e in (
+      record {
+        limits = h.limits;
+        phones = h.phones;
+        past = h.past;
+        last = h.last;
+        watches = subst (λ b. Watches h.limits h.phones h.past h.last w.notes b) none.0 h.led.watches;
+        stands = h.led.stands;
+      },
+      none.1,
+    )
+
+-- ---- its beginning, and what it tells
+
+pub led_begins : WatchingGoesOn → (limits : Limits) (phones : List AddressValue) (world : WorldValue) (l : Ledger) → are_distinct phones ≡ true → StandsFor world (start limits phones) → AreAlike new_ledger l
+    → LedTo (record { world = world; notes = l; events = 0; breach = None }) limits phones [] (start limits phones)
+led_begins watching limits phones world l distinct stands alike =
+    record {
+      watches = watching.alike limits phones [] (start limits phones) new_ledger l None alike (watching.begins limits phones distinct);
+      stands = stands;
+      counted = omega arith;
+    }
+
+pub is_watched : (w : WatchedValue) (limits : Limits) (phones : List AddressValue) (past : List (Event × Told)) (last : Machine) → LedTo w limits phones past last → IsWatched w
+is_watched w limits phones past last led = record { limits = limits; phones = phones; past = past; last = last; led = led }
+
+pub comes_of : (w : WatchedValue) (limits : Limits) (phones : List AddressValue) (past : List (Event × Told)) (last : Machine) → LedTo w limits phones past last → ComesOf limits phones past w
+comes_of w limits phones past last led = (last, led.watches.run, led)
+
+pub told_in_order : (w : WatchedValue) → OrderIsTold w w.breach
+told_in_order w limits phones past last led = led.watches.tells
+
+pub kept_stores : ((world : WorldValue) → StoresAreWhole world) → (w : WatchedValue) → StoresAreKept w w.breach
+kept_stores whole w none limits phones past last led phone within =
+    whole w.world limits phones past last (subst (IsTold (start limits phones) past last) none led.watches.tells) led.stands phone within

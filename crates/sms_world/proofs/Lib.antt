@@ -58,6 +58,7 @@ pub mod Alike
 pub mod Factual
 pub mod Wanting
 pub mod Counted
+pub mod MayCall
 pub mod Followed
 pub mod Unread
 pub mod Rejecting

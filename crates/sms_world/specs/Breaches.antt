@@ -1,5 +1,5 @@
 -- The first event of a run that comes out of order, and a condition that it breaks.
-use Rattle.std.specs.Prelude.{◌≡◌, ℕ, min, ◌^◌, ◌-◌, Bool, true, nat_lt, List, [], ◌∷◌, ◌++◌, length, if◌then◌else◌, suc, Option, Some, None}
+use Rattle.std.specs.Prelude.{◌≡◌, ◌⊎◌, ℕ, min, ◌^◌, ◌-◌, Bool, true, nat_lt, List, [], ◌∷◌, ◌++◌, length, if◌then◌else◌, suc, Option, Some, None}
 use Rattle.sms_field.specs.AddressValue.{AddressValue}
 use Rattle.sms_message.specs.Address.{are_distinct}
 use Rattle.sms_party.specs.Sent.{nth, Sent}
@@ -13,6 +13,11 @@ use Rattle.sms_world.specs.Machine.{Machine, start}
 use Rattle.sms_world.specs.Machine.Event.{Event, Compose, Carry, Timeout, Push, Tick, Inject}
 use Rattle.sms_world.specs.Machine.Step.{Step, Run}
 use Rattle.sms_world.specs.Orderly.{IsOrderly, OrderlyRun}
+use Rattle.sms_tpdu.specs.Submit.{Submission}
+use Rattle.sms_tpdu.specs.Deliver.{Delivery}
+use Rattle.sms_message.specs.Message.{Origin}
+use Rattle.sms_party.specs.Sender.Texts.{Text}
+use Rattle.sms_world.specs.Orderly.Brought.{BringsSubmission, BringsDelivery}
 use Rattle.sms_world.specs.Orderly.Repeats.{RepeatsAskForRejection}
 use Rattle.sms_world.specs.Orderly.Keys.{NoKeyIsUsedAgain}
 use Rattle.sms_world.specs.Orderly.Late.{LateSegmentsAreRemembered}
@@ -81,6 +86,23 @@ abbrev pub segment_at : Ledger → Event → Option TextSegment
 segment_at l (Carry k) = segment_of l (mark_at l.marks k)
 segment_at l _ = None
 
+-- The event brings this segment of this text: in an SMS-SUBMIT to the centre, or in an SMS-DELIVER to
+-- a phone.
+pub record Brings (m : Machine) (event : Event) (x : TextSegment) : Type 0 where
+  pub origin : Origin
+  pub text : Text
+  pub there : nth m.senders.texts origin.text ≡ Some text
+  pub typed_at : text.phone ≡ x.phone
+  pub numbered : text.number ≡ x.text
+  pub as_segment : origin.segment ≡ x.segment
+  pub comes : ((phone : ℕ) × (s : Submission) × BringsSubmission m event phone s (Some origin))
+      ⊎ ((phone : ℕ) × (d : Delivery) × BringsDelivery m event phone d (Some origin))
+
+-- none is brought by an injection alone
+abbrev pub BringsSegment : Machine → Event → Option TextSegment → Type 0
+BringsSegment m event (Some x) = Brings m event x
+BringsSegment m event None = NothingIsInjected event → ⊥
+
 -- the event comes in order, or breaks this condition
 abbrev pub IsSo : Option Disorder → Machine → Event → Type 0
 IsSo None m event = IsOrderly m event
@@ -88,7 +110,7 @@ IsSo (Some disorder) m event = Breaks disorder m event
 
 -- ---- of a whole run
 
--- This event is the first that comes out of order, and breaks this condition. (Events are counted
+-- This event is the first that comes out of order, breaks this condition, and brings this segment. (Events are counted
 -- from 1, and no further than a number of 64 bits goes.)
 pub record FirstBreach (first : Machine) (past : List (Event × Told)) (b : Breach) : Type 0 where
   pub later : List (Event × Told)
@@ -99,6 +121,7 @@ pub record FirstBreach (first : Machine) (past : List (Event × Told)) (b : Brea
   pub before : Machine
   pub orderly : OrderlyRun first earlier before
   pub breaks : Breaks b.disorder before event
+  pub brings : BringsSegment before event b.segment
   pub number : b.event ≡ min (suc (length earlier)) (2 ^ 64 - 1)
 
 -- So far the run is orderly; or this is its first breach, and it is not.
@@ -149,6 +172,7 @@ pub record WatchingGoesOn : Type 0 where
       → (f : Facts) → AreFacts m event told put n f
       → (disorder : Option Disorder) (segment : Option TextSegment)
       → (breach ≡ None → disorder ≡ breach_at l limits.remembered m.clock event)
+      → (breach ≡ None → segment ≡ segment_at l event)
       → Watches limits phones ((event, told) ∷ past) n
       (noted l limits.reject m.clock event told f)
       (breach_after breach (min (suc (length past)) (2 ^ 64 - 1)) disorder segment)

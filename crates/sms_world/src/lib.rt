@@ -9,6 +9,7 @@ mod order;
 mod playing;
 mod running;
 mod watched;
+mod watching;
 mod words;
 mod world;
 
@@ -24,11 +25,12 @@ pub use laws::{
 };
 pub use order::{Breach, Disorder, TextSegment};
 pub use playing::{play, told_stores_stand};
-pub use running::{run, run_watched};
+pub use running::run;
 pub use sms_message::{Dropped, Outcome};
 pub use sms_party::{Entry, Status};
 pub use sms_script::{
     DeviceFailed, Event, Limits, Octets, PlayFault, ScriptFault, Sink, Source, Text, Watched,
 };
 pub use watched::WatchedWorld;
+pub use watching::run_watched;
 pub use world::World;

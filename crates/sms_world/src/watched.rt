@@ -14,7 +14,7 @@ ghost use Rattle.sms_world.specs.Watched.{BeginsWatched, GoesOnWatched, OrderIsT
 ghost use Rattle.sms_world.specs.World.Steps.{event_of, PutsMore, Steps, IfNowhere};
 
 use crate::fault::WorldFault;
-use crate::laws::{facts_are_told, laws_below, watching_goes_on};
+use crate::laws::{claims_hold, facts_are_told, laws_below, watching_goes_on};
 use crate::notes::Notes;
 use crate::notes::mark::{Facts, TextNote};
 use crate::order::Breach;
@@ -75,6 +75,7 @@ impl WatchedWorld {
         ensures begins { IfOk result (BeginsWatched limits phones.now) }
         ensures phones { IfOk result (λ w. length w.world.parties.phones ≡ length phones.now) }
     {
+        watching_goes_on();
         Ok(WatchedWorld {
             world: World::new(alloc, limits, phones)?,
             notes: Notes::new(alloc, phones.len())?,
@@ -141,6 +142,7 @@ impl WatchedWorld {
         ensures told { OrderIsTold self.now result }
         ensures kept { StoresAreKept self.now result }
     {
+        claims_hold();
         self.breach
     }
 }
