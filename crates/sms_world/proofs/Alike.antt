@@ -29,8 +29,8 @@ use Rattle.sms_world.proofs.Replaced.{not_changed}
 pub same : (l : Ledger) → AreAlike l l
 same l = record { marks = refl; texts = refl; sender = λ p. refl; ends = λ o. refl; stamped = λ r x. refl; free = λ r. refl; receiver = λ p. refl }
 
-pub then : (l k j : Ledger) → AreAlike l k → AreAlike k j → AreAlike l j
-then l k j a b =
+pub joined : (l k j : Ledger) → AreAlike l k → AreAlike k j → AreAlike l j
+joined l k j a b =
     record {
       marks = b.marks ∙ a.marks;
       texts = b.texts ∙ a.texts;
@@ -106,7 +106,7 @@ module _ (v : WorldValue) (m : Machine) (h : StandsFor v m) (told : Told) where
   no_phone : (phone : ℕ) (d : Next) → way_at_phone v phone ≡ None → cond (ltb phone (length m.phones)) d (stays m (Err NoSuchPhone)) ≡ stays m (Err NoSuchPhone)
   no_phone phone d e = go (ltb phone (length v.parties.phones)) refl e
     where
-      go : (b : Bool) → ltb phone (length v.parties.phones) ≡ b → cond b (Some (record { up = true; phone = phone })) None ≡ None
+      go : (b : Bool) → ltb phone (length v.parties.phones) ≡ b → cond {A = Option Way} b (Some (record { up = true; phone = phone })) None ≡ None
           → cond (ltb phone (length m.phones)) d (stays m (Err NoSuchPhone)) ≡ stays m (Err NoSuchPhone)
       go true f x = cc
       go false f x = ap (λ b. cond b d (stays m (Err NoSuchPhone))) (ap (ltb phone) (sym h.parties_stand.as_many) ∙ f)
@@ -115,7 +115,7 @@ module _ (v : WorldValue) (m : Machine) (h : StandsFor v m) (told : Told) where
   no_packet_there zero e = no_packet_0 m
   no_packet_there (suc k) e = packet_not_there m v.packets k h.packets_are (go (slice_get v.packets k) e)
     where
-      go : (x : Option PacketValue) → option_map (λ (p : PacketValue). record { up = p.is_up; phone = p.phone }) x ≡ None → x ≡ None
+      go : (x : Option PacketValue) → option_map {U = Way} (λ (p : PacketValue). record { up = p.is_up; phone = p.phone }) x ≡ None → x ≡ None
       go None e = refl
       go (Some p) e = cc
 

@@ -10,7 +10,8 @@ use Rattle.sms_message.specs.declared.message.TransferUnit.TheVariants.{Submit, 
 use Rattle.sms_message.specs.declared.message.Relay.TheVariants.{Transfer, Answer, UnknownType, Unreadable}
 use Rattle.sms_message.specs.declared.message.Message.{Message}
 use Rattle.sms_message.specs.declared.message.Message.TheVariants.{NotCp, Note, Tiny, Data}
-use Rattle.sms_message.specs.Address.{phone_at, same_address}
+use Rattle.sms_message.specs.Address.{phone_at}
+use Rattle.sms_field.specs.SameAddress.{same_address}
 use Rattle.sms_message.specs.Message.{Origin}
 use Rattle.sms_centre.specs.Centre.State.{Acceptance}
 use Rattle.sms_centre.specs.Centre.Held.{next_stamp}

@@ -85,12 +85,16 @@ module _ (m : Machine) (phone : ℕ) (target : AddressValue) where
   stays_untyped number t before e s = cc
 
   pending_kept : (texts : List Text) (s : Sender) (reject : Bool) → (puts texts phone s reject).sender.pending ≡ s.pending
-  unfolding puts puts_first puts_text
+  unfolding puts
   pending_kept texts s reject = go s.pending refl
     where
+      text : (n : ℕ) (v : Option Text) → (puts_text phone s n reject v).sender.pending ≡ s.pending
+      text n None = unfold puts_text in refl
+      text n (Some t) = unfold puts_text in refl
+
       go : (ns : List ℕ) → s.pending ≡ ns → (puts_first texts phone s reject ns).sender.pending ≡ s.pending
-      go [] e = refl
-      go (n ∷ later) e = refl
+      go [] e = unfold puts_first in refl
+      go (n ∷ later) e = unfold puts_first in text n (nth texts n)
 
   typed_so : (u : Text) → u.phone ≡ phone → u.target ≡ target → WasTyped (by_sender m (typed m.senders phone u))
   unfolding by_sender typed does with_sender appended
@@ -127,9 +131,9 @@ module _ (m : Machine) (phone : ℕ) (target : AddressValue) where
 way_phone : (v : WorldValue) (phone : ℕ) (way : Way) → way_at_phone v phone ≡ Some way → (way ≡ record { up = true; phone = phone }) × (ltb phone (length v.parties.phones) ≡ true)
 way_phone v phone way e = go (ltb phone (length v.parties.phones)) refl e
   where
-    go : (b : Bool) → ltb phone (length v.parties.phones) ≡ b → cond b (Some (record { up = true; phone = phone })) None ≡ Some way
+    go : (b : Bool) → ltb phone (length v.parties.phones) ≡ b → cond {A = Option Way} b (Some (record { up = true; phone = phone })) None ≡ Some way
         → (way ≡ record { up = true; phone = phone }) × (ltb phone (length v.parties.phones) ≡ true)
-    go true f x = (let q : record { up = true; phone = phone } ≡ way = cc in sym q, f)
+    go true f x = (let q : ◌≡◌ {A = Way} (record { up = true; phone = phone }) way = cc in sym q, f)
     go false f x = cc
 
 pub phone_there : (v : WorldValue) (phone : ℕ) (way : Way) → way_at_phone v phone ≡ Some way → (phone ≡ way.phone) × (ltb phone (length v.parties.phones) ≡ true)
@@ -145,14 +149,17 @@ pub goes_so : (v : WorldValue) (m : Machine) → StandsFor v m → (k : ℕ) (wa
 goes_so v m h zero way e = cc
 goes_so v m h (suc k) way e = go (slice_get v.packets k) refl e
   where
-    go : (x : Option PacketValue) → slice_get v.packets k ≡ x → option_map (λ (p : PacketValue). record { up = p.is_up; phone = p.phone }) x ≡ Some way → Goes v m (suc k) way
+    go : (x : Option PacketValue) → slice_get v.packets k ≡ x → option_map {U = Way} (λ (p : PacketValue). record { up = p.is_up; phone = p.phone }) x ≡ Some way → Goes v m (suc k) way
     go None f e = cc
     go (Some p) f e =
         let s = packet_there m v.packets k p h.packets_are f in
-        let w : record { up = p.is_up; phone = p.phone } ≡ way = cc in
+        let w : ◌≡◌ {A = Way} (record { up = p.is_up; phone = p.phone }) way = cc in
         record { entry = s.entry; there = s.is_there; to = s.is_packet.0 ∙ ap (λ (q : Way). place_at q.up q.phone) w }
 
 -- ---- all facts
+
+abbrev the_note : ℕ → ℕ → Option ℕ → ℕ → ℕ → TextNote
+the_note phone number recipient size reference = record { phone = phone; number = number; recipient = recipient; size = size; reference = reference }
 
 module _ (told : FactsAreTold) (old new : WorldValue) (m n : Machine) (h : StandsFor old m) (k : StandsFor new n) (put : List Sent) (packets : List PacketValue)
     (more : new.packets ≡ old.packets ++ packets) (are : ArePacketsOf packets put) (phones : length new.parties.phones ≡ length old.parties.phones) where
@@ -176,11 +183,15 @@ module _ (told : FactsAreTold) (old new : WorldValue) (m n : Machine) (h : Stand
       let reference : (unwrap_or (newest_at new.parties.phones phone) (0, 0)).1 ≡ t.set_reference = ap (λ (o : Option (ℕ × ℕ)). (unwrap_or o (0, 0)).1) newest in
       let recipient : phone_at (phones_of new.parties.centre) target ≡ phone_at n.phones t.target
       = ap (λ ps. phone_at ps target) k.parties_stand.centre_stands.phones_are ∙ ap (phone_at n.phones) (sym s.to) in
-      rw (sym s.at, s.as_number, recipient, size, reference) refl
+      ap (λ (x : ℕ). the_note x number (phone_at (phones_of new.parties.centre) target) (unwrap_or (newest_at new.parties.phones phone) (0, 0)).0 (unwrap_or (newest_at new.parties.phones phone) (0, 0)).1) (sym s.at)
+      ∙ (ap (λ (x : ℕ). the_note t.phone x (phone_at (phones_of new.parties.centre) target) (unwrap_or (newest_at new.parties.phones phone) (0, 0)).0 (unwrap_or (newest_at new.parties.phones phone) (0, 0)).1) s.as_number
+      ∙ (ap (λ (x : Option ℕ). the_note t.phone t.number x (unwrap_or (newest_at new.parties.phones phone) (0, 0)).0 (unwrap_or (newest_at new.parties.phones phone) (0, 0)).1) recipient
+      ∙ (ap (λ (x : ℕ). the_note t.phone t.number (phone_at n.phones t.target) x (unwrap_or (newest_at new.parties.phones phone) (0, 0)).1) size
+      ∙ ap (λ (x : ℕ). the_note t.phone t.number (phone_at n.phones t.target) (length t.pieces) x) reference)))
 
   module _ (event : Event) (o : Outcome) (step : Step m event (Ok o) put n) (way : Way) (is : way_at old event ≡ Some way) where
     typed_told : (phone : ℕ) (target : AddressValue) (characters : List ℕ) (number : ℕ) (t : Text) (before : List Text) → event ≡ Compose phone target characters
-        → Ok o ≡ Ok (outcome.Typed number) → n.senders.texts ≡ t ∷ before → text_after new way.phone event o ≡ note_of n.phones t
+        → ◌≡◌ {A = Told} (Ok o) (Ok (outcome.Typed number)) → n.senders.texts ≡ t ∷ before → text_after new way.phone event o ≡ note_of n.phones t
     typed_told phone target characters number t before e f g =
         let o_is : o ≡ outcome.Typed number = cc in
         let there = phone_there old phone way (subst (λ v. way_at old v ≡ Some way) e is) in
@@ -198,7 +209,7 @@ module _ (told : FactsAreTold) (old new : WorldValue) (m n : Machine) (h : Stand
                 (λ after answer. next_so m phone target characters s.1.0 number t before (answer ∙ f) (ap (λ (x : Machine). x.senders.texts) after ∙ g)) a.2 a.0) l
             by (inr a) = cc
 
-    stamp_told : (phone : ℕ) (p : Pushing) → event ≡ Push phone → Ok o ≡ Ok outcome.Pushed → (n.centre.line phone).latest ≡ Some p
+    stamp_told : (phone : ℕ) (p : Pushing) → event ≡ Push phone → ◌≡◌ {A = Told} (Ok o) (Ok outcome.Pushed) → (n.centre.line phone).latest ≡ Some p
         → unwrap_or (latest_at new.parties.centre.lines way.phone) 0 ≡ p.message.stamp
     stamp_told phone p e f g =
         let there = phone_there old phone way (subst (λ v. way_at old v ≡ Some way) e is) in
@@ -246,6 +257,7 @@ place_told m _ = Centre 0
 
 -- the facts of any step
 pub some_facts : (m : Machine) (event : Event) (told : Told) (put : List Sent) (n : Machine) → (f : Facts) × (f.put ≡ length put) × AreFacts m event told put n f
+unfolding newest_note stamp_of stamp_in place_told place_in
 some_facts m event told put n = (
   record { put = length put; text = newest_note n.phones n.senders.texts; stamp = stamp_of n event; to = place_told m event },
   refl,

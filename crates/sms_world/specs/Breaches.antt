@@ -42,6 +42,10 @@ repeat_breach (Some ends) now reject =
     then (if reject then None else Some RepeatWithoutRejection)
     else Some RepeatAfterTheEnd
 
+abbrev pub submission_breach : Ledger → ℕ → ℕ → ℕ → Bool → Option Disorder
+submission_breach l now text segment reject =
+    repeat_breach (l.ends (record { text = text; segment = segment })) now reject
+
 abbrev pub arrival_breach : Ledger → ℕ → ℕ → ℕ → ℕ → Option Disorder
 arrival_breach l remembered now phone text =
     if is_key_in_use l.texts remembered now (l.receiver phone) text
@@ -52,7 +56,7 @@ arrival_breach l remembered now phone text =
 
 abbrev pub mark_breach : Ledger → ℕ → ℕ → Mark → Option Disorder
 mark_breach l remembered now (Submits text segment reject) =
-    repeat_breach (l.ends (record { text = text; segment = segment })) now reject
+    submission_breach l now text segment reject
 mark_breach l remembered now (Delivers phone text segment) =
     arrival_breach l remembered now phone text
 mark_breach l remembered now Neither = None

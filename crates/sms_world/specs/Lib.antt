@@ -14,6 +14,7 @@ pub mod Ledger
 pub mod OrderTold
 pub mod Noted
 pub mod NotesValue
+pub mod Tables
 pub mod Breaches
 pub mod Followed
 pub mod Watched

@@ -6,6 +6,7 @@ use Rattle.sms_script.specs.declared.meaning.event.Event as script
 use Rattle.sms_world.specs.declared.order.Breach.{Breach}
 use Rattle.sms_world.specs.Breaches.{IsTold, Watches}
 use Rattle.sms_world.specs.Ledger.{Ledger}
+use Rattle.sms_world.specs.Tables.{Tables, ledger_of}
 use Rattle.sms_world.specs.Machine.{Machine, start}
 use Rattle.sms_world.specs.Machine.Event.{Event}
 use Rattle.sms_world.specs.Machine.Step.{Run}
@@ -18,7 +19,7 @@ use Rattle.sms_world.specs.World.Value.{WorldValue}
 pub record WatchedValue : Type 0 where
   pub world : WorldValue
   -- what is noted of the events
-  pub notes : Ledger
+  pub notes : Tables
   -- how many there were
   pub events : ℕ
   -- the first that came out of order
@@ -26,11 +27,17 @@ pub record WatchedValue : Type 0 where
 
 -- These events, each with its answer, the newest first, have led from the first state of these
 -- limits and phones to the last, for which the world stands; and they were watched.
-pub record LedTo (w : WatchedValue) (limits : Limits) (phones : List AddressValue)
-    (past : List (Event × Told)) (last : Machine) : Type 0 where
-  pub watches : Watches limits phones past last w.notes w.breach
-  pub stands : StandsFor w.world last
-  pub counted : w.events ≡ min (length past) (2 ^ 64 - 1)
+pub record LedBy (world : WorldValue) (l : Ledger) (events : ℕ) (breach : Option Breach)
+    (limits : Limits) (phones : List AddressValue) (past : List (Event × Told))
+    (last : Machine) : Type 0 where
+  pub watches : Watches limits phones past last l breach
+  pub stands : StandsFor world last
+  pub counted : events ≡ min (length past) (2 ^ 64 - 1)
+
+abbrev pub LedTo : WatchedValue → Limits → List AddressValue → List (Event × Told) → Machine
+    → Type 0
+LedTo w limits phones past last =
+    LedBy w.world (ledger_of w.notes) w.events w.breach limits phones past last
 
 -- There is such a run, which is the one of these events and answers.
 abbrev pub ComesOf : Limits → List AddressValue → List (Event × Told) → WatchedValue → Type 0

@@ -9,7 +9,7 @@ mod order;
 mod playing;
 mod running;
 mod watched;
-mod watching;
+mod watched_run;
 mod words;
 mod world;
 
@@ -32,5 +32,5 @@ pub use sms_script::{
     DeviceFailed, Event, Limits, Octets, PlayFault, ScriptFault, Sink, Source, Text, Watched,
 };
 pub use watched::WatchedWorld;
-pub use watching::run_watched;
+pub use watched_run::run_watched;
 pub use world::World;

@@ -15,7 +15,7 @@ ghost use Rattle.sms_world.specs.Noted.{holds, neithers, with_marks, delivery_no
 ghost use Rattle.sms_world.specs.declared.notes.receiver.ReceiverNotes.{ReceiverNotes as ReceiversNotes};
 ghost use Rattle.sms_world.specs.declared.notes.mark.Part.{Part as PartValue};
 ghost use Rattle.sms_world.specs.declared.notes.mark.Stamped.{Stamped as StampedValue};
-ghost use Rattle.sms_world.specs.Breaches.{breach_at, repeat_breach, arrival_breach, segment_at, segment_in};
+ghost use Rattle.sms_world.specs.Breaches.{breach_at, repeat_breach, submission_breach, arrival_breach, segment_at, segment_in};
 ghost use Rattle.sms_world.specs.Ledger.{mark_at, same_set, another_finished, another_open, Submits, Delivers, Neither, AreAlike, new_ledger};
 ghost use Rattle.sms_world.specs.NotesValue.{ledger_in, text_at, part_eq, stamped_eq, origin_of_part, free_at, sender_at, receiver_at, HasRoom, HasRoomAt, MayCome, MayHold, IsCounted, IsMarkFor, IsFor, facts_of};
 ghost use Rattle.std.specs.Vec.{vec_len, vec_capacity};
@@ -142,8 +142,7 @@ impl Notes {
         segment: usize,
         reject: bool,
     ) -> Option<Disorder>
-        ensures { let o = record { text = text; segment = segment } in
-            result ≡ repeat_breach ((ledger_in self.now).ends o) now reject }
+        ensures { result ≡ submission_breach (ledger_in self.now) now text segment reject }
     {
         match self.ends.get(&Part { text, segment }) {
             None => None,
@@ -262,7 +261,8 @@ impl Notes {
                 self.bring(reject, now, mark, told, facts);
             }
             Event::Push(_) => self.put_push(facts, told),
-            Event::Tick(_) | Event::Inject { .. } => {}
+            Event::Tick(_) => {}
+            Event::Inject { .. } => {}
         }
     }
 

@@ -1,7 +1,9 @@
 //! A world that is watched: it tells whether all that has happened in it came in order.
 
-ghost use Rattle.std.specs.Prelude.{◌≡◌, ◌<◌, ◌-◌, ◌×◌, true, Some, IfOk, OnErr, length};
+ghost use Rattle.std.specs.Prelude.{◌≡◌, ◌<◌, ◌-◌, true, Some, IfOk, OnErr, length};
 ghost use Rattle.std.specs.Option.{unwrap_or};
+ghost use Rattle.std.specs.Str.{chars};
+ghost use Rattle.sms_join.specs.UnitsOfText.{IsText};
 ghost use Rattle.sms_script.specs.Meaning.Known.{ArePhones};
 ghost use Rattle.sms_script.specs.Play.Runs.{IsTick};
 ghost use Rattle.sms_script.specs.Script.Limits.{AreLimits};
@@ -39,25 +41,24 @@ pub struct WatchedWorld {
 }
 
 impl Model for WatchedWorld {
-    ghost use Rattle.std.specs.Prelude.{◌×◌};
-    ghost use Rattle.sms_world.specs.NotesValue.{ledger_in, AreRowsOf};
     ghost use Rattle.sms_world.specs.Watched.{WatchedValue, IsWatched};
+    ghost use Rattle.sms_world.specs.NotesValue.{AreRowsOf};
+    ghost use Rattle.sms_world.specs.Tables.{tables_in};
 
     ghost Value = { WatchedValue };
 
     ghost view = { λ w. record {
       world = w.world;
-      notes = ledger_in w.notes;
+      notes = tables_in w.notes;
       events = w.events;
       breach = w.breach;
     } };
 
     ghost invariant = { λ w.
-        (length w.notes.senders.items ≡ length w.world.parties.phones)
-        × (length w.notes.receivers.items ≡ length w.world.parties.phones)
+        AreRowsOf w.notes w.world
         × IsWatched (record {
           world = w.world;
-          notes = ledger_in w.notes;
+          notes = tables_in w.notes;
           events = w.events;
           breach = w.breach;
         }) };
@@ -98,31 +99,12 @@ impl WatchedWorld {
     {
         watching_goes_on();
         let number = self.events.saturating_add(1);
-        let breach = self.breach_after(number, event);
+        let breach = breach_after(&self.world, &self.notes, self.breach, number, event);
         let in_order = breach.is_none();
         let told = happen(&mut self.world, &mut self.notes, in_order, event);
         self.events = number;
         self.breach = breach;
         told
-    }
-
-    /// The first event that came out of order, if this one comes now, as one of this number.
-    fn breach_after(&self, number: u64, event: &Event) -> Option<Breach>
-        ensures { let remembered = self.now.world.limits.remembered in
-            let disorder = breach_at self.now.notes remembered self.now.world.clock (event_of event.now) in
-            let segment = segment_at self.now.notes (event_of event.now) in
-            result ≡ breach_after self.now.breach number disorder segment }
-    {
-        if let Some(first) = self.breach {
-            return Some(first);
-        }
-        let remembered = self.world.limits().remembered;
-        let disorder = self.notes.breach_at(remembered, self.world.clock(), event)?;
-        Some(Breach {
-            event: number,
-            disorder,
-            segment: self.notes.segment_at(event),
-        })
     }
 
     /// The world: its packets, its texts and its stores.
@@ -145,6 +127,32 @@ impl WatchedWorld {
         claims_hold();
         self.breach
     }
+}
+
+/// The first event that came out of order: this one, if it came before; else one that comes now, as
+/// the one of this number, if it is out of order.
+fn breach_after(
+    world: &World,
+    notes: &Notes,
+    first: Option<Breach>,
+    number: u64,
+    event: &Event,
+) -> Option<Breach>
+    ensures { let l = ledger_in notes.now in
+        let disorder = breach_at l world.now.limits.remembered world.now.clock (event_of event.now) in
+        let segment = segment_at l (event_of event.now) in
+        result ≡ breach_after first number disorder segment }
+{
+    if let Some(breach) = first {
+        return Some(breach);
+    }
+    let remembered = world.limits().remembered;
+    let disorder = notes.breach_at(remembered, world.clock(), event)?;
+    Some(Breach {
+        event: number,
+        disorder,
+        segment: notes.segment_at(event),
+    })
 }
 
 /// What happens at an event: it is noted where it comes in order.
@@ -237,9 +245,14 @@ fn typed_texts_are_text(event: &Event)
     ensures { IsOfText (event_of event.now) }
 {
     if let Event::Compose { text, .. } = event {
-        let _text = text.as_str();
+        are_characters(text.as_str());
     }
 }
+
+/// A `str` is a text. Nothing is done.
+fn are_characters(text: &str)
+    ensures { IsText (chars text.now) }
+{}
 
 /// What a world tells after an event that was for a phone, beside its answer, where so many packets
 /// were there before.

@@ -1,5 +1,5 @@
 -- What a world can be asked for besides, so that what happens in it can be noted.
-use Rattle.std.specs.Prelude.{◌≡◌, ℕ, zero, suc, ◌-◌, ◌×◌, true, nat_lt, if◌then◌else◌, List, [], ◌∷◌, ◌++◌, length, Option, Some, None, slice_get}
+use Rattle.std.specs.Prelude.{◌≡◌, ℕ, zero, suc, ◌-◌, true, nat_lt, if◌then◌else◌, List, [], ◌∷◌, ◌++◌, length, Option, Some, None, slice_get}
 use Rattle.std.specs.Option.{option_map, unwrap_or}
 use Rattle.sms_centre.specs.Centre.Latest.{latest_at}
 use Rattle.sms_field.specs.AddressValue.{AddressValue}
