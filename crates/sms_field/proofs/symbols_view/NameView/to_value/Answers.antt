@@ -1,7 +1,5 @@
-use Rattle.std.proofs.Common.{◌≡◌, ◌<◌, ◌≤◌, ◌∙◌, sym, ap, subst, length, arith}
-use Rattle.sms_text.specs.Bits.{unpacked, AreSeptets}
+use Rattle.std.proofs.Common.{◌<◌, ◌∙◌, ap, length, arith}
 use Rattle.sms_text.specs.PackingLaws.{unpacked_septets}
-use Rattle.sms_field.specs.Name.{IsName}
 use Rattle.sms_field.proofs.NamesHeld.{none_held, one_more_held}
 use Rattle.sms_field.proofs.symbols_view.NameView.to_value.Goals as goal
 
