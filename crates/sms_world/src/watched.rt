@@ -77,9 +77,11 @@ impl WatchedWorld {
         ensures phones { IfOk result (λ w. length w.world.parties.phones ≡ length phones.now) }
     {
         watching_goes_on();
+        let notes = Notes::new(alloc, phones.len())?;
+        let world = World::new(alloc, limits, phones)?;
         Ok(WatchedWorld {
-            world: World::new(alloc, limits, phones)?,
-            notes: Notes::new(alloc, phones.len())?,
+            world,
+            notes,
             events: 0,
             breach: None,
         })
