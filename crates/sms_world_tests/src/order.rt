@@ -40,7 +40,7 @@ const DAYS: u64 = 172_800;
 pub(crate) fn typing(alloc: Global, phone: usize, text: &str) -> Result<Event, AllocError> {
     Ok(Event::Compose {
         phone,
-        target: address(alloc, 2)?,
+        target: address(2),
         text: Text::copy(alloc, text)?,
     })
 }
@@ -80,7 +80,7 @@ pub(crate) fn new_watched(
     let mut limits = Limits::new();
     limits.set(Limit::Remembered, remembered);
     limits.reject = reject;
-    let phones = [address(alloc, 1)?, address(alloc, 2)?];
+    let phones = [address(1), address(2)];
     Ok(WatchedWorld::new(alloc, limits, &phones)?)
 }
 
