@@ -12,7 +12,7 @@ ghost use Rattle.sms_world.specs.Breaches.{breach_at, segment_at, breach_after};
 ghost use Rattle.sms_world.specs.Followed.{IsFollowed, ComesInOrder, Follows};
 ghost use Rattle.sms_world.specs.NotesValue.{ledger_in, IsOfText, AreRowsOf};
 ghost use Rattle.sms_world.specs.World.Asked.{way_at, text_after, text_typed_to, no_text};
-ghost use Rattle.sms_world.specs.Watched.{BeginsWatched, GoesOnWatched, OrderIsTold, StoresAreKept};
+ghost use Rattle.sms_world.specs.Watched.{IsWatched, BeginsWatched, GoesOnWatched, OrderIsTold, StoresAreKept};
 ghost use Rattle.sms_world.specs.World.Steps.{event_of, PutsMore, Steps, IfNowhere};
 
 use crate::fault::WorldFault;
@@ -123,6 +123,7 @@ impl WatchedWorld {
     /// completion, exactly the texts typed to it of which every segment was taken, each once, whole
     /// and as typed. Else it is not, and this is its first event that does not meet the condition.
     pub fn order(&self) -> Option<Breach>
+        ensures comes { IsWatched self.now }
         ensures told { OrderIsTold self.now result }
         ensures kept { StoresAreKept self.now result }
     {

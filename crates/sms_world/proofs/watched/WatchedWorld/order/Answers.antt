@@ -1,7 +1,10 @@
 use Rattle.std.proofs.Common.{sym, ap, subst}
-use Rattle.sms_world.specs.Watched.{WatchedValue, OrderIsTold, StoresAreKept}
+use Rattle.sms_world.specs.Watched.{WatchedValue, IsWatched, OrderIsTold, StoresAreKept}
 use Rattle.sms_world.proofs.Followed.{told_in_order, kept_stores}
 use Rattle.sms_world.proofs.watched.WatchedWorld.order.Goals as goal
+
+pub returns-clause-comes : goal.returns-clause-comes
+returns-clause-comes c = subst (λ (w : WatchedValue). IsWatched w) c.self.view_is c.self.invariant.1
 
 pub returns-clause-told : goal.returns-clause-told
 returns-clause-told c =
