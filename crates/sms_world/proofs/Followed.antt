@@ -1,5 +1,5 @@
 -- A watched world goes on at each event.
-use Rattle.std.proofs.Common.{◌≡◌, ℕ, zero, suc, min, ◌+◌, ◌-◌, ◌^◌, ◌<◌, ◌≤◌, Bool, true, false, cond, ltb, List, [], ◌∷◌, ◌++◌, map, length, Option, Some, None, is_none, Ok, Err, refl, sym, ap, ◌∙◌, subst, arith}
+use Rattle.std.proofs.Common.{◌≡◌, ℕ, zero, suc, min, ◌+◌, ◌-◌, ◌^◌, ◌<◌, ◌≤◌, Bool, true, false, not, cond, ltb, List, [], ◌∷◌, ◌++◌, map, length, Option, Some, None, is_some, Ok, Err, refl, sym, ap, ◌∙◌, subst, arith}
 use Rattle.std.proofs.lemmas.List.{append-nil}
 use Rattle.sms_field.specs.AddressValue.{AddressValue}
 use Rattle.sms_message.specs.declared.outcome.Outcome.{Outcome}
@@ -99,12 +99,13 @@ from_tables n =
 
 -- ---- no breach
 
-pub none_told : (o : Option Breach) → is_none o ≡ true → o ≡ None
-none_told None e = refl
-none_told (Some b) e = cc
+pub none_told : (o : Option Breach) (r : Bool) → is_some o ≡ not r → r ≡ true → o ≡ None
+none_told None r e t = refl
+none_told (Some b) r e t = let q : true ≡ false = e ∙ ap not t in cc
 
-pub in_order_of : (o : Option Breach) (b : Bool) → b ≡ is_none o → o ≡ None → b ≡ true
-in_order_of o b e none = e ∙ ap is_none none
+pub in_order_of : (o : Option Breach) (r : Bool) → is_some o ≡ not r → o ≡ None → r ≡ true
+in_order_of o true e none = refl
+in_order_of o false e none = let q : false ≡ true = sym (ap is_some none) ∙ e in cc
 
 -- ---- alike notes tell the same of an event
 

@@ -8,7 +8,7 @@ use Rattle.sms_world.proofs.watched.WatchedWorld.step.Goals as goal
 pub happen-told-requires-clause-in_order : goal.happen-told-requires-clause-in_order
 happen-told-requires-clause-in_order c = λ t.
     in_order_there c.watching_goes_on.ensures c.self.inside.world c.self.inside.notes c.self.inside.events c.saturating_add-number.result c.self.inside.breach c.self.invariant.1 (event_of c.args.event.now)
-    (sym c.breach_after-breach.ensures ∙ none_told c.breach_after-breach.result (sym c.is_none-in_order.ensures ∙ t))
+    (sym c.breach_after-breach.ensures ∙ none_told c.breach_after-breach.result c.is_none-in_order.result c.is_none-in_order.ensures t)
 
 pub invariant_of-self : goal.invariant_of-self
 invariant_of-self c = (
