@@ -18,7 +18,7 @@ ghost use Rattle.sms_world.specs.Machine.{start};
 ghost use Rattle.sms_world.specs.Machine.Event.{Compose, Carry, Timeout, Push, Tick, Inject};
 ghost use Rattle.sms_world.specs.World.Parties.{place_at, on_way};
 ghost use Rattle.sms_world.specs.World.Phones.{store_in, statuses_at};
-ghost use Rattle.sms_world.specs.World.Standing.{StandsFor};
+ghost use Rattle.sms_world.specs.World.Standing.{StandsFor, ComesOfRun};
 ghost use Rattle.sms_world.specs.World.Claims.{StoresAreWhole, RefusesOnlyWhereFull};
 ghost use Rattle.sms_world.specs.World.Claims.{AcceptsOnce, AcceptedWereAccepted, CopiesMayComeInTime};
 ghost use Rattle.sms_world.specs.World.Steps.{event_of, PutsMore, Steps, IfNowhere};
@@ -85,6 +85,12 @@ impl World {
             packets: Vec::new(alloc),
         })
     }
+
+    /// Each world stands for a state that some run led to. The contract is this law; nothing is
+    /// done.
+    pub fn comes_of_a_run(&self)
+        ensures { ComesOfRun self.now }
+    {}
 
     /// What happens at an event. If it answers a fault, the clock, the phones, the centre and the
     /// packets stand as before; where there is no such packet or phone, or the clock would reach its

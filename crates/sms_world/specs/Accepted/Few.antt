@@ -7,7 +7,7 @@ use Rattle.sms_world.specs.Machine.{Machine, start}
 use Rattle.sms_world.specs.Machine.Event.{Event}
 use Rattle.sms_world.specs.Machine.Step.{RunWith}
 use Rattle.sms_world.specs.Orderly.Injections.{NothingIsInjected}
-use Rattle.sms_world.specs.Accepted.Answers.{AnswersOfPhone}
+use Rattle.sms_world.specs.Accepted.Answers.{AnswersAnswerWhatTheyName}
 
 -- Transaction values count modulo 7 and RP references modulo 256: the two together come again after
 -- 1,792 puttings out. Where nothing is injected and a phone's sender has put out no more, each event
@@ -17,4 +17,4 @@ FewPuttingsOut =
     (limits : Limits) (phones : List AddressValue) (past : List (Event × Told)) (m : Machine)
     → RunWith (λ old event. NothingIsInjected event) (start limits phones) past m
     → (event : Event) (phone : ℕ) → (m.senders.sender phone).outs ≤ 1792
-    → AnswersOfPhone m event phone
+    → AnswersAnswerWhatTheyName phone m event
