@@ -1,5 +1,5 @@
 -- What a phone does not wait for changes nothing, and is known at a glance.
-use Rattle.std.proofs.Common.{◌≡◌, ◌≢◌, ◌&&◌, ℕ, Bool, true, false, cond, List, [], ◌∷◌, Option, None, Result, Ok, Err, refl, sym, ap, ◌∙◌, subst}
+use Rattle.std.proofs.Common.{◌≡◌, ◌&&◌, ℕ, Bool, true, false, List, [], ◌∷◌, Option, None, Result, Ok, Err, refl, sym, ap, ◌∙◌, subst}
 use Rattle.std.specs.Prelude.{reverse}
 use Rattle.std.specs.Result.{OnErr}
 use Rattle.std.proofs.lemmas.List.{reverse-reverse}
@@ -19,9 +19,9 @@ use Rattle.sms_message.specs.declared.outcome.Dropped.{Dropped}
 use Rattle.sms_message.specs.declared.outcome.Dropped.TheVariants as dropped
 use Rattle.sms_message.specs.More.{is_more}
 use Rattle.sms_message.specs.Few.{FewPackets, few_answered}
-use Rattle.sms_message.specs.Does.{CarriesEach, packets_of}
+use Rattle.sms_message.specs.Does.{packets_of}
 use Rattle.sms_message.specs.Memory.{MemoryOnlyFor}
-use Rattle.sms_message.specs.Message.{Origin, same_tag}
+use Rattle.sms_message.specs.Message.{same_tag}
 use Rattle.sms_message.specs.Message.Glance.{glance_of, flag_of, IsSeenAs}
 use Rattle.sms_message.specs.Message.Reading.{ReadsAs}
 use Rattle.sms_party.specs.Sender.Putting.{sender_drops}
@@ -81,6 +81,11 @@ module _ (v : SenderValue) where
   others_pass (Data true tag (Transfer side unit)) d h = λ phone x stands. nothing_comes phone x v stands
   others_pass (Data true tag UnknownType) d h = λ phone x stands. nothing_comes phone x v stands
   others_pass (Data true tag Unreadable) d h = λ phone x stands. nothing_comes phone x v stands
+
+-- nothing has changed, whatever was answered
+pub err_same : {V : Type 0} (v : V) (r : Result Step Dropped) → OnErr r (v ≡ v)
+err_same v (Ok step) = tt
+err_same v (Err why) = refl
 
 pub sender_received : (octets : List ℕ) (old new : SenderValue) (r : Result Step Dropped) (message : Message) → ReadsAs octets message → sender.Steps (λ x phone. sender_takes x phone message) old r new → OnErr r (new ≡ old)
     → sender.Receives octets old r new

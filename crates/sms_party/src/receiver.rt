@@ -109,7 +109,8 @@ fn takes_up(seen: Glance) -> bool
 {
     match seen {
         Glance::Data { flag, relay, .. } => {
-            !flag && (relay == RelayGlance::Transfer(Side::ToPhone) || relay == RelayGlance::NoRelay)
+            !flag
+                && (relay == RelayGlance::Transfer(Side::ToPhone) || relay == RelayGlance::NoRelay)
         }
         _ => false,
     }
@@ -120,11 +121,7 @@ fn make_room(store: &mut Vec<Entry>, finishes: bool) -> Result<(), AllocError>
     ensures items { store.new.items ≡ store.old.items }
     ensures room { IfOk result (λ _. finishes ≡ true → vec_len store.new < vec_capacity store.new) }
 {
-    if finishes {
-        store.reserve(1)
-    } else {
-        Ok(())
-    }
+    if finishes { store.reserve(1) } else { Ok(()) }
 }
 
 impl Receiver {

@@ -1,9 +1,9 @@
 -- What a receiver takes up, and does not drop.
 use Rattle.std.specs.Prelude.{Bool, true, false}
-use Rattle.sms_relay.specs.declared.side.Side.TheVariants.{FromPhone, ToPhone}
+use Rattle.sms_relay.specs.declared.side.Side.TheVariants.{ToPhone}
 use Rattle.sms_message.specs.declared.glance.Glance.{Glance}
-use Rattle.sms_message.specs.declared.glance.Glance.TheVariants.{NotCp, Note, Tiny, Data}
-use Rattle.sms_message.specs.declared.glance.RelayGlance.TheVariants.{Transfer, Answer, NoRelay}
+use Rattle.sms_message.specs.declared.glance.Glance.TheVariants.{Data}
+use Rattle.sms_message.specs.declared.glance.RelayGlance.TheVariants.{Transfer, NoRelay}
 
 -- in a transaction that the centre has opened: an RP-DATA to the phone, and what is no RP message
 abbrev pub takes_up : Glance → Bool

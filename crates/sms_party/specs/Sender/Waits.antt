@@ -1,9 +1,9 @@
 -- What a sender waits for, and when it puts out what is late.
 use Rattle.std.specs.Prelude.{◌⊎◌, ◌<◌, Bool, true, false, ◌&&◌, length}
-use Rattle.sms_relay.specs.declared.side.Side.TheVariants.{FromPhone, ToPhone}
+use Rattle.sms_relay.specs.declared.side.Side.TheVariants.{ToPhone}
 use Rattle.sms_message.specs.declared.glance.Glance.{Glance}
-use Rattle.sms_message.specs.declared.glance.Glance.TheVariants.{NotCp, Note, Tiny, Data}
-use Rattle.sms_message.specs.declared.glance.RelayGlance.TheVariants.{Transfer, Answer, NoRelay}
+use Rattle.sms_message.specs.declared.glance.Glance.TheVariants.{Data}
+use Rattle.sms_message.specs.declared.glance.RelayGlance.TheVariants.{Answer}
 use Rattle.sms_message.specs.Message.{same_tag}
 use Rattle.sms_message.specs.More.{is_more}
 use Rattle.sms_party.specs.Sender.Value.{SenderValue}
