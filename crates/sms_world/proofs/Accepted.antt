@@ -806,14 +806,14 @@ honest_from one m (Inject place octets) h fit may = absurd may.plain
 start_true : (one : ℕ) (limits : Limits) (phones : List AddressValue) → TellsTrue one (start limits phones)
 unfolding start new_centre new_sender
 start_true one limits phones =
-    record { sound = λ p. record { pending = tt; under_way = refl }; told = λ q. record { so_far = tt; ended = tt }; sent = tt }
+    record { sound = λ p. record { pending = tt; under_way = refl }; told = λ q same. record { so_far = tt; ended = tt }; sent = tt }
 
 run_true : (one : ℕ) (limits : Limits) (phones : List AddressValue) (past : List (Event × whole.Told)) (m : Machine)
     → RunWith (IsHonestAt one) (start limits phones) past m → TellsTrue one m
-run_true one limits phones [] m h = subst TellsTrue one h (start_true one limits phones)
+run_true one limits phones [] m h = subst (TellsTrue one) h (start_true one limits phones)
 run_true one limits phones (e ∷ past) m h =
     let ih : TellsTrue one h.0 = run_true one limits phones past h.0 h.1 in
-    acts_true h.0 e.0 h.3.1.0 e.1 h.3.0 m h.3.1.1
+    acts_true one h.0 e.0 h.3.1.0 e.1 h.3.0 m h.3.1.1
     (honest_from one h.0 e.0 ih (run_stamped (IsHonestAt one) limits phones past h.0 h.1).fit h.2) ih h.3.1.2
 
 -- ---- what is given was accepted

@@ -44,3 +44,4 @@ pub mod Transcribing
 pub mod Promises
 pub mod Nowhere
 pub mod Called
+pub mod PuttingsOut

@@ -90,7 +90,9 @@ impl World {
     /// done.
     pub fn comes_of_a_run(&self)
         ensures { ComesOfRun self.now }
-    {}
+    {
+        let _limits = self.limits;
+    }
 
     /// What happens at an event. If it answers a fault, the clock, the phones, the centre and the
     /// packets stand as before; where there is no such packet or phone, or the clock would reach its
