@@ -1,10 +1,10 @@
 -- Each key of the table of duplicates is that of a held message: what a change of the messages does to it.
-use Rattle.std.proofs.Common.{◌≡◌, ◌≢◌, ℕ, ◌<◌, ◌≤◌, Bool, true, false, cond, not, ◌&&◌, nat_lt, List, [], ◌∷◌, Contains, ◌⊎◌, inl, inr, Option, Some, None, IfSome, refl, sym, ap, ◌∙◌, subst, arith}
+use Rattle.std.proofs.Common.{◌≡◌, ◌≢◌, ℕ, ◌<◌, ◌≤◌, Bool, true, false, cond, not, ◌&&◌, nat_lt, List, [], ◌∷◌, length, Contains, ◌⊎◌, inl, inr, Option, Some, None, IfSome, refl, sym, ap, ◌∙◌, subst, arith}
 use Rattle.std.specs.Prelude.{All, max}
 use Rattle.std.specs.Map.{keys_of, lookup}
 use Rattle.std.proofs.lemmas.Bool.{cases_lt}
 use Rattle.std.proofs.lemmas.Bool.Decides.{nat_tests}
-use Rattle.std.proofs.lemmas.List.Elements.{All-head, All-tail}
+use Rattle.std.proofs.lemmas.List.Elements.{All-nil, All-head, All-tail}
 use Rattle.sms_centre.specs.declared.centre.held.Ending.{Ending}
 use Rattle.sms_centre.specs.declared.centre.held.HeldKey.{HeldKey}
 use Rattle.sms_centre.specs.Centre.Value.{HeldValue, key_eq}
@@ -109,6 +109,10 @@ none_ended now messages last after are key = go (lookup (key_eq key) last) refl
         let later = message_after now messages own.ending key after own.is_held in
         let ends = own.ends in
         omega (arith, later, ends)
+
+pub none_there : (P : Ending → Type 0) (messages : List (Ending × HeldKey)) → (0 < length messages → ⊥) → All P (keys_of messages)
+none_there P [] none = All-nil P
+none_there P (m ∷ ms) none = absurd (none (omega arith))
 
 -- ---- a message comes
 

@@ -9,6 +9,7 @@ pub mod Taking
 pub mod Hearing
 pub mod Accepting
 pub mod Receiving
+pub mod Seen
 pub mod Later
 pub mod Stamps
 pub mod Recipients

@@ -1,16 +1,16 @@
-use Rattle.std.proofs.Common.{◌≡◌, ◌≤◌, ◌<◌, List, ◌∷◌, refl, ap, ◌∙◌, sym, subst, arith, rules}
+use Rattle.std.proofs.Common.{◌≡◌, ◌≤◌, ◌<◌, true, false, List, ◌∷◌, Option, refl, ap, ◌∙◌, sym, subst, arith, rules}
 use Rattle.std.specs.Prelude.{All}
 use Rattle.std.specs.Map.{keys_of}
 use Rattle.sms_centre.specs.Centre.Value.{HeldValue}
-use Rattle.sms_centre.specs.Centre.Kept.{is_kept, AreOfMessages, IsLeftLater}
+use Rattle.sms_centre.specs.Centre.Kept.{is_kept, AreOfMessages, IsLeftLater, ForgetsFirst}
 use Rattle.sms_centre.specs.declared.centre.held.Ending.{Ending}
 use Rattle.sms_centre.specs.declared.centre.held.HeldKey.{HeldKey}
 use Rattle.sms_centre.proofs.HeldMaps.{taken_first}
-use Rattle.sms_centre.proofs.HeldKeys.{keeps_after, key_left, keys_left, none_ended}
+use Rattle.sms_centre.proofs.HeldKeys.{keeps_after, key_left, keys_left, none_ended, none_there}
 use Rattle.sms_centre.proofs.centre.held.HeldMessages.forget_first.Goals as goal
 
 pub invariant_of-self : goal.invariant_of-self
-invariant_of-self c = ?
+invariant_of-self c = absurd (let q : false ≡ true = c.in_err-ending.ensures.variant.1 (c.in_ok-first.ensures.variant.0 refl) in cc)
 
 pub invariant_of-self-2 : goal.invariant_of-self-2
 invariant_of-self-2 c =
@@ -42,4 +42,9 @@ returns-then-first-now c =
     (all, refl, none_ended c.args.now c.self.inside.endings.entries c.self.inside.last.entries all c.self.invariant.1)
 
 pub returns-in_err-first : goal.returns-in_err-first
-returns-in_err-first c = ?
+returns-in_err-first c =
+    let entries : List (Ending × HeldKey) = c.self.inside.endings.entries in
+    let all : All (λ e. c.args.now < e.end) (keys_of entries) = none_there (λ e. c.args.now < e.end) entries (λ some. let q : false ≡ true = c.in_err-first.ensures.variant.1 some in cc) in
+    subst (λ (o : Option Ending). ForgetsFirst c.args.now c.args.self.now o c.args.self.now) (sym c.from_residual.ensures)
+    (subst (λ (w : HeldValue). All (λ e. c.args.now < e.end) w.endings × (w ≡ w) × ((key : HeldKey) → IsLeftLater c.args.now key w)) c.self.view_is
+    (all, refl, none_ended c.args.now entries c.self.inside.last.entries all c.self.invariant.1))
