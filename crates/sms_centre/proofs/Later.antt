@@ -1,5 +1,5 @@
 -- What a call that fails leaves.
-use Rattle.std.proofs.Common.{◌≡◌, ℕ, ◌≤◌, List, Result, Ok, Err, OnErr, sym, ap, subst}
+use Rattle.std.proofs.Common.{◌≡◌, ℕ, ◌≤◌, List, Result, Ok, Err, OnErr, sym, subst}
 use Rattle.sms_field.specs.AddressValue.{AddressValue}
 use Rattle.sms_message.specs.declared.outcome.Outcome.TheVariants.{Pushed}
 use Rattle.sms_centre.specs.Centre.State.{CentreState}

@@ -1,5 +1,5 @@
 -- What is dropped at a glance is dropped by the machine, and nothing else is.
-use Rattle.std.proofs.Common.{◌≡◌, ℕ, ◌≤◌, ◌<◌, zero, suc, length, arith, Bool, true, false, cond, ◌&&◌, nat_lt, List, [], ◌∷◌, Option, Some, None, Result, Ok, Err, refl, sym, ap, ◌∙◌, subst}
+use Rattle.std.proofs.Common.{◌≡◌, ℕ, ◌≤◌, ◌<◌, zero, suc, length, arith, Bool, true, false, cond, ◌&&◌, nat_lt, List, [], ◌∷◌, Option, Some, None, Ok, Err, refl, sym, ap, ◌∙◌, subst}
 use Rattle.std.specs.List.{slice_get}
 use Rattle.sms_field.specs.AddressValue.{AddressValue}
 use Rattle.sms_relay.specs.declared.side.Side.TheVariants.{FromPhone, ToPhone}
@@ -18,14 +18,12 @@ use Rattle.sms_message.specs.declared.message.Message.TheVariants.{NotCp, Note, 
 use Rattle.sms_message.specs.declared.message.Tag.{Tag}
 use Rattle.sms_message.specs.declared.outcome.Outcome.{Outcome}
 use Rattle.sms_message.specs.declared.outcome.Outcome.TheVariants.{Held, Refused, Noted}
-use Rattle.sms_message.specs.declared.outcome.Step.{Step}
 use Rattle.sms_message.specs.declared.outcome.Dropped.{Dropped}
 use Rattle.sms_message.specs.declared.outcome.Dropped.TheVariants as dropped
 use Rattle.sms_centre.specs.declared.centre.check.Check.{Check}
 use Rattle.sms_centre.specs.declared.centre.check.Check.TheVariants.{Refuse, Accept}
-use Rattle.sms_centre.specs.declared.centre.waiting.Push.{Push}
 use Rattle.sms_centre.specs.Centre.{centre_opened, centre_answered, centre_receives}
-use Rattle.sms_centre.specs.Centre.State.{Acceptance, Pushing, CentreState}
+use Rattle.sms_centre.specs.Centre.State.{Pushing, CentreState}
 use Rattle.sms_centre.specs.Centre.Checks.{books_of, checked_by}
 use Rattle.sms_centre.specs.Centre.Submissions.{checked, centre_takes}
 use Rattle.sms_centre.specs.Centre.Verdicts.{verdict, settled, centre_hears}
@@ -107,14 +105,30 @@ module _ (now phone : ℕ) (octets : List ℕ) (old mid : CentreValue) (seen : G
 
   pub drop_receives : (message : Message) (why : Dropped) → ReadsAs octets message → drop_of (awaited_at now mid.lines phone) seen ≡ Some why → ReceivesAs now phone octets old (Err why) mid
   drop_receives message dropped.Memory read e = advanced
-  drop_receives message dropped.NotCp read e = (message, read, λ limit phones clock c origin le s.
-      subst (λ (d : Does CentreState). CentreAnswers limit phones now c d (Err dropped.NotCp) mid) (sym (dropped_by message dropped.NotCp limit phones c origin read (advanced limit phones clock c le s) e)) (refl, advanced limit phones clock c le s))
-  drop_receives message dropped.Unmatched read e = (message, read, λ limit phones clock c origin le s.
-      subst (λ (d : Does CentreState). CentreAnswers limit phones now c d (Err dropped.Unmatched) mid) (sym (dropped_by message dropped.Unmatched limit phones c origin read (advanced limit phones clock c le s) e)) (refl, advanced limit phones clock c le s))
-  drop_receives message dropped.Busy read e = (message, read, λ limit phones clock c origin le s.
-      subst (λ (d : Does CentreState). CentreAnswers limit phones now c d (Err dropped.Busy) mid) (sym (dropped_by message dropped.Busy limit phones c origin read (advanced limit phones clock c le s) e)) (refl, advanced limit phones clock c le s))
-  drop_receives message dropped.TooManySegments read e = (message, read, λ limit phones clock c origin le s.
-      subst (λ (d : Does CentreState). CentreAnswers limit phones now c d (Err dropped.TooManySegments) mid) (sym (dropped_by message dropped.TooManySegments limit phones c origin read (advanced limit phones clock c le s) e)) (refl, advanced limit phones clock c le s))
+  drop_receives message dropped.NotCp read e = (
+    message,
+    read,
+    λ limit phones clock c origin le s.
+        subst (λ (d : Does CentreState). CentreAnswers limit phones now c d (Err dropped.NotCp) mid) (sym (dropped_by message dropped.NotCp limit phones c origin read (advanced limit phones clock c le s) e)) (refl, advanced limit phones clock c le s),
+  )
+  drop_receives message dropped.Unmatched read e = (
+    message,
+    read,
+    λ limit phones clock c origin le s.
+        subst (λ (d : Does CentreState). CentreAnswers limit phones now c d (Err dropped.Unmatched) mid) (sym (dropped_by message dropped.Unmatched limit phones c origin read (advanced limit phones clock c le s) e)) (refl, advanced limit phones clock c le s),
+  )
+  drop_receives message dropped.Busy read e = (
+    message,
+    read,
+    λ limit phones clock c origin le s.
+        subst (λ (d : Does CentreState). CentreAnswers limit phones now c d (Err dropped.Busy) mid) (sym (dropped_by message dropped.Busy limit phones c origin read (advanced limit phones clock c le s) e)) (refl, advanced limit phones clock c le s),
+  )
+  drop_receives message dropped.TooManySegments read e = (
+    message,
+    read,
+    λ limit phones clock c origin le s.
+        subst (λ (d : Does CentreState). CentreAnswers limit phones now c d (Err dropped.TooManySegments) mid) (sym (dropped_by message dropped.TooManySegments limit phones c origin read (advanced limit phones clock c le s) e)) (refl, advanced limit phones clock c le s),
+  )
 
   pub none_dropped : drop_of (awaited_at now mid.lines phone) seen ≡ None → IsAnswered now phone octets old
   none_dropped e = λ limit phones clock c message origin le s read. what_is_done limit phones c message origin None (advanced limit phones clock c le s) read e

@@ -1,4 +1,4 @@
-use Rattle.std.proofs.Common.{◌≤◌, List, length, ◌∙◌, refl, sym, ap, subst, arith}
+use Rattle.std.proofs.Common.{List, length, ◌∙◌, refl, sym, ap, subst, arith}
 use Rattle.sms_centre.specs.declared.centre.held.Ending.{Ending}
 use Rattle.sms_centre.specs.Centre.Kept.{IsLater}
 use Rattle.sms_centre.specs.Centre.Value.{LineValue, CentreValue, addresses, phones_of}

@@ -1,9 +1,8 @@
-use Rattle.std.proofs.Common.{◌≡◌, ◌<◌, List, length, Some, Err, sym, ap, subst, ◌∙◌, arith}
+use Rattle.std.proofs.Common.{◌≡◌, ◌<◌, List, length, Some, sym, ap, subst, ◌∙◌, arith}
 use Rattle.sms_field.specs.AddressValue.{AddressValue}
 use Rattle.sms_field.specs.OctetLists.{octets_are}
 use Rattle.sms_message.specs.declared.outcome.Dropped.{Dropped}
 use Rattle.sms_message.specs.declared.outcome.Dropped.TheVariants.{Memory}
-use Rattle.sms_centre.specs.Centre.Value.{phones_of}
 use Rattle.sms_centre.specs.Centre.Seen.{awaited_at}
 use Rattle.sms_centre.proofs.Receiving.{receives}
 use Rattle.sms_centre.proofs.Later.{later_as}
@@ -26,7 +25,7 @@ pub returns-in_err-message-clause-memory : goal.returns-in_err-message-clause-me
 returns-in_err-message-clause-memory c e =
     let within = subst (λ (l : List AddressValue). c.args.phone < length l) (sym c.advance.ensures.phones) c.requires.phone in
     none_dropped c.args.now c.args.phone c.args.octets.now c.args.self.now c.advance.new.self c.glance_at.result c.advance.ensures.stands c.glance_at.ensures.seen within
-    (sym c.why_dropped.ensures ∙ c.in-None.is)
+    (sym c.why_dropped.ensures ∙ c.in_default.is)
 
 pub returns-clause-receives : goal.returns-clause-receives
 returns-clause-receives c = receives c.args.now c.args.phone c.args.octets.now c.args.self.now c.advance.new.self c.take.new.self c.in_ok-message.message c.take.result c.advance.ensures.stands c.in_ok-message.ensures.read c.take.ensures.steps
@@ -35,7 +34,7 @@ pub returns-clause-memory : goal.returns-clause-memory
 returns-clause-memory c e =
     let within = subst (λ (l : List AddressValue). c.args.phone < length l) (sym c.advance.ensures.phones) c.requires.phone in
     none_dropped c.args.now c.args.phone c.args.octets.now c.args.self.now c.advance.new.self c.glance_at.result c.advance.ensures.stands c.glance_at.ensures.seen within
-    (sym c.why_dropped.ensures ∙ c.in-None.is)
+    (sym c.why_dropped.ensures ∙ c.in_default.is)
 
 pub returns-clause-refused : goal.returns-clause-refused
 returns-clause-refused c = later_as c.args.now c.args.self.now c.advance.new.self c.take.new.self c.take.result c.take.ensures.refused c.advance.ensures.later

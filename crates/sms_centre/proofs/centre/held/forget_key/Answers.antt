@@ -1,4 +1,4 @@
-use Rattle.std.proofs.Common.{sym, ap, ◌∙◌}
+use Rattle.std.proofs.Common.{sym, ◌∙◌}
 use Rattle.std.specs.Map.{lookup}
 use Rattle.sms_centre.specs.Centre.Value.{key_eq}
 use Rattle.sms_centre.specs.Centre.Kept.{is_kept}

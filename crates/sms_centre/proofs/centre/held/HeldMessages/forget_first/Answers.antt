@@ -1,4 +1,4 @@
-use Rattle.std.proofs.Common.{◌≡◌, ◌≤◌, ◌<◌, true, false, List, ◌∷◌, Option, refl, ap, ◌∙◌, sym, subst, arith, rules}
+use Rattle.std.proofs.Common.{◌≡◌, ◌≤◌, ◌<◌, true, false, List, Option, refl, ap, ◌∙◌, sym, subst, arith, rules}
 use Rattle.std.specs.Prelude.{All}
 use Rattle.std.specs.Map.{keys_of}
 use Rattle.sms_centre.specs.Centre.Value.{HeldValue}

@@ -35,10 +35,16 @@ invariant_of-self-2 c =
     let updates = c.in_ok-insert-2.ensures.updates.0 in
     let unique = c.in_ok-insert-2.ensures.unique in
     elim c.match-get.branch [
-      | in-Some w ↦ (unique, keys_held c.args.self.now c.args.key c.args.ending old.endings.entries here.endings.entries old.last.entries here.last.entries c.insert-2.new.self.entries c.match-get.greatest (Some w.in-Some.other.now)
-          c.self.view_is c.requires (ap (λ (x : Inside). x.endings.entries) w.self-inside-is ∙ put) (ap (λ (x : Inside). x.last.entries) w.self-inside-is ∙ same)
-          (w.in-Some.ensures.value ∙ found) (w.greatest-is ∙ w.max-greatest.ensures) updates c.self.invariant.1)
-      | in-None w ↦ (unique, keys_held c.args.self.now c.args.key c.args.ending old.endings.entries here.endings.entries old.last.entries here.last.entries c.insert-2.new.self.entries c.match-get.greatest None
-          c.self.view_is c.requires (ap (λ (x : Inside). x.endings.entries) w.self-inside-is ∙ put) (ap (λ (x : Inside). x.last.entries) w.self-inside-is ∙ same)
-          (w.in-None.ensures.value ∙ found) w.greatest-is updates c.self.invariant.1)
+      | in-Some w ↦ (
+        unique,
+        keys_held c.args.self.now c.args.key c.args.ending old.endings.entries here.endings.entries old.last.entries here.last.entries c.insert-2.new.self.entries c.match-get.greatest (Some w.in-Some.other.now)
+            c.self.view_is c.requires (ap (λ (x : Inside). x.endings.entries) w.self-inside-is ∙ put) (ap (λ (x : Inside). x.last.entries) w.self-inside-is ∙ same)
+            (w.in-Some.ensures.value ∙ found) (w.greatest-is ∙ w.max-greatest.ensures) updates c.self.invariant.1,
+      )
+      | in-None w ↦ (
+        unique,
+        keys_held c.args.self.now c.args.key c.args.ending old.endings.entries here.endings.entries old.last.entries here.last.entries c.insert-2.new.self.entries c.match-get.greatest None
+            c.self.view_is c.requires (ap (λ (x : Inside). x.endings.entries) w.self-inside-is ∙ put) (ap (λ (x : Inside). x.last.entries) w.self-inside-is ∙ same)
+            (w.in-None.ensures.value ∙ found) w.greatest-is updates c.self.invariant.1,
+      )
     ]
