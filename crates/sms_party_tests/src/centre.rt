@@ -18,17 +18,16 @@ use std::process::Abort;
 use std::test::Fail;
 
 /// The address +100 and this digit.
-fn phone(alloc: Global, last: u8) -> Result<Address, AllocError>
+fn phone(last: u8) -> Address
     requires { last < 10 }
     ensures { let number = symbols.Digits (1 ∷ 0 ∷ 0 ∷ last ∷ []) in
-        IfOk result (λ a. a ≡ record { kind = 1; plan = 1; symbols = number }) }
+        result ≡ record { kind = 1; plan = 1; symbols = number } }
 {
-    let digits = [1, 0, 0, last].to_vec(alloc)?;
-    Ok(Address {
+    Address {
         type_of_number: 1,
         plan: 1,
-        symbols: Symbols::Digits(Digits::new(digits)),
-    })
+        symbols: Symbols::Digits(Digits::new(&[1, 0, 0, last])),
+    }
 }
 
 /// A centre with three phones.
@@ -44,7 +43,7 @@ fn new_fixture(alloc: Global, held: usize) -> Result<Fixture, Fail>
     requires some { 0 < held }
     requires most { held ≤ 1000 }
 {
-    let phones = [phone(alloc, 1)?, phone(alloc, 2)?, phone(alloc, 3)?];
+    let phones = [phone(1), phone(2), phone(3)];
     let centre = Centre::new(alloc, held, &phones)?;
     Ok(Fixture { centre })
 }

@@ -39,7 +39,7 @@ returns-in_ok-hold-in-Accept-clause-steps c = λ h limit phones s origin stands.
           known.1
           (subst (λ n. HoldsAlso c.self.inside.holdings.held (key_of c.args.phone n c.in-Accept.recipient) (ending_in a) c.hold.new.self.held) reference c.in_ok-hold-in-Accept.ensures.held)
           held.how
-          (ap (λ (o : AddressValue). waiting_from o a) (c.in_ok-origin-in-Accept.ensures ∙ c.address.ensures))),
+          (ap (λ (o : AddressValue). waiting_from o a) (c.in_ok-origin-in-Accept.ensures.copy ∙ c.address.ensures))),
     )
 
 pub returns-in_ok-hold-in-Accept-clause-phones : goal.returns-in_ok-hold-in-Accept-clause-phones

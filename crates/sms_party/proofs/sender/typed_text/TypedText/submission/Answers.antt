@@ -17,7 +17,7 @@ invariant_of-result c =
     record {
       validity = tt;
       reference = omega arith;
-      target = subst HasSpelling c.result.view_is c.result.invariant;
+      target = search rules;
       pid = omega arith;
       dcs = subst (λ n. n < 256) (sym dcs) (dcs_range c.args.segment.now.units);
       user = subst (λ (a : Alphabet). FitsAlphabet a c.in_ok-user.field-0) (sym c.coding_scheme.ensures.alphabet) c.in_ok-user.ensures.fits;
