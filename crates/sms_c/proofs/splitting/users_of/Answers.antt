@@ -1,8 +1,6 @@
-use Rattle.std.proofs.Common.{◌≡◌, ℕ, ◌+◌, List, [], ◌∷◌, ◌++◌, length, take, Vec, Global, sym, ap, subst, ◌∙◌, arith}
-use Rattle.sms_join.specs.declared.segment.Segment.{Segment}
-use Rattle.sms_c.specs.Splitting.{AreUsers}
+use Rattle.std.proofs.Common.{◌≡◌, ℕ, List, ◌++◌, length, Vec, Global, sym, ap, ◌∙◌, arith}
 use Rattle.sms_c.specs.declared.parts.Span.{Span}
-use Rattle.sms_c.proofs.Splits.{one_span, one_user_more, as_users, take_next, take_all, is_there}
+use Rattle.sms_c.proofs.Splits.{one_span, one_user_more, as_users, take_next, is_there}
 use Rattle.sms_c.proofs.splitting.users_of.Goals.{in-Some+in_ok-user+in_ok-push+in_ok-extend_from_slice, in_default}
 use Rattle.sms_c.proofs.splitting.users_of.Goals as goal
 
