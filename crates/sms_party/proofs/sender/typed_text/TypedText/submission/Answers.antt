@@ -1,5 +1,4 @@
 use Rattle.std.proofs.Common.{◌<◌, sym, subst, arith, rules}
-use Rattle.sms_field.specs.AddressValue.{HasSpelling}
 use Rattle.sms_field.specs.declared.coding.Alphabet.{Alphabet}
 use Rattle.sms_tpdu.specs.UserData.{FitsAlphabet}
 use Rattle.sms_join.specs.declared.units.Units.{Units}
