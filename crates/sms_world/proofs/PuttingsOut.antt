@@ -1,5 +1,5 @@
 -- A sender's puttings out are never fewer, so what holds of few holds all along a run.
-use Rattle.std.proofs.Common.{◌≡◌, ℕ, ◌+◌, ◌-◌, ◌≤◌, Bool, true, false, cond, eqb, leb, ltb, List, [], ◌∷◌, length, Option, Some, None, refl, sym, ◌∙◌, subst, arith, inl, inr}
+use Rattle.std.proofs.Common.{ℕ, ◌+◌, ◌-◌, ◌≤◌, Bool, true, false, cond, eqb, leb, ltb, List, [], ◌∷◌, length, Option, Some, None, subst, arith, inl, inr}
 use Rattle.std.proofs.lemmas.Bool.{cond_both}
 use Rattle.sms_field.specs.AddressValue.{AddressValue}
 use Rattle.sms_field.specs.Times.{end_of_2099}
@@ -19,14 +19,12 @@ use Rattle.sms_party.specs.Sender.Texts.{Text, Sender, SenderState, new_text}
 use Rattle.sms_party.specs.Sender.Putting.{Puts, puts, puts_first, puts_text, with_sender, sender_drops, does}
 use Rattle.sms_party.specs.Sender.Calls.{appended, typed, composes, ends, repeats, times_out}
 use Rattle.sms_party.specs.Sender.Answers.{advanced, hears, matches, sender_receives}
-use Rattle.sms_script.specs.declared.script.limits.Limits.{Limits}
 use Rattle.sms_world.specs.Told.{Told}
 use Rattle.sms_world.specs.Machine.{Machine, start}
 use Rattle.sms_world.specs.Machine.Event.{Event, Act, Composes, Carries, TimesOut, Pushes, Ticks, Injects}
 use Rattle.sms_world.specs.Machine.Next.{Next, next, stays, by_sender, by_centre, by_receiver, comes, comes_to_phone, carries, packet, ticked}
 use Rattle.sms_world.specs.Machine.Step.{Acts, RunWith}
 use Rattle.sms_world.specs.Orderly.Injections.{NothingIsInjected}
-use Rattle.sms_world.specs.Accepted.{IsHonestAt}
 use Rattle.sms_world.specs.Accepted.Few.{IsPlainAt, FewAreHonest}
 use Rattle.sms_world.proofs.Growing.{changed_each}
 use Rattle.sms_world.proofs.Numbered.{few_puttings_out}

@@ -1,5 +1,5 @@
 -- What is claimed of a world, whatever events led to it.
-use Rattle.std.specs.Prelude.{◌≡◌, ◌≢◌, ℕ, ◌<◌, ◌≤◌, ◌-◌, true, List, ◌∷◌, ◌++◌, length, reverse, Option, Some, slice_get}
+use Rattle.std.specs.Prelude.{◌≡◌, ◌≢◌, ℕ, ◌<◌, ◌≤◌, ◌-◌, true, List, ◌∷◌, ◌++◌, length, reverse, Some, slice_get}
 use Rattle.std.specs.List.{Contains}
 use Rattle.sms_field.specs.AddressValue.{AddressValue}
 use Rattle.sms_message.specs.Message.{Origin}
