@@ -13,6 +13,8 @@ const ENOUGH: usize = 32_768;
 #[derive(Drop)]
 pub struct Page {
     octets: Vec<u8>,
+    /// Room that an object is written into, empty between them.
+    room: Vec<u8>,
     is_cut: bool,
 }
 
@@ -21,23 +23,28 @@ impl Page {
     pub fn new(alloc: Global) -> Page {
         Page {
             octets: Vec::new(alloc),
+            room: Vec::new(alloc),
             is_cut: false,
         }
     }
 
-    /// A page that has these octets, and that is cut after them or not.
-    pub fn of(octets: Vec<u8>, is_cut: bool) -> Page {
-        Page { octets, is_cut }
+    /// Takes the room that an object is written into.
+    pub fn take_room(&mut self, alloc: Global) -> Vec<u8> {
+        mem::replace(&mut self.room, Vec::new(alloc))
     }
 
-    /// The octets, and whether they are cut.
-    pub fn into_parts(self) -> (Vec<u8>, bool) {
-        (self.octets, self.is_cut)
+    /// Adds the line of an object, cut or not, and keeps the room that it was written into.
+    pub fn put_object(&mut self, object: Vec<u8>, is_cut: bool) {
+        self.put(&object);
+        self.is_cut = self.is_cut || is_cut;
+        self.put(b"\n");
+        self.room = object;
+        self.room.clear();
     }
 
     /// The page as a text, which is in UTF-8.
     pub fn into_text(self) -> Result<String, Fault> {
-        let Page { octets, is_cut } = self;
+        let Page { octets, is_cut, .. } = self;
         if is_cut {
             return Err(Fault::Memory);
         }

@@ -3,6 +3,7 @@
 
 ghost use Rattle.std.specs.Prelude.{◌≡◌, ◌≤◌, ◌<◌, length, false, None, IfOk, IfSome};
 
+use crate::feed::read_some;
 use sms_world::{DeviceFailed, Sink, Source};
 use std::alloc::{AllocError, Global};
 use std::cell::RefCell;
@@ -209,9 +210,9 @@ fn fill<R: Read, W: Write>(
     if !flush(output) {
         return Err(Silence::Mute);
     }
-    match input.read(room.as_mut_slice()) {
-        Ok(count) => Ok(count),
-        Err(_) => Err(Silence::Deaf),
+    match read_some(input, room.as_mut_slice()) {
+        Some(count) => Ok(count),
+        None => Err(Silence::Deaf),
     }
 }
 
