@@ -1,7 +1,7 @@
 //! JSON that is written a token at a time.
 
 use crate::address_text::AddressText;
-use crate::page::Page;
+use crate::page::{FEW, Page, digits_in};
 use json::Writer;
 use sms_field::Address;
 use std::alloc::{AllocError, Global};
@@ -119,6 +119,15 @@ impl Object {
 
     /// Octets in upper case hexadecimal digits, as a text.
     pub fn octets(&mut self, octets: &[u8]) {
+        let mut room = [0; 2 * FEW];
+        match digits_in(octets, &mut room) {
+            Some(digits) => self.ascii(digits),
+            None => self.many_octets(octets),
+        }
+    }
+
+    /// So many octets that their digits take memory.
+    fn many_octets(&mut self, octets: &[u8]) {
         match hex::encode_upper(self.alloc, octets) {
             Ok(digits) => self.text(&digits),
             Err(error) => self.keep(Err(error)),

@@ -76,13 +76,16 @@ impl Page {
 
     /// Adds an octet in two upper case hexadecimal digits.
     pub fn put_octet(&mut self, octet: u8) {
-        self.put(&[digit_of(octet / 16), digit_of(octet % 16)]);
+        self.put(&digits_of(octet));
     }
 
     /// Adds octets in upper case hexadecimal digits.
     pub fn put_digits(&mut self, octets: &[u8]) {
-        for octet in octets {
-            self.put_octet(*octet);
+        for some in octets.chunks(FEW) {
+            let mut room = [0; 2 * FEW];
+            if let Some(digits) = digits_in(some, &mut room) {
+                self.put(digits);
+            }
         }
     }
 
@@ -110,6 +113,24 @@ impl Page {
         }
         Ok(())
     }
+}
+
+/// How many octets are written at once.
+pub const FEW: usize = 32;
+
+/// The upper case hexadecimal digits of octets, in room that is lent; none where it is too small.
+pub fn digits_in<'a>(octets: &[u8], room: &'a mut [u8; 2 * FEW]) -> Option<&'a [u8]> {
+    let digits = room.get_mut(..octets.len().saturating_mul(2))?;
+    let (pairs, _) = digits.as_chunks_mut::<2>();
+    for (pair, octet) in pairs.iter_mut().zip(octets) {
+        *pair = digits_of(*octet);
+    }
+    Some(digits)
+}
+
+/// The two upper case hexadecimal digits of an octet.
+fn digits_of(octet: u8) -> [u8; 2] {
+    [digit_of(octet / 16), digit_of(octet % 16)]
 }
 
 /// The upper case hexadecimal digit of a number below 16.
