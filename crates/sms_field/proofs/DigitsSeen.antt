@@ -2,7 +2,7 @@
 use Rattle.std.proofs.Common.{◌≡◌, ◌≢◌, ℕ, zero, suc, ◌+◌, ◌-◌, ◌*◌, ◌/◌, ◌%◌, ◌<◌, ◌≤◌, Bool, true, false, cond, ltb, eqb, List, [], ◌∷◌, ◌++◌, length, take, drop, get_or, Ok, Err, refl, sym, ap, subst, ◌∙◌, arith, inl, inr, length-append}
 use Rattle.std.specs.Prelude.{◌&&◌, ◌⊎◌}
 use Rattle.std.specs.List.{AllByRecursion}
-use Rattle.std.proofs.lemmas.List.{get_or-take, get_or_at, get_or_append_left}
+use Rattle.std.proofs.lemmas.List.{get_or-take, get_or_at, get_or_append_left, take_all, take-append-le}
 use Rattle.sms_field.specs.Field.{Outcome, found, refused, found_if}
 use Rattle.sms_field.specs.declared.fault.FieldFault.{FieldFault}
 use Rattle.sms_field.specs.AddressFaults.{bad_digit}
@@ -176,3 +176,22 @@ digits_go kind count at input octets after rest other few e = go (eqb kind 5) re
 
 pub name_goes : (kind count : ℕ) (octets : List ℕ) → kind ≡ 5 → count ≤ 20 → AreSymbolsOf kind (symbols_in (kind == alphanumeric) count octets)
 name_goes kind count octets is few = rw is (refl, name_fits count (4 * count / 7) octets (unpacked 0 (4 * count / 7) octets) few refl refl)
+
+-- ---- both digits of an octet, and as many as are counted of those of all octets
+
+pub both_more : (octets values : List ℕ) (place o : ℕ) → values ≡ digits_in (2 * place) octets → o ≡ get_or octets place 0 → (values ++ (o % 16) ∷ []) ++ (o / 16) ∷ [] ≡ digits_in (2 * (place + 1)) octets
+both_more octets values place o are is =
+    let low = digits_next (2 * place) (o % 16) octets values are (ap (λ (n : ℕ). n % 16) is ∙ low_at (2 * place) place octets (omega arith) (omega arith)) in
+    let high = digits_next (2 * place + 1) (o / 16) octets (values ++ (o % 16) ∷ []) low (ap (λ (n : ℕ). n / 16) is ∙ high_at (2 * place + 1) place octets (omega arith) (omega arith)) in
+    let size : 2 * place + 1 + 1 ≡ 2 * (place + 1) = omega arith in
+    high ∙ ap (λ (n : ℕ). digits_in n octets) size
+
+pub first_digits : (few all : ℕ) (octets : List ℕ) → few ≤ all → take few (digits_in all octets) ≡ digits_in few octets
+unfolding digits_in
+first_digits few zero octets le = let none : few ≡ 0 = omega (arith, le) in rw none refl
+first_digits few (suc all) octets le =
+    let size = length-digits_in all octets in
+    elim (last_or_before few (suc all) (omega (arith, le))) [
+      | inl whole ↦ rw whole (take_all (suc all) (digits_in all octets ++ digit_in octets all ∷ []) (omega (arith, size, length-append (digits_in all octets) (digit_in octets all ∷ []))))
+      | inr before ↦ take-append-le few (digits_in all octets) (digit_in octets all ∷ []) (omega (arith, before, size)) ∙ first_digits few all octets (omega (arith, before))
+    ]

@@ -1,6 +1,6 @@
 //! Addresses of the transfer layer (3GPP TS 23.040, 9.1.2.5).
 
-ghost use Rattle.std.specs.Prelude.{◌≡◌, ◌++◌, IfOk, IfErr, OnOk, OnErr};
+ghost use Rattle.std.specs.Prelude.{◌≡◌, ◌++◌, IsOk, IfOk, IfErr, OnOk, OnErr};
 ghost use Rattle.sms_field.specs.Field.{IsLawful, IsSelfContained};
 ghost use Rattle.sms_field.specs.AddressValue.{HasSpelling};
 ghost use Rattle.sms_field.specs.Address.{address, address_octets};
@@ -66,14 +66,15 @@ pub fn address_laws()
 {}
 
 impl Address {
-    /// The same address.
-    pub fn copy(&self, alloc: Global) -> Result<Address, AllocError>
-        ensures { IfOk result (λ copy. copy ≡ self.now) }
+    /// The same address. It takes no memory.
+    pub fn copy(&self, _alloc: Global) -> Result<Address, AllocError>
+        ensures copy { IfOk result (λ copy. copy ≡ self.now) }
+        ensures succeeds { IsOk result }
     {
         Ok(Address {
             type_of_number: self.type_of_number,
             plan: self.plan,
-            symbols: self.symbols.copy(alloc)?,
+            symbols: self.symbols.copy(),
         })
     }
 

@@ -34,7 +34,7 @@ pub fn digits_of_telephone(alloc: Global, text: &str) -> Result<Digits, TextFaul
     if values.len() > DIGITS_MAX {
         return Err(TextFault::Address(AddressFault::AddressTooLong));
     }
-    Ok(Digits::new(values))
+    Ok(Digits::new(values.as_slice()))
 }
 
 /// The text of digits, after a `+` where the type of number is 1.
@@ -88,7 +88,7 @@ fn name(alloc: Global, text: &str) -> Result<Address, TextFault>
     Ok(Address {
         type_of_number: ALPHANUMERIC,
         plan: 0,
-        symbols: Symbols::Name(Name::new(septets)),
+        symbols: Symbols::Name(Name::new(septets.as_slice())),
     })
 }
 

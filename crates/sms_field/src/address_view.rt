@@ -1,6 +1,6 @@
 //! Addresses of the transfer layer, seen in a unit's octets (3GPP TS 23.040, 9.1.2.5).
 
-ghost use Rattle.std.specs.Prelude.{◌≡◌, ◌≤◌, ◌==◌, ◌+◌, ◌/◌, length, IfOk, IfErr};
+ghost use Rattle.std.specs.Prelude.{◌≡◌, ◌≤◌, ◌==◌, ◌+◌, ◌/◌, length, IsOk, IfOk, IfErr};
 ghost use Rattle.sms_field.specs.AddressValue.{AreSymbolsOf, HasSpelling};
 ghost use Rattle.sms_field.specs.Address.{symbols_of, address};
 ghost use Rattle.sms_field.specs.AddressSeen.{digits_in, symbols_seen};
@@ -14,13 +14,10 @@ ghost use Rattle.sms_field.specs.DigitOctets.{digits};
 
 use crate::address::{ALPHANUMERIC, Address};
 use crate::cursor::Cursor;
-use crate::digits::{DIGITS_MAX, Digits, both_digits_of, low_digit_of};
+use crate::digits::{DIGITS_MAX, both_digits_of, low_digit_of};
 use crate::fault::{AddressFault, FieldFault};
-use crate::name::Name;
 use crate::refusal::Fault;
-use crate::symbols::Symbols;
 use crate::symbols_view::{DigitsView, NameView, SymbolsView};
-use sms_text::unpack;
 use std::alloc::{AllocError, Global};
 use std::marker::Model;
 
@@ -82,24 +79,6 @@ fn symbols_seen_at<'a>(
         let octets = digits_seen_at(input, count)?;
         Ok(octets)
     }
-}
-
-/// The digits in octets, as many as are counted.
-pub fn digits_from(alloc: Global, octets: &[u8], count: u8) -> Result<Vec<u8>, AllocError>
-    requires { length octets.now ≡ (count + 1) / 2 }
-    ensures { IfOk result (λ values. values.items ≡ digits_in count octets.now) }
-{
-    let mut digits = Vec::with_capacity(alloc, count as usize)?;
-    for place in 0..count {
-        let octet = octets[usize::from(place / 2)];
-        let digit = if place % 2 == 0 {
-            octet % 16
-        } else {
-            octet / 16
-        };
-        digits.push(digit)?;
-    }
-    Ok(digits)
 }
 
 impl<'a> AddressView<'a> {
@@ -171,22 +150,15 @@ impl<'a> AddressView<'a> {
         }
     }
 
-    /// The address itself.
-    pub fn to_value(&self, alloc: Global) -> Result<Address, AllocError>
-        ensures { IfOk result (λ address. address ≡ self.now) }
+    /// The address itself. It takes no memory.
+    pub fn to_value(&self, _alloc: Global) -> Result<Address, AllocError>
+        ensures value { IfOk result (λ address. address ≡ self.now) }
+        ensures succeeds { IsOk result }
     {
-        let symbols = if self.type_of_number == ALPHANUMERIC {
-            match unpack(alloc, self.octets, 0, usize::from(4 * self.count / 7))? {
-                Some(septets) => Symbols::Name(Name::new(septets)),
-                None => unreachable!(),
-            }
-        } else {
-            Symbols::Digits(Digits::new(digits_from(alloc, self.octets, self.count)?))
-        };
         Ok(Address {
             type_of_number: self.type_of_number,
             plan: self.plan,
-            symbols,
+            symbols: self.symbols().to_value(),
         })
     }
 }

@@ -14,6 +14,7 @@ ghost use Rattle.std.specs.Hash as fed;
 ghost use Rattle.std.proofs.Common.{rules};
 
 use crate::fault::{AddressFault, FieldFault};
+use arrayvec::ArrayVec;
 use std::alloc::{AllocError, Global};
 use std::hash::{Hash, Hasher};
 use std::marker::Model;
@@ -21,10 +22,10 @@ use std::marker::Model;
 /// The most digits of an address.
 pub(crate) const DIGITS_MAX: usize = 20;
 
-/// Up to 20 digits, each 0 to 14.
+/// Up to 20 digits, each 0 to 14. They lie in the value itself.
 #[derive(Debug, Drop)]
 pub struct Digits {
-    values: Vec<u8>,
+    values: ArrayVec<u8, DIGITS_MAX>,
 }
 
 impl Model for Digits {
@@ -59,13 +60,24 @@ impl Hash for Digits {
     ghost respects_eq = { Prim.search (hashing, rules) };
 
     fn hash<H: Hasher>(&self, state: &mut H) {
-        self.values.hash(state);
+        self.values.as_slice().hash(state);
     }
 }
 
 impl Digits {
     /// These digits.
-    pub fn new(values: Vec<u8>) -> Digits
+    pub fn new(values: &[u8]) -> Digits
+        requires { AreDigits values.now }
+        ensures { result ≡ values.now }
+    {
+        match ArrayVec::try_from(values) {
+            Ok(values) => Digits { values },
+            Err(_) => unreachable!(),
+        }
+    }
+
+    /// The digits that lie in this room.
+    pub(crate) fn of(values: ArrayVec<u8, DIGITS_MAX>) -> Digits
         requires { AreDigits values.items }
         ensures { result ≡ values.items }
     {
@@ -78,15 +90,14 @@ impl Digits {
         ensures few { length result.now ≤ 20 }
         ensures each { All (λ digit. digit < 15) result.now }
     {
-        &self.values
+        self.values.as_slice()
     }
 
     /// The same digits.
-    pub fn copy(&self, alloc: Global) -> Result<Digits, AllocError>
-        ensures { IfOk result (λ copy. copy ≡ self.now) }
+    pub fn copy(&self) -> Digits
+        ensures { result ≡ self.now }
     {
-        let values = Vec::from_slice(alloc, &self.values)?;
-        Ok(Digits { values })
+        Digits::new(self.as_slice())
     }
 }
 

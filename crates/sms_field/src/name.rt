@@ -9,6 +9,7 @@ ghost use Rattle.std.specs.Cmp.Rules.{comparing, hashing};
 ghost use Rattle.std.specs.Hash as fed;
 ghost use Rattle.std.proofs.Common.{rules};
 
+use arrayvec::ArrayVec;
 use sms_text::pack_into;
 use std::alloc::{AllocError, Global};
 use std::hash::{Hash, Hasher};
@@ -17,10 +18,10 @@ use std::marker::Model;
 /// The most septets of a name.
 pub(crate) const SEPTETS_MAX: usize = 11;
 
-/// A name: up to 11 septets of the 7-bit default alphabet.
+/// A name: up to 11 septets of the 7-bit default alphabet. They lie in the value itself.
 #[derive(Debug, Drop)]
 pub struct Name {
-    septets: Vec<u8>,
+    septets: ArrayVec<u8, SEPTETS_MAX>,
 }
 
 impl Model for Name {
@@ -55,13 +56,24 @@ impl Hash for Name {
     ghost respects_eq = { Prim.search (hashing, rules) };
 
     fn hash<H: Hasher>(&self, state: &mut H) {
-        self.septets.hash(state);
+        self.septets.as_slice().hash(state);
     }
 }
 
 impl Name {
     /// The name of these septets.
-    pub fn new(septets: Vec<u8>) -> Name
+    pub fn new(septets: &[u8]) -> Name
+        requires { IsName septets.now }
+        ensures { result ≡ septets.now }
+    {
+        match ArrayVec::try_from(septets) {
+            Ok(septets) => Name { septets },
+            Err(_) => unreachable!(),
+        }
+    }
+
+    /// The name of the septets that lie in this room.
+    pub(crate) fn of(septets: ArrayVec<u8, SEPTETS_MAX>) -> Name
         requires { IsName septets.items }
         ensures { result ≡ septets.items }
     {
@@ -74,15 +86,14 @@ impl Name {
         ensures few { length result.now ≤ 11 }
         ensures each { AreSeptets result.now }
     {
-        &self.septets
+        self.septets.as_slice()
     }
 
     /// The same name.
-    pub fn copy(&self, alloc: Global) -> Result<Name, AllocError>
-        ensures { IfOk result (λ copy. copy ≡ self.now) }
+    pub fn copy(&self) -> Name
+        ensures { result ≡ self.now }
     {
-        let septets = Vec::from_slice(alloc, &self.septets)?;
-        Ok(Name { septets })
+        Name::new(self.as_slice())
     }
 }
 

@@ -1,6 +1,6 @@
 //! Addresses of the relay layer (3GPP TS 24.011, 8.2.5.1 and 8.2.5.2).
 
-ghost use Rattle.std.specs.Prelude.{◌≡◌, ◌<◌, ◌++◌, IfOk, IfErr, OnOk, OnErr};
+ghost use Rattle.std.specs.Prelude.{◌≡◌, ◌<◌, ◌++◌, IsOk, IfOk, IfErr, OnOk, OnErr};
 ghost use Rattle.std.specs.Str.{chars};
 ghost use Rattle.std.specs.String.{string_bytes};
 ghost use Rattle.sms_field.specs.Field.{IsLawful, IsSelfContained};
@@ -134,14 +134,15 @@ impl RpAddress {
         text_of_telephone(alloc, self.type_of_number, &self.digits)
     }
 
-    /// The same address.
-    pub fn copy(&self, alloc: Global) -> Result<RpAddress, AllocError>
-        ensures { IfOk result (λ copy. copy ≡ self.now) }
+    /// The same address. It takes no memory.
+    pub fn copy(&self, _alloc: Global) -> Result<RpAddress, AllocError>
+        ensures copy { IfOk result (λ copy. copy ≡ self.now) }
+        ensures succeeds { IsOk result }
     {
         Ok(RpAddress {
             type_of_number: self.type_of_number,
             plan: self.plan,
-            digits: self.digits.copy(alloc)?,
+            digits: self.digits.copy(),
         })
     }
 

@@ -11,9 +11,8 @@ ghost use Rattle.sms_field.specs.Digits.{AreDigits};
 ghost use Rattle.sms_field.specs.RelayAddressSeen.{last_digits_in, relay_count, relay_digits_in, relay_address_in};
 ghost use Rattle.sms_field.specs.declared.fault.FieldFault.TheVariants.{Short};
 
-use crate::address_view::digits_from;
 use crate::cursor::Cursor;
-use crate::digits::{Digits, both_digits_of};
+use crate::digits::both_digits_of;
 use crate::fault::{AddressFault, FieldFault};
 use crate::refusal::Fault;
 use crate::relay_address::RpAddress;
@@ -168,14 +167,15 @@ impl<'a> RpAddressView<'a> {
         DigitsView::new(self.count, self.octets)
     }
 
-    /// The address itself.
-    pub fn to_value(&self, alloc: Global) -> Result<RpAddress, AllocError>
-        ensures { IfOk result (λ address. address ≡ self.now) }
+    /// The address itself. It takes no memory.
+    pub fn to_value(&self, _alloc: Global) -> Result<RpAddress, AllocError>
+        ensures value { IfOk result (λ address. address ≡ self.now) }
+        ensures succeeds { IsOk result }
     {
         Ok(RpAddress {
             type_of_number: self.type_of_number,
             plan: self.plan,
-            digits: Digits::new(digits_from(alloc, self.octets, self.count)?),
+            digits: self.digits().to_value(),
         })
     }
 
@@ -185,7 +185,7 @@ impl<'a> RpAddressView<'a> {
         view: &Option<RpAddressView<'_>>,
     ) -> Result<Option<RpAddress>, AllocError>
         ensures value { IfOk result (λ address. address ≡ view.now) }
-        ensures none { view.now ≡ None → IsOk result }
+        ensures succeeds { IsOk result }
     {
         match view {
             Some(view) => Ok(Some(view.to_value(alloc)?)),

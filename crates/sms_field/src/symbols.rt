@@ -1,11 +1,10 @@
 //! What stands in an address: digits or a name.
 
-ghost use Rattle.std.specs.Prelude.{◌≡◌, IfOk};
+ghost use Rattle.std.specs.Prelude.{◌≡◌, IsOk, IfOk};
 ghost use Rattle.sms_field.specs.Address.{symbols_length};
 
 use crate::digits::Digits;
 use crate::name::Name;
-use std::alloc::{AllocError, Global};
 
 /// The digits of an address, or the name where its type of number is 5, alphanumeric.
 #[derive(Debug, PartialEq, Eq, Hash, Drop)]
@@ -26,12 +25,12 @@ impl Symbols {
     }
 
     /// The same symbols.
-    pub fn copy(&self, alloc: Global) -> Result<Symbols, AllocError>
-        ensures { IfOk result (λ copy. copy ≡ self.now) }
+    pub fn copy(&self) -> Symbols
+        ensures { result ≡ self.now }
     {
         match self {
-            Symbols::Digits(digits) => Ok(Symbols::Digits(digits.copy(alloc)?)),
-            Symbols::Name(name) => Ok(Symbols::Name(name.copy(alloc)?)),
+            Symbols::Digits(digits) => Symbols::Digits(digits.copy()),
+            Symbols::Name(name) => Symbols::Name(name.copy()),
         }
     }
 }

@@ -4,7 +4,12 @@ ghost use Rattle.std.specs.Prelude.{◌≡◌, ◌+◌, ◌*◌, ◌/◌, ◌<�
 ghost use Rattle.sms_text.specs.Bits.{unpacked};
 ghost use Rattle.sms_field.specs.Digits.{AreDigits};
 ghost use Rattle.sms_field.specs.AddressSeen.{digits_in};
+ghost use Rattle.sms_field.specs.SymbolsSeen.{seen_symbols};
 
+use crate::digits::{DIGITS_MAX, Digits};
+use crate::name::{Name, SEPTETS_MAX};
+use crate::symbols::Symbols;
+use arrayvec::ArrayVec;
 use sms_text::septet_at;
 use std::marker::Model;
 
@@ -36,6 +41,20 @@ impl<'a> DigitsView<'a> {
         ensures { result ≡ digits_in count octets.now }
     {
         DigitsView { count, octets }
+    }
+
+    /// The digits themselves.
+    pub fn to_value(&self) -> Digits
+        ensures { result ≡ self.now }
+    {
+        let mut digits: ArrayVec<u8, DIGITS_MAX> = ArrayVec::new();
+        for place in 0..self.octets.len() {
+            let octet = self.octets[place];
+            digits.push(octet % 16);
+            digits.push(octet / 16);
+        }
+        digits.truncate(usize::from(self.count));
+        Digits::of(digits)
     }
 
     /// How many digits there are.
@@ -95,6 +114,20 @@ impl<'a> NameView<'a> {
         NameView { count, octets }
     }
 
+    /// The name itself.
+    pub fn to_value(&self) -> Name
+        ensures { result ≡ self.now }
+    {
+        let mut septets: ArrayVec<u8, SEPTETS_MAX> = ArrayVec::new();
+        for place in 0..self.count {
+            match septet_at(self.octets, 0, place) {
+                Some(septet) => septets.push(septet),
+                None => unreachable!(),
+            }
+        }
+        Name::of(septets)
+    }
+
     /// How many septets there are.
     pub fn count(&self) -> u8
         ensures is { result ≡ length self.now }
@@ -130,4 +163,16 @@ impl<'a> NameView<'a> {
 pub enum SymbolsView<'a> {
     Digits(DigitsView<'a>),
     Name(NameView<'a>),
+}
+
+impl<'a> SymbolsView<'a> {
+    /// The digits or the name themselves.
+    pub fn to_value(&self) -> Symbols
+        ensures { result ≡ seen_symbols self.now }
+    {
+        match self {
+            SymbolsView::Digits(digits) => Symbols::Digits(digits.to_value()),
+            SymbolsView::Name(name) => Symbols::Name(name.to_value()),
+        }
+    }
 }

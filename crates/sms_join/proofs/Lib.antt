@@ -31,3 +31,4 @@ pub mod Sendable
 pub mod Places
 pub mod Offers
 pub mod Finishing
+pub mod Few

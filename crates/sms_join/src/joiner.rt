@@ -1,12 +1,12 @@
 //! A joiner of segments.
 
-ghost use Rattle.std.specs.Prelude.{◌≡◌, ℕ, ◌<◌, false, IfOk, OnOk, OnErr};
+ghost use Rattle.std.specs.Prelude.{◌≡◌, ℕ, ◌<◌, ◌≤◌, false, IfOk, OnOk, OnErr};
 ghost use Rattle.sms_join.specs.declared.units.Units.{Units as TheUnits};
 ghost use Rattle.sms_join.specs.Aging.{aged};
 ghost use Rattle.sms_join.specs.Finishing.{would_finish};
 ghost use Rattle.sms_join.specs.Piece.{piece_of, key_of, sequence_of, size_of};
 ghost use Rattle.sms_tpdu.specs.UserData.ConcatenationFound.{IsPlace};
-ghost use Rattle.sms_join.specs.Sets.{is_open};
+ghost use Rattle.sms_join.specs.Sets.{is_open, open_sets};
 ghost use Rattle.sms_join.specs.Joiner.{new_joiner, is_among, offered};
 ghost use Rattle.sms_join.specs.JoinerValue.{SameLimits};
 ghost use Rattle.sms_join.specs.Same.{IsSame};
@@ -36,6 +36,7 @@ pub struct Joiner {
 }
 
 impl Model for Joiner {
+    ghost use Rattle.std.specs.Prelude.{◌≤◌, length};
     ghost use Rattle.sms_join.specs.JoinerValue.{JoinerValue};
     ghost use Rattle.sms_join.specs.OpenSet.{all_pieces, AreOpen};
 
@@ -47,7 +48,7 @@ impl Model for Joiner {
       holds = record { kept = all_pieces j.sets; finished = j.finished.keys };
     } };
 
-    ghost invariant = { λ j. AreOpen j.sets };
+    ghost invariant = { λ j. AreOpen j.sets × (length j.sets ≤ j.open_max) };
 }
 
 /// The place of a piece in its set.
@@ -133,6 +134,14 @@ impl Joiner {
         let key = self.sets.remove(index);
         self.finished.push(key);
         Ok(Offer::Finished(text))
+    }
+
+    /// How many sets are open: never more than may be.
+    pub fn open_count(&self) -> usize
+        ensures count { result ≡ open_sets self.now.holds.kept }
+        ensures few { result ≤ self.now.open_max }
+    {
+        self.sets.count()
     }
 
     /// Whether such a message or segment would finish its set. Its place, if it has one, is as for

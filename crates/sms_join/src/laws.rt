@@ -6,7 +6,7 @@ ghost use Rattle.sms_join.specs.Completion.{CompletedAreWhole, CompleteInOrder};
 ghost use Rattle.sms_join.specs.Counts.{WholeByCount};
 ghost use Rattle.sms_join.specs.Cut.{HasOneCut};
 ghost use Rattle.sms_join.specs.Finishing.{AnswerFinishes, SameIsEquivalence};
-ghost use Rattle.sms_join.specs.History.{FinishesByHistory};
+ghost use Rattle.sms_join.specs.History.{FinishesByHistory, OffersTellAnswers};
 ghost use Rattle.sms_join.specs.Joining.{JoinsInOrder, JoinsOne};
 ghost use Rattle.sms_join.specs.OpenTexts.{AgesOne, NewIsFresh, OpenSetsAreOpenTexts, StayApart, TurnsAway};
 ghost use Rattle.sms_join.specs.Pieces.{FinishesOnce, FinishesText};
@@ -25,7 +25,15 @@ pub fn pieces_finish_text()
     ensures { FinishesText }
 {}
 
-/// Which offers of any list of offers and agings finish their set is told by these and the answers.
+/// What a new joiner answers to each of any list of offers and agings, which keys finish in what
+/// order, and which offers are turned away, is told by the offers and agings alone.
+pub fn offers_tell_answers()
+    ensures { OffersTellAnswers }
+{}
+
+/// An offer finishes its set just where its key is not among the last that finished, its sequence
+/// has not been kept since the key last finished or was dropped, and with it each sequence from 1
+/// to the maximum has.
 pub fn finishes_by_history()
     ensures { FinishesByHistory }
 {}

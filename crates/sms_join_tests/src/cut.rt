@@ -243,6 +243,19 @@ fn refuses_a_longer_text(rt: HostRuntime) {
     );
 }
 
+#[test]
+fn splits_no_longer_text(rt: HostRuntime) -> Result<(), Fail> {
+    let text = repeated(rt.alloc(), "a", 39_015, "a")?;
+    let fault = split(rt.alloc(), &text, Width::Eight).err();
+    same(
+        &rt,
+        &"a letter more",
+        &fault,
+        &Some(SplitFault::TooManySegments),
+    );
+    Ok(())
+}
+
 /// Whether such a text has segments of these numbers of units, and they are read as the text.
 fn is_repeated_cut(
     alloc: Global,

@@ -487,6 +487,7 @@ fn offers_six(
 fn holds_six(rt: &impl Abort, alloc: Global, joiner: &mut Joiner) -> Result<(), Fail> {
     offers_six(rt, alloc, joiner, 1, &OPENS)?;
     offers(rt, alloc, joiner, 0, &SEVENTH)?;
+    same(rt, &"open sets", &joiner.open_count(), &6);
     offers_six(rt, alloc, joiner, 2, &LAST)
 }
 

@@ -3,3 +3,4 @@ pub mod Replies
 pub mod Carrying
 pub mod OneMessage
 pub mod EachMessage
+pub mod Glances

@@ -108,11 +108,11 @@ one_report side cause (Some octets) r q h k = one_some side cause octets r q h.0
 
 -- ---- relay messages
 
-rp_apart : (octets : List ℕ) → StartsAs rp_type fault.UnknownType octets → ¬ IsReadable (Reads rp_message) octets
+pub rp_apart : (octets : List ℕ) → StartsAs rp_type fault.UnknownType octets → ¬ IsReadable (Reads rp_message) octets
 unfolding rp_message
 rp_apart octets h = starts_apart fault.Short fault.UnknownType rp_type _ octets h
 
-one_rp : (octets : List ℕ) (m n : RpValue) (used other : ℕ) → IsOctets octets → Reads rp_message m octets used → Reads rp_message n octets other → n ≡ m
+pub one_rp : (octets : List ℕ) (m n : RpValue) (used other : ℕ) → IsOctets octets → Reads rp_message m octets used → Reads rp_message n octets other → n ≡ m
 one_rp octets m n used other are h k = (one_reading rp_message fault.Short rp_laws.lawful m n octets used other are h k).0
 
 same_transfer : (octets : List ℕ) (reference : ℕ) (s t : Side) (u w : TransferUnit) → IsOctets octets → ReadsTransfer octets s reference u → ReadsTransfer octets t reference w → ◌≡◌ {A = Relay} (Transfer t w) (Transfer s u)
@@ -169,7 +169,7 @@ one_relay octets reference Unreadable Unreadable are h k = refl
 
 -- ---- messages
 
-one_cp : (packet : List ℕ) (m n : CpValue) (used other : ℕ) → IsOctets packet → Reads cp_message m packet used → Reads cp_message n packet other → n ≡ m
+pub one_cp : (packet : List ℕ) (m n : CpValue) (used other : ℕ) → IsOctets packet → Reads cp_message m packet used → Reads cp_message n packet other → n ≡ m
 one_cp packet m n used other are h k = (one_reading cp_message fault.Short cp_laws.lawful m n packet used other are h k).0
 
 note_apart : (octets : List ℕ) (b : CpBody) → IsNote b → b ≡ cp.Transfer octets → ⊥
@@ -199,7 +199,7 @@ one_second [] m n h k = absurd h
 one_second (a ∷ []) m n h k = absurd h
 one_second (a ∷ b ∷ rest) m n h k = k ∙ sym h
 
-tag_same : (t u : Tag) → u.value ≡ t.value → u.reference ≡ t.reference → u ≡ t
+pub tag_same : (t u : Tag) → u.value ≡ t.value → u.reference ≡ t.reference → u ≡ t
 tag_same t u e f = let p : ◌≡◌ {A = Tag} (record { value = u.value; reference = u.reference }) (record { value = t.value; reference = t.reference }) = cc in p
 
 same_data : (packet : List ℕ) (f g : Bool) (t u : Tag) (r q : Relay) → IsOctets packet → ReadsAs packet (Data f t r) → ReadsAs packet (Data g u q) → ◌≡◌ {A = Message} (Data g u q) (Data f t r)

@@ -7,3 +7,4 @@ pub mod Splitting
 pub mod Does
 pub mod Drops
 pub mod Few
+pub mod Memory

@@ -3,6 +3,7 @@
 #![tactic(auto)]
 
 pub mod failure_cause;
+mod glance;
 mod laws;
 mod message;
 mod outcome;
@@ -10,6 +11,7 @@ pub mod packets;
 mod reading;
 pub mod rp_cause;
 
+pub use glance::{Glance, RelayGlance, glance_at};
 pub use laws::{
     carried_messages_are_read, octets_are_read_as_a_message, octets_are_read_as_one_message,
 };

@@ -33,15 +33,14 @@ pub fn wrapped(packet: Result<Vec<u8>, WrapFault>) -> Result<Vec<u8>, Dropped>
 }
 
 /// The address of the centre, +1000.
-pub fn address_of_centre(alloc: Global) -> Result<RpAddress, AllocError>
-    ensures { IfOk result (λ a. a ≡ centre_address) }
+pub fn address_of_centre() -> RpAddress
+    ensures { result ≡ centre_address }
 {
-    let digits = vec![in alloc; 1, 0, 0, 0]?;
-    Ok(RpAddress {
+    RpAddress {
         type_of_number: 1,
         plan: 1,
-        digits: Digits::new(digits),
-    })
+        digits: Digits::new(&[1, 0, 0, 0]),
+    }
 }
 
 /// A CP-ACK.

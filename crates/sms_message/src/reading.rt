@@ -1,6 +1,6 @@
 //! The message as which octets are read.
 
-ghost use Rattle.std.specs.Prelude.{◌≡◌, ◌<◌, ℕ, List, ◌∷◌, Option, is_some, IfOk, IfErr, MatchOption, option_copied};
+ghost use Rattle.std.specs.Prelude.{◌≡◌, ◌<◌, ℕ, List, ◌∷◌, Option, is_some, IfOk, IfErr, OnErr, MatchOption, option_copied};
 ghost use Rattle.sms_text.specs.Octets.{IsOctets};
 ghost use Rattle.sms_field.specs.Reading.{Reads, IsReadable};
 ghost use Rattle.sms_relay.specs.Rp.{rp_message};
@@ -9,13 +9,13 @@ ghost use Rattle.sms_relay.specs.declared.side.Side.TheVariants.{FromPhone, ToPh
 ghost use Rattle.sms_message.specs.declared.message.Report.{Report};
 ghost use Rattle.sms_message.specs.declared.message.Relay.TheVariants.{Answer};
 ghost use Rattle.sms_field.specs.ReadValues.{AreOptionalOctets};
-ghost use Rattle.sms_message.specs.Message.Reading.{ReadsAs, ReadsUnit, ReadsSomeReport, ReadsReport, ReadsRelay, HasTag};
+ghost use Rattle.sms_message.specs.Message.Reading.{ReadsAs, ReadsUnit, ReadsSomeReport, ReadsReport, ReadsRelay, IsLongData, HasTag};
 ghost use Rattle.sms_message.specs.declared.outcome.Dropped.TheVariants.{Memory};
 
 use crate::message::{Message, Relay, Report, Tag, TransferUnit};
 use crate::outcome::Dropped;
 use sms_field::Refusal;
-use sms_relay::{CpBody, Inner, RelayFault, RpBody, RpMessage, Side, unwrap};
+use sms_relay::{CpBodyView, Inner, RelayFault, RpBody, RpMessage, Side, unwrap_view};
 use sms_tpdu::{
     Deliver, DeliverAck, DeliverError, Octets, Submit, SubmitAck, SubmitError, Unit, UnitFault,
 };
@@ -151,31 +151,28 @@ fn relay_in(alloc: Global, inner: Inner) -> Result<Relay, Dropped>
     }
 }
 
-/// The message as which octets are read.
+/// The message as which octets are read. Memory is asked for a CP-DATA of two octets or more alone.
 pub fn read_message(alloc: Global, octets: &[u8]) -> Result<Message, Dropped>
     ensures read { IfOk result (ReadsAs octets.now) }
     ensures tagged { IfOk result HasTag }
     ensures err { IfErr result (λ e. e ≡ Memory) }
+    ensures data { OnErr result (IsLongData octets.now) }
 {
-    let (connection, inner) = match unwrap(alloc, octets) {
-        Ok(found) => found,
-        Err(Refusal::Memory) => return Err(Dropped::Memory),
-        Err(Refusal::At { .. }) => return Ok(Message::NotCp),
+    let Ok((connection, inner)) = unwrap_view(octets) else {
+        return Ok(Message::NotCp);
     };
     let flag = connection.flag;
     let value = connection.value;
-    let CpBody::Transfer(user) = connection.body else {
-        drop(inner);
+    let CpBodyView::Transfer(user) = connection.body else {
         return Ok(Message::Note { flag, value });
     };
     let [_, reference, ..] = user.as_slice() else {
-        drop(inner);
         return Ok(Message::Tiny { flag, value });
     };
     let tag = Tag {
         value,
         reference: *reference,
     };
-    let relay = relay_in(alloc, inner)?;
+    let relay = relay_in(alloc, inner.to_value(alloc)?)?;
     Ok(Message::Data { flag, tag, relay })
 }

@@ -49,10 +49,8 @@ fn acknowledges(rt: HostRuntime) -> Result<(), Fail> {
 
 /// Whether the address of the centre says this.
 fn is_centre(alloc: Global, text: &str) -> Result<bool, AllocError> {
-    let centre = address_of_centre(alloc)?;
-    let said = centre.to_text(alloc);
-    drop(centre);
-    Ok(said?.as_str() == text)
+    let said = address_of_centre().to_text(alloc)?;
+    Ok(said.as_str() == text)
 }
 
 #[test]

@@ -1,7 +1,6 @@
 pub mod Storing
 mod PhoneRows
 pub mod Waiting
-pub mod Phones
 pub mod OtherPhones
 pub mod SenderParts
 pub mod SenderStatus
@@ -9,3 +8,5 @@ pub mod SenderSteps
 pub mod Few
 pub mod Drops
 pub mod Ended
+pub mod SenderFew
+pub mod Passing

@@ -1,6 +1,8 @@
 -- A phone: its sender takes what comes in the transactions that it has opened, its receiver the
 -- rest.
-use Rattle.std.specs.Prelude.{◌≡◌, ℕ, Bool, true, false, List, Result, Err}
+use Rattle.std.specs.Prelude.{◌≡◌, ℕ, Bool, true, false, if◌then◌else◌, List, Result, Err}
+use Rattle.sms_message.specs.declared.glance.Glance.{Glance}
+use Rattle.sms_message.specs.Message.Glance.{flag_of}
 use Rattle.sms_message.specs.declared.message.Message.{Message}
 use Rattle.sms_message.specs.declared.message.Message.TheVariants.{NotCp, Note, Tiny, Data}
 use Rattle.sms_message.specs.declared.outcome.Step.{Step}
@@ -10,6 +12,8 @@ use Rattle.sms_message.specs.Message.Reading.{ReadsAs}
 use Rattle.sms_party.specs.Sender.Value.{SenderValue}
 use Rattle.sms_party.specs.Sender.Answers.{sender_takes}
 use Rattle.sms_party.specs.Sender.Stands as sender
+use Rattle.sms_party.specs.Sender.Waits.{waits_for}
+use Rattle.sms_party.specs.Receiver.Waits.{takes_up}
 use Rattle.sms_party.specs.Receiver.{receiver_receives}
 use Rattle.sms_party.specs.Receiver.Standing as receiver
 use Rattle.sms_party.specs.Receiver.Standing.{ReceiverValue}
@@ -25,6 +29,10 @@ is_answer NotCp = false
 is_answer (Note flag value) = flag
 is_answer (Tiny flag value) = flag
 is_answer (Data flag tag relay) = flag
+
+-- What the sender waits for, and what the receiver takes up.
+abbrev pub phone_takes_up : PhoneValue → Glance → Bool
+phone_takes_up phone seen = if flag_of seen then waits_for phone.sender seen else takes_up seen
 
 -- One of the two takes the message, and the other one stays as it is.
 abbrev pub TakesBy : Bool → ℕ → Message → PhoneValue → Result Step Dropped → PhoneValue → Type 0

@@ -4,6 +4,7 @@ pub mod Pieces
 pub mod Offers
 pub mod Aging
 pub mod Standing
+pub mod Waits
 use Rattle.std.specs.Prelude.{ℕ, true, false, Option, Some, None}
 use Rattle.sms_field.specs.Coding.{alphabet_at}
 use Rattle.sms_relay.specs.declared.side.Side.TheVariants.{FromPhone, ToPhone}

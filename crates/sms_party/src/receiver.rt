@@ -1,19 +1,25 @@
 //! The receiving phone.
 
-ghost use Rattle.std.specs.Prelude.{◌≡◌, ◌<◌, ◌≤◌, nat_le, length, ◌&&◌, ℕ, false, IfOk, OnErr};
+ghost use Rattle.std.specs.Prelude.{◌≡◌, ◌≢◌, ◌<◌, ◌≤◌, nat_le, length, ◌&&◌, ℕ, true, false, Err, IfOk, OnErr};
+ghost use Rattle.std.specs.Vec.{vec_len, vec_capacity};
 ghost use Rattle.sms_field.specs.Coding.{alphabet_at};
 ghost use Rattle.sms_join.specs.declared.units.Units.{Units as TheUnits};
 ghost use Rattle.sms_join.specs.Piece.{piece_of};
 ghost use Rattle.sms_tpdu.specs.UserData.ConcatenationFound.{IsPlace, concat_of_header};
 ghost use Rattle.sms_join.specs.Finishing.{would_finish};
-ghost use Rattle.sms_message.specs.Message.Tests.{is_data, is_transfer};
+ghost use Rattle.sms_message.specs.Few.{FewPackets};
+ghost use Rattle.sms_message.specs.Memory.{MemoryOnlyFor};
+ghost use Rattle.sms_message.specs.Message.Glance.{glance_of};
+ghost use Rattle.sms_message.specs.Message.Tests.{is_transfer};
 ghost use Rattle.sms_message.specs.Message.Reading.{HasTag};
 ghost use Rattle.sms_party.specs.Receiver.State.{limits_of};
 ghost use Rattle.sms_party.specs.Receiver.Pieces.{units_in};
 ghost use Rattle.sms_party.specs.Receiver.Offers.{offers_units, receiver_offers};
 ghost use Rattle.sms_party.specs.Receiver.{receiver_takes, receiver_opened, receiver_receives};
 ghost use Rattle.sms_party.specs.Receiver.Standing.{IsNew, AgesTo, Steps, ReceivesAs};
+ghost use Rattle.sms_party.specs.Receiver.Waits.{takes_up};
 ghost use Rattle.sms_message.specs.declared.outcome.Dropped.TheVariants.{Memory};
+ghost use Rattle.sms_message.specs.declared.message.Message.{Message as MessageValue};
 
 mod replying;
 
@@ -23,8 +29,8 @@ use sms_join::laws::{agings_keep_same, answer_finishes, answers_alike, same_is_e
 use sms_join::{Joiner, Offer, OfferFault, Ucs2Units, Units};
 use sms_message::packets::relay_refusal;
 use sms_message::{
-    Dropped, Message, Outcome, Relay, Step, Tag, TransferUnit, failure_cause, read_message,
-    rp_cause,
+    Dropped, Glance, Message, Outcome, Relay, RelayGlance, Step, Tag, TransferUnit, failure_cause,
+    glance_at, octets_are_read_as_a_message, read_message, rp_cause,
 };
 use sms_relay::Side;
 use sms_text::units_of_octets;
@@ -97,6 +103,27 @@ fn units_of(alloc: Global, alphabet: Alphabet, body: Body) -> Result<Option<Unit
     }
 }
 
+/// Whether a receiver takes such a message up.
+fn takes_up(seen: Glance) -> bool
+    ensures { result ≡ takes_up seen }
+{
+    match seen {
+        Glance::Data { flag, relay, .. } => {
+            !flag
+                && (relay == RelayGlance::Transfer(Side::ToPhone) || relay == RelayGlance::NoRelay)
+        }
+        _ => false,
+    }
+}
+
+/// Makes room in the store for a text, where one finishes.
+fn make_room(store: &mut Vec<Entry>, finishes: bool) -> Result<(), AllocError>
+    ensures items { store.new.items ≡ store.old.items }
+    ensures room { IfOk result (λ _. finishes ≡ true → vec_len store.new < vec_capacity store.new) }
+{
+    if finishes { store.reserve(1) } else { Ok(()) }
+}
+
 impl Receiver {
     /// A phone with an empty store: how many sets of segments may be open, how many finished ones
     /// are remembered, and how many texts are stored. The first two must be above 0.
@@ -141,17 +168,25 @@ impl Receiver {
     /// in seconds since the beginning of 2000. A CP-ACK or CP-ERROR is noted. An RP-DATA to the
     /// phone, and a CP-DATA whose octets, two or more, are no RP message, are answered by a CP-ACK,
     /// and by an RP-ACK or RP-ERROR. All else is dropped. If it is dropped, or memory runs out,
-    /// nothing has changed.
+    /// nothing has changed; memory is asked for what is answered alone.
     pub fn receive(&mut self, now: u64, octets: &[u8]) -> Result<Step, Dropped>
         ensures receives { ReceivesAs now octets.now self.old result self.new }
+        ensures few { FewPackets result }
+        ensures memory { MemoryOnlyFor takes_up octets.now result }
         ensures refused { OnErr result (self.new ≡ self.old) }
     {
+        octets_are_read_as_a_message();
+        same_is_equivalence();
+        let seen = glance_at(octets);
+        if !takes_up(seen) {
+            return self.pass(now, seen);
+        }
         let message = read_message(self.alloc, octets)?;
         self.take(now, message)
     }
 
     /// Takes a message.
-    pub(crate) fn take(&mut self, now: u64, message: Message) -> Result<Step, Dropped>
+    fn take(&mut self, now: u64, message: Message) -> Result<Step, Dropped>
         requires tag { HasTag message }
         ensures steps { Steps (λ limits s origin. receiver_receives limits s now message origin)
             self.old result self.new }
@@ -167,27 +202,30 @@ impl Receiver {
                 }
             }
             other => {
-                let step = self.pass(now, &other);
+                let seen = other.glance();
                 drop(other);
-                step
+                self.pass(now, seen)
             }
         }
     }
 
-    /// Takes a message without data.
-    fn pass(&self, now: u64, message: &Message) -> Result<Step, Dropped>
-        requires { is_data message.now ≡ false }
-        ensures { Steps (λ limits s origin. receiver_receives limits s now message.now origin)
+    /// Takes a message that is dropped or noted.
+    fn pass(&self, now: u64, seen: Glance) -> Result<Step, Dropped>
+        requires { takes_up seen ≡ false }
+        ensures steps { (message : MessageValue) → glance_of message ≡ seen
+            → Steps (λ limits s origin. receiver_receives limits s now message origin)
             self.now result self.now }
+        ensures few { FewPackets result }
+        ensures memory { result ≢ Err Memory }
     {
-        match message {
-            Message::NotCp => Err(Dropped::NotCp),
-            Message::Note { .. } => Ok(Step {
+        match seen {
+            Glance::NotCp => Err(Dropped::NotCp),
+            Glance::Note { .. } => Ok(Step {
                 outcome: Outcome::Noted,
                 packets: Vec::new(self.alloc),
             }),
-            Message::Tiny { .. } => Err(Dropped::Unmatched),
-            Message::Data { .. } => Err(Dropped::Unmatched),
+            Glance::Tiny { .. } => Err(Dropped::Unmatched),
+            Glance::Data { .. } => Err(Dropped::Unmatched),
         }
     }
 
@@ -330,7 +368,7 @@ impl Receiver {
     }
 
     /// Offers the joiner a message or a segment that the store has room for. Nothing grows after
-    /// the joiner has taken it.
+    /// the joiner has taken it; and the store grows for a text that finishes alone.
     fn offer(
         &mut self,
         now: u64,
@@ -353,7 +391,10 @@ impl Receiver {
         answers_alike();
         answer_finishes();
         same_is_equivalence();
-        self.store.reserve(1)?;
+        make_room(
+            &mut self.store,
+            self.joiner.would_finish(&origin, stamp, concat),
+        )?;
         let packets = approval(self.alloc, tag)?;
         match self.joiner.offer(now, &origin, stamp, concat, units) {
             Ok(Offer::Repeat) => Ok(Step {

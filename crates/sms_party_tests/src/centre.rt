@@ -18,17 +18,16 @@ use std::process::Abort;
 use std::test::Fail;
 
 /// The address +100 and this digit.
-fn phone(alloc: Global, last: u8) -> Result<Address, AllocError>
+fn phone(last: u8) -> Address
     requires { last < 10 }
     ensures { let number = symbols.Digits (1 ∷ 0 ∷ 0 ∷ last ∷ []) in
-        IfOk result (λ a. a ≡ record { kind = 1; plan = 1; symbols = number }) }
+        result ≡ record { kind = 1; plan = 1; symbols = number } }
 {
-    let digits = [1, 0, 0, last].to_vec(alloc)?;
-    Ok(Address {
+    Address {
         type_of_number: 1,
         plan: 1,
-        symbols: Symbols::Digits(Digits::new(digits)),
-    })
+        symbols: Symbols::Digits(Digits::new(&[1, 0, 0, last])),
+    }
 }
 
 /// A centre with three phones.
@@ -44,7 +43,7 @@ fn new_fixture(alloc: Global, held: usize) -> Result<Fixture, Fail>
     requires some { 0 < held }
     requires most { held ≤ 1000 }
 {
-    let phones = [phone(alloc, 1)?, phone(alloc, 2)?, phone(alloc, 3)?];
+    let phones = [phone(1), phone(2), phone(3)];
     let centre = Centre::new(alloc, held, &phones)?;
     Ok(Fixture { centre })
 }
@@ -149,6 +148,21 @@ fn pushes_in_turn(rt: HostRuntime) -> Result<(), Fail> {
 #[test]
 fn forgets_what_has_ended(rt: HostRuntime) -> Result<(), Fail> {
     plays(&rt, rt.alloc(), 1000, ENDED.as_slice())
+}
+
+/// Whether another number of messages is held than this.
+fn counts_otherwise(fixture: &Fixture, count: usize) -> Option<&'static str> {
+    (fixture.centre.held_count() != count).then_some("the count")
+}
+
+#[test]
+fn counts_what_is_held(rt: HostRuntime) -> Result<(), Fail> {
+    let mut fixture = new_fixture(rt.alloc(), 1000)?;
+    none_differs(&rt, differs(rt.alloc(), &mut fixture, &ENDED[..2]));
+    none_differs(&rt, counts_otherwise(&fixture, 1));
+    none_differs(&rt, differs(rt.alloc(), &mut fixture, &ENDED[2..]));
+    none_differs(&rt, counts_otherwise(&fixture, 0));
+    Ok(())
 }
 
 #[test]

@@ -517,6 +517,20 @@ fn refuses_to_wrap_234_octets(rt: HostRuntime) -> Result<(), Fail> {
     Ok(())
 }
 
+/// An answer with a unit of these octets, which are those of a CP message.
+fn answered_with(alloc: Global, octets: &[u8]) -> Result<Result<Vec<u8>, WrapFault>, Fail> {
+    let unit = unit_of::<CpMessage>(alloc, octets)?;
+    Ok(wrap_answer(alloc, true, 0, Side::ToPhone, 0, None, Some(&unit)))
+}
+
+#[test]
+fn refuses_to_answer_with_234_octets(rt: HostRuntime) -> Result<(), Fail> {
+    let octets = long(rt.alloc(), 231)?;
+    let refused = answered_with(rt.alloc(), &octets)?.err();
+    is(&rt, octets.len(), refused, Some(WrapFault::DataTooLong));
+    Ok(())
+}
+
 /// The packet of a delivery from the centre +1000.
 fn delivered(alloc: Global, octets: &[u8]) -> Result<Vec<u8>, Fail> {
     let centre = RpAddress::from_text(alloc, "+1000")?;

@@ -2,11 +2,13 @@
 
 mod limits;
 
-ghost use Rattle.std.specs.Prelude.{◌≡◌, ◌+◌, ◌<◌, ◌^◌, IfOk, OnOk, OnErr, None, length};
-ghost use Rattle.sms_script.specs.Meaning.{Fits};
+ghost use Rattle.std.specs.Prelude.{◌≡◌, ◌+◌, ◌<◌, ◌^◌, IfOk, OnOk, OnErr, None, Err, length};
+ghost use Rattle.sms_script.specs.Reasons.{MayBeHidden};
+ghost use Rattle.sms_script.specs.Meaning.{Fits, meaning};
 ghost use Rattle.sms_script.specs.Meaning.Known.{ArePhones, name_of};
 ghost use Rattle.sms_script.specs.Script.{before_all, after, event_of, TakesLine};
 ghost use Rattle.sms_script.specs.Script.Limits.{AreLimits};
+ghost use Rattle.sms_script.specs.declared.fault.PlayFault.TheVariants.{Memory};
 
 use crate::fault::{MeaningFault, PlayFault};
 use crate::meaning::{Event, Known, Statement, meaning_of};
@@ -133,13 +135,15 @@ impl Script {
     }
 
     /// Takes the next line, without its line feed, and answers the event that it is. A line that is
-    /// at fault is not taken, nor one for which memory runs out: then all is as it was.
+    /// at fault is not taken, nor one for which memory runs out: then all is as it was, and only
+    /// the reasons of an address, of octets and of too many phones may be hidden so.
     ///
     /// How long the line is and how many came before it are not looked at here: `play` does that.
     /// Fewer than 2^60 lines were taken before.
     pub fn take(&mut self, alloc: Global, line: &[u8]) -> Result<Option<Event>, PlayFault>
         requires { self.old.lines < 2 ^ 60 }
-        ensures { TakesLine self.old self.new line.now result }
+        ensures takes { TakesLine self.old self.new line.now result }
+        ensures hides { result ≡ Err Memory → MayBeHidden (meaning self.old.known line.now) }
     {
         match meaning_of(alloc, &self.known, line) {
             Ok(statement) => Ok(self.take_statement(statement)?),

@@ -1,7 +1,8 @@
 -- How long a unit is as it is written, and that each value can be written.
 use Rattle.std.specs.Prelude.{ℕ, ◌≤◌, List, length}
 
--- the longest of a message and its reports is an SMS-SUBMIT-REPORT under an error, with all its parts and 159 octets of data
+-- the longest of a message and its reports is an SMS-SUBMIT-REPORT under an error, with all its
+-- parts and 159 octets of data
 abbrev pub greatest_size : ℕ
 greatest_size = 172
 

@@ -2,6 +2,7 @@
 pub mod Flags
 pub mod Status
 pub mod Laws
+pub mod Spans
 use Rattle.std.specs.Prelude.{◌≡◌, ℕ, List, ◌∷◌, ◌++◌, ◌<◌, Bool, Option}
 use Rattle.sms_field.specs.Field.{Field, ◌>>=◌, octet, octet_by, map_reason}
 use Rattle.sms_field.specs.Mapped.{mapped}

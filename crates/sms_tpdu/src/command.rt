@@ -7,6 +7,7 @@ ghost use Rattle.sms_tpdu.specs.Command.Flags.{command_octet};
 
 pub mod flags;
 pub mod kind;
+pub mod spans;
 pub mod view;
 
 use crate::command::flags::CommandFlags;

@@ -6,6 +6,7 @@ ghost use Rattle.sms_tpdu.specs.StatusReport.{status_report, flags_in};
 ghost use Rattle.sms_tpdu.specs.StatusReport.Flags.{status_report_octet};
 
 pub mod flags;
+pub mod spans;
 pub mod status;
 pub mod view;
 

@@ -22,7 +22,7 @@ fn two_octets(alloc: Global, up: bool, phone: usize) -> Result<Event, AllocError
 fn third_types(alloc: Global) -> Result<Event, AllocError> {
     Ok(Event::Compose {
         phone: 2,
-        target: address(alloc, 1)?,
+        target: address(1),
         text: Text::copy(alloc, "hi")?,
     })
 }

@@ -15,17 +15,16 @@ use std::process::Abort;
 use std::test::Fail;
 
 /// The address +100 and this digit.
-pub fn address(alloc: Global, last: u8) -> Result<Address, AllocError>
+pub fn address(last: u8) -> Address
     requires { last < 10 }
     ensures { let number = symbols.Digits (1 ∷ 0 ∷ 0 ∷ last ∷ []) in
-        IfOk result (λ a. a ≡ record { kind = 1; plan = 1; symbols = number }) }
+        result ≡ record { kind = 1; plan = 1; symbols = number } }
 {
-    let digits = [1, 0, 0, last].to_vec(alloc)?;
-    Ok(Address {
+    Address {
         type_of_number: 1,
         plan: 1,
-        symbols: Symbols::Digits(Digits::new(digits)),
-    })
+        symbols: Symbols::Digits(Digits::new(&[1, 0, 0, last])),
+    }
 }
 
 /// A world of two phones, or of more.
@@ -42,7 +41,7 @@ pub fn two_with_room(alloc: Global, store: u64) -> Result<Two, Fail>
 {
     let mut limits = Limits::new();
     limits.set(Limit::Store, store);
-    let phones = [address(alloc, 1)?, address(alloc, 2)?];
+    let phones = [address(1), address(2)];
     let world = World::new(alloc, limits, &phones)?;
     Ok(Two { world })
 }
@@ -57,7 +56,7 @@ pub fn new_two(alloc: Global) -> Result<Two, Fail> {
 pub fn three_with_one_open(alloc: Global) -> Result<Two, Fail> {
     let mut limits = Limits::new();
     limits.set(Limit::Open, 1);
-    let phones = [address(alloc, 1)?, address(alloc, 2)?, address(alloc, 3)?];
+    let phones = [address(1), address(2), address(3)];
     let world = World::new(alloc, limits, &phones)?;
     Ok(Two { world })
 }
@@ -72,7 +71,7 @@ pub fn new_world(alloc: Global) -> Result<World, Fail> {
 pub fn typing_at(alloc: Global, phone: usize, text: &str) -> Result<Event, AllocError> {
     Ok(Event::Compose {
         phone,
-        target: address(alloc, 2)?,
+        target: address(2),
         text: Text::copy(alloc, text)?,
     })
 }

@@ -1,5 +1,5 @@
 -- The message as which octets are read (3GPP TS 24.011, 7.2 and 7.3).
-use Rattle.std.specs.Prelude.{◌≡◌, ℕ, ◌<◌, Bool, List, ◌∷◌, length, Option, Some, None}
+use Rattle.std.specs.Prelude.{◌≡◌, ℕ, ◌<◌, ◌≤◌, Bool, List, ◌∷◌, length, Option, Some, None}
 use Rattle.sms_text.specs.Octets.{IsOctets}
 use Rattle.sms_field.specs.Reading.{Reads, IsReadable}
 use Rattle.sms_field.specs.Reasons.{StartsAs}
@@ -117,6 +117,12 @@ pub record ReadsData (packet : List ℕ) (flag : Bool) (value : ℕ) (octets : L
   pub used : ℕ
   pub connection : Reads cp_message
       (carried.in_transaction flag value (cp.Transfer octets)) packet used
+
+-- The octets are a CP-DATA of two octets or more.
+abbrev pub IsLongData : List ℕ → Type 0
+IsLongData packet =
+    (flag : Bool) × (value : ℕ) × (octets : List ℕ) × ReadsData packet flag value octets
+    × (2 ≤ length octets)
 
 -- The octets are no CP message; a CP-ACK or CP-ERROR; a CP-DATA of fewer than two octets; or a
 -- CP-DATA, with the second of its octets as the reference, whether or not they are an RP message.

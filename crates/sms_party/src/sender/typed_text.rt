@@ -60,7 +60,7 @@ fn submission_packet(alloc: Global, tag: Tag, submission: &Submit) -> Result<Vec
         (Data false tag (Transfer FromPhone (TheUnit submission.now)))) }
     ensures err { IfErr result (λ e. e ≡ Memory) }
 {
-    let address = address_of_centre(alloc)?;
+    let address = address_of_centre();
     wrapped(wrap_transfer(
         alloc,
         false,

@@ -7,7 +7,8 @@ use Rattle.sms_tpdu.specs.UserData.Spans.{UserLies}
 use Rattle.sms_tpdu.specs.declared.deliver.spans.DeliverSpans.{DeliverSpans}
 
 -- of a delivery that was read at the front of the input, in so many octets
-pub record DeliveryLies (d : Delivery) (input : List ℕ) (used : ℕ) (spans : DeliverSpans) : Type 0 where
+pub record DeliveryLies (d : Delivery) (input : List ℕ) (used : ℕ) (spans : DeliverSpans)
+    : Type 0 where
   -- TP-OA, after the first octet
   pub begins : spans.origin.offset ≡ 1
   pub origin : LiesAt address d.origin input spans.origin

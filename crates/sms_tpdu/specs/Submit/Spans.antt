@@ -8,7 +8,8 @@ use Rattle.sms_tpdu.specs.UserData.Spans.{UserLies}
 use Rattle.sms_tpdu.specs.declared.submit.spans.SubmitSpans.{SubmitSpans}
 
 -- of a submission that was read at the front of the input, in so many octets
-pub record SubmissionLies (s : Submission) (input : List ℕ) (used : ℕ) (spans : SubmitSpans) : Type 0 where
+pub record SubmissionLies (s : Submission) (input : List ℕ) (used : ℕ) (spans : SubmitSpans)
+    : Type 0 where
   -- TP-DA, after the first octet and TP-MR
   pub begins : spans.target.offset ≡ 2
   pub target : LiesAt address s.target input spans.target

@@ -27,7 +27,8 @@ IsHeldIn (body.Septets septets) fill octets = unpacked fill (length septets) oct
 IsHeldIn (body.Octets values) fill octets = octets ≡ values
 
 -- of user data that were read in the input from a place to an end: their header and their body
-pub record UserLies (user : UserData) (input : List ℕ) (place end : ℕ) (spans : UserSpans) : Type 0 where
+pub record UserLies (user : UserData) (input : List ℕ) (place end : ℕ) (spans : UserSpans)
+    : Type 0 where
   pub header : HeaderLies user.header input spans.header
   pub body : IsHeldIn user.body spans.fill (octets_at input spans.body)
   -- TP-UDL, the header, the body
@@ -56,7 +57,8 @@ spans_before end user =
     let taken : ℕ = length (header_octets user.header) in
     let size : ℕ = body_size taken user.body in
     record {
-      header = option_map (λ header. span_of (end - size - length header) (length header)) user.header;
+      header = option_map (λ header. span_of (end - size - length header) (length header))
+          user.header;
       body = span_of (end - size) size;
       fill = fill_of taken user.body;
     }

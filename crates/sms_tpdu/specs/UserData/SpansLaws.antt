@@ -1,19 +1,17 @@
 -- User data lie where their spans say.
-use Rattle.std.proofs.Common.{◌≡◌, ℕ, suc, ◌+◌, ◌-◌, ◌*◌, ◌/◌, ◌≤◌, Bool, true, false, cond, leb, List, [], ◌∷◌, ◌++◌, length, take, drop, Option, Some, None, option_map, Result, Ok, Err, refl, sym, ap, subst, ◌∙◌, append_assoc, arith, length-append}
+use Rattle.std.proofs.Common.{◌≡◌, ℕ, suc, ◌+◌, ◌-◌, ◌≤◌, Bool, true, false, cond, leb, List, [], ◌∷◌, ◌++◌, length, take, drop, Option, Some, None, option_map, Ok, Err, refl, sym, ap, subst, ◌∙◌, append_assoc, arith, length-append}
 use Rattle.std.proofs.lemmas.Bool.{leb-true}
-use Rattle.std.proofs.lemmas.List.{append-nil, take_at, drop_at, drop-drop, take_all, length-drop}
+use Rattle.std.proofs.lemmas.List.{append-nil, take_at, drop_at, drop-drop}
 use Rattle.sms_text.specs.Bits.{unpacked}
 use Rattle.sms_text.specs.PackingLaws.{unpacked_septets}
 use Rattle.sms_field.specs.declared.coding.Alphabet.{Alphabet}
 use Rattle.sms_field.specs.declared.coding.Alphabet.TheVariants.{Gsm7, EightBit, Ucs2, Compressed}
 use Rattle.sms_field.specs.Lies.{octets_at}
 use Rattle.sms_field.specs.declared.span.Span.{Span}
-use Rattle.sms_field.specs.Reading.{Reads}
 use Rattle.sms_tpdu.specs.UserData.Lengths.{octets_of_length, length_of_header, fill_bits}
 use Rattle.sms_tpdu.specs.UserData.{header_octets, body_of, header_length, user_data}
 use Rattle.sms_tpdu.specs.UserData.Seen.{user_data_in}
 use Rattle.sms_tpdu.specs.declared.user_data.spans.UserSpans.{UserSpans}
-use Rattle.sms_tpdu.specs.declared.fault.UnitFault.{UnitFault}
 use Rattle.sms_tpdu.specs.declared.fault.UnitFault.TheVariants.{HeaderTooLong}
 use Rattle.sms_tpdu.specs.declared.user_data.UserData.{UserData}
 use Rattle.sms_tpdu.specs.UserData.Spans.{HeaderLies, IsHeldIn, UserLies, span_of, body_size, fill_of, spans_before, UserDataLie}

@@ -1,11 +1,13 @@
 //! SMS-DELIVER-REPORT under an error of the relay, seen in its octets.
 
-ghost use Rattle.std.specs.Prelude.{IfOk, IfErr};
+ghost use Rattle.std.specs.Prelude.{ℕ, List, IfOk, IfErr};
 ghost use Rattle.sms_field.specs.Reading.{Reads};
 ghost use Rattle.sms_field.specs.WholeAnswer.{IsFaultOf, SeesExactly};
+ghost use Rattle.sms_tpdu.specs.DataSpans.{DataLieIf};
 ghost use Rattle.sms_tpdu.specs.Report.DeliverError.{deliver_error};
 ghost use Rattle.sms_tpdu.specs.declared.fault.UnitFault.TheVariants.{Short};
 
+use crate::data_spans::{DataSpans, report_data_spans};
 use crate::fault::UnitFault;
 use crate::report::deliver_error::DeliverError;
 use crate::report::indicator::indicator_at;
@@ -93,5 +95,13 @@ impl<'a> DeliverErrorView<'a> {
         ensures exact { SeesExactly (λ view. view) deliver_error input.now result }
     {
         see(input)
+    }
+
+    /// Where the data lie in the octets at whose front this report was read, `used` of them.
+    pub fn spans(&self, used: usize) -> Option<DataSpans>
+        ensures { (input : List ℕ) → Reads deliver_error self.now input used
+            → DataLieIf self.now.has_header self.now.user input used result }
+    {
+        report_data_spans(&self.user, self.has_header, used)
     }
 }

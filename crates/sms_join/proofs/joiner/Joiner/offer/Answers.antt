@@ -14,6 +14,7 @@ use Rattle.sms_join.specs.LastKeys.{LastKeysValue}
 use Rattle.sms_join.specs.OpenSet.{with_piece}
 use Rattle.sms_join.specs.Offering.{Says}
 use Rattle.sms_join.proofs.SetPieces.{others_closed}
+use Rattle.sms_join.proofs.Few.{as_many_after, fewer_after}
 use Rattle.sms_join.proofs.Places.{none_found}
 use Rattle.sms_join.proofs.Outcomes.{joiner_of, says_repeat, remembered_repeats}
 use Rattle.sms_join.proofs.Offers.{same_refl, in_place, says_again, says_keeping, says_text, whole_memory, knows, known_place, known_repeat, missing, known_kept, known_whole, known_finish, known_text}
@@ -37,7 +38,7 @@ begin-requires-clause-closed c =
 pub has-requires : goal.has-requires
 has-requires c =
     known_place c.self.inside.open_max c.self.inside.finished c.self.inside.sets (piece_of c.args.now c.args.origin.now c.args.stamp c.args.concat c.args.units) c.in-Some.index c.sequence_of-sequence.result
-    (knows c.self.inside.finished c.self.inside.sets (piece_of c.args.now c.args.origin.now c.args.stamp c.args.concat c.args.units) c.in-Some.index c.sequence_of-sequence.result c.self.invariant
+    (knows c.self.inside.finished c.self.inside.sets (piece_of c.args.now c.args.origin.now c.args.stamp c.args.concat c.args.units) c.in-Some.index c.sequence_of-sequence.result c.self.invariant.0
     (in_place c.args.now c.args.origin.now c.args.stamp c.args.concat c.args.units c.requires) c.find.result c.in-Some.is c.find.ensures
     c.contains.result c.contains.ensures c.if-contains.false c.sequence_of-sequence.ensures)
 
@@ -45,7 +46,7 @@ pub returns-then-has-clause-says : goal.returns-then-has-clause-says
 returns-then-has-clause-says c =
     says_again c.args.self.now.open_max c.args.self.now.holds (piece_of c.args.now c.args.origin.now c.args.stamp c.args.concat c.args.units)
     (known_repeat c.self.inside.open_max c.self.inside.finished c.self.inside.sets (piece_of c.args.now c.args.origin.now c.args.stamp c.args.concat c.args.units) c.in-Some.index c.sequence_of-sequence.result
-    (knows c.self.inside.finished c.self.inside.sets (piece_of c.args.now c.args.origin.now c.args.stamp c.args.concat c.args.units) c.in-Some.index c.sequence_of-sequence.result c.self.invariant
+    (knows c.self.inside.finished c.self.inside.sets (piece_of c.args.now c.args.origin.now c.args.stamp c.args.concat c.args.units) c.in-Some.index c.sequence_of-sequence.result c.self.invariant.0
     (in_place c.args.now c.args.origin.now c.args.stamp c.args.concat c.args.units c.requires) c.find.result c.in-Some.is c.find.ensures
     c.contains.result c.contains.ensures c.if-contains.false c.sequence_of-sequence.ensures)
     c.args.self.now c.self.view_is c.has.result c.has.ensures c.if-has.true).0
@@ -53,7 +54,7 @@ returns-then-has-clause-says c =
 pub returns-then-has-clause-holds : goal.returns-then-has-clause-holds
 returns-then-has-clause-holds c =
     (known_repeat c.self.inside.open_max c.self.inside.finished c.self.inside.sets (piece_of c.args.now c.args.origin.now c.args.stamp c.args.concat c.args.units) c.in-Some.index c.sequence_of-sequence.result
-    (knows c.self.inside.finished c.self.inside.sets (piece_of c.args.now c.args.origin.now c.args.stamp c.args.concat c.args.units) c.in-Some.index c.sequence_of-sequence.result c.self.invariant
+    (knows c.self.inside.finished c.self.inside.sets (piece_of c.args.now c.args.origin.now c.args.stamp c.args.concat c.args.units) c.in-Some.index c.sequence_of-sequence.result c.self.invariant.0
     (in_place c.args.now c.args.origin.now c.args.stamp c.args.concat c.args.units c.requires) c.find.result c.in-Some.is c.find.ensures
     c.contains.result c.contains.ensures c.if-contains.false c.sequence_of-sequence.ensures)
     c.args.self.now c.self.view_is c.has.result c.has.ensures c.if-has.true).1
@@ -61,31 +62,36 @@ returns-then-has-clause-holds c =
 pub put-requires-clause-place : goal.put-requires-clause-place
 put-requires-clause-place c =
     known_place c.self.inside.open_max c.self.inside.finished c.self.inside.sets (piece_of c.args.now c.args.origin.now c.args.stamp c.args.concat c.args.units) c.in-Some.index c.sequence_of-sequence.result
-    (knows c.self.inside.finished c.self.inside.sets (piece_of c.args.now c.args.origin.now c.args.stamp c.args.concat c.args.units) c.in-Some.index c.sequence_of-sequence.result c.self.invariant
+    (knows c.self.inside.finished c.self.inside.sets (piece_of c.args.now c.args.origin.now c.args.stamp c.args.concat c.args.units) c.in-Some.index c.sequence_of-sequence.result c.self.invariant.0
     (in_place c.args.now c.args.origin.now c.args.stamp c.args.concat c.args.units c.requires) c.find.result c.in-Some.is c.find.ensures
     c.contains.result c.contains.ensures c.if-contains.false c.sequence_of-sequence.ensures)
 
 pub put-requires-clause-missing : goal.put-requires-clause-missing
 put-requires-clause-missing c =
     missing c.self.inside.open_max c.self.inside.finished c.self.inside.sets (piece_of c.args.now c.args.origin.now c.args.stamp c.args.concat c.args.units) c.in-Some.index c.sequence_of-sequence.result
-    (knows c.self.inside.finished c.self.inside.sets (piece_of c.args.now c.args.origin.now c.args.stamp c.args.concat c.args.units) c.in-Some.index c.sequence_of-sequence.result c.self.invariant
+    (knows c.self.inside.finished c.self.inside.sets (piece_of c.args.now c.args.origin.now c.args.stamp c.args.concat c.args.units) c.in-Some.index c.sequence_of-sequence.result c.self.invariant.0
     (in_place c.args.now c.args.origin.now c.args.stamp c.args.concat c.args.units c.requires) c.find.result c.in-Some.is c.find.ensures
     c.contains.result c.contains.ensures c.if-contains.false c.sequence_of-sequence.ensures)
     c.has.result c.has.ensures c.if-has.false
 
 pub invariant_of-self : goal.invariant_of-self
-invariant_of-self c =
-    (known_kept c.self.inside.open_max c.self.inside.finished c.self.inside.sets (piece_of c.args.now c.args.origin.now c.args.stamp c.args.concat c.args.units) c.in-Some.index c.sequence_of-sequence.result
-    (knows c.self.inside.finished c.self.inside.sets (piece_of c.args.now c.args.origin.now c.args.stamp c.args.concat c.args.units) c.in-Some.index c.sequence_of-sequence.result c.self.invariant
-    (in_place c.args.now c.args.origin.now c.args.stamp c.args.concat c.args.units c.requires) c.find.result c.in-Some.is c.find.ensures
-    c.contains.result c.contains.ensures c.if-contains.false c.sequence_of-sequence.ensures)
-    c.args.self.now c.self.view_is c.has.result c.has.ensures c.if-has.false c.lacks_one.result c.lacks_one.ensures c.if-not-lacks_one.true c.put.new.self c.put.ensures).0
+invariant_of-self c = (
+  (known_kept c.self.inside.open_max c.self.inside.finished c.self.inside.sets (piece_of c.args.now c.args.origin.now c.args.stamp c.args.concat c.args.units) c.in-Some.index c.sequence_of-sequence.result
+      (knows c.self.inside.finished c.self.inside.sets (piece_of c.args.now c.args.origin.now c.args.stamp c.args.concat c.args.units) c.in-Some.index c.sequence_of-sequence.result c.self.invariant.0
+      (in_place c.args.now c.args.origin.now c.args.stamp c.args.concat c.args.units c.requires) c.find.result c.in-Some.is c.find.ensures
+      c.contains.result c.contains.ensures c.if-contains.false c.sequence_of-sequence.ensures)
+      c.args.self.now c.self.view_is c.has.result c.has.ensures c.if-has.false c.lacks_one.result c.lacks_one.ensures c.if-not-lacks_one.true c.put.new.self c.put.ensures).0,
+  as_many_after c.self.inside.sets c.in-Some.index c.put.new.self c.self.inside.open_max _
+      (knows c.self.inside.finished c.self.inside.sets (piece_of c.args.now c.args.origin.now c.args.stamp c.args.concat c.args.units) c.in-Some.index c.sequence_of-sequence.result c.self.invariant.0
+      (in_place c.args.now c.args.origin.now c.args.stamp c.args.concat c.args.units c.requires) c.find.result c.in-Some.is c.find.ensures
+      c.contains.result c.contains.ensures c.if-contains.false c.sequence_of-sequence.ensures).found.there c.put.ensures c.self.invariant.1,
+)
 
 pub returns-then-not-lacks_one-clause-says : goal.returns-then-not-lacks_one-clause-says
 returns-then-not-lacks_one-clause-says c =
     says_keeping c.args.self.now.open_max c.args.self.now.holds (piece_of c.args.now c.args.origin.now c.args.stamp c.args.concat c.args.units)
     (known_kept c.self.inside.open_max c.self.inside.finished c.self.inside.sets (piece_of c.args.now c.args.origin.now c.args.stamp c.args.concat c.args.units) c.in-Some.index c.sequence_of-sequence.result
-    (knows c.self.inside.finished c.self.inside.sets (piece_of c.args.now c.args.origin.now c.args.stamp c.args.concat c.args.units) c.in-Some.index c.sequence_of-sequence.result c.self.invariant
+    (knows c.self.inside.finished c.self.inside.sets (piece_of c.args.now c.args.origin.now c.args.stamp c.args.concat c.args.units) c.in-Some.index c.sequence_of-sequence.result c.self.invariant.0
     (in_place c.args.now c.args.origin.now c.args.stamp c.args.concat c.args.units c.requires) c.find.result c.in-Some.is c.find.ensures
     c.contains.result c.contains.ensures c.if-contains.false c.sequence_of-sequence.ensures)
     c.args.self.now c.self.view_is c.has.result c.has.ensures c.if-has.false c.lacks_one.result c.lacks_one.ensures c.if-not-lacks_one.true c.put.new.self c.put.ensures).1
@@ -93,7 +99,7 @@ returns-then-not-lacks_one-clause-says c =
 pub returns-then-not-lacks_one-clause-holds : goal.returns-then-not-lacks_one-clause-holds
 returns-then-not-lacks_one-clause-holds c =
     (known_kept c.self.inside.open_max c.self.inside.finished c.self.inside.sets (piece_of c.args.now c.args.origin.now c.args.stamp c.args.concat c.args.units) c.in-Some.index c.sequence_of-sequence.result
-    (knows c.self.inside.finished c.self.inside.sets (piece_of c.args.now c.args.origin.now c.args.stamp c.args.concat c.args.units) c.in-Some.index c.sequence_of-sequence.result c.self.invariant
+    (knows c.self.inside.finished c.self.inside.sets (piece_of c.args.now c.args.origin.now c.args.stamp c.args.concat c.args.units) c.in-Some.index c.sequence_of-sequence.result c.self.invariant.0
     (in_place c.args.now c.args.origin.now c.args.stamp c.args.concat c.args.units c.requires) c.find.result c.in-Some.is c.find.ensures
     c.contains.result c.contains.ensures c.if-contains.false c.sequence_of-sequence.ensures)
     c.args.self.now c.self.view_is c.has.result c.has.ensures c.if-has.false c.lacks_one.result c.lacks_one.ensures c.if-not-lacks_one.true c.put.new.self c.put.ensures).2
@@ -101,35 +107,37 @@ returns-then-not-lacks_one-clause-holds c =
 pub returns-in_err-text-clause-says : goal.returns-in_err-text-clause-says
 returns-in_err-text-clause-says c =
     let p = err_from_is_err_and c.from_residual.result c.from_residual.ensures.1 in
-    rw (p.1, p.2) (whole_memory c.args.self.now.open_max c.args.self.now.holds (piece_of c.args.now c.args.origin.now c.args.stamp c.args.concat c.args.units) (with_piece (knows c.self.inside.finished c.self.inside.sets (piece_of c.args.now c.args.origin.now c.args.stamp c.args.concat c.args.units) c.in-Some.index c.sequence_of-sequence.result c.self.invariant
+    rw (p.1, p.2) (whole_memory c.args.self.now.open_max c.args.self.now.holds (piece_of c.args.now c.args.origin.now c.args.stamp c.args.concat c.args.units) (with_piece (knows c.self.inside.finished c.self.inside.sets (piece_of c.args.now c.args.origin.now c.args.stamp c.args.concat c.args.units) c.in-Some.index c.sequence_of-sequence.result c.self.invariant.0
     (in_place c.args.now c.args.origin.now c.args.stamp c.args.concat c.args.units c.requires) c.find.result c.in-Some.is c.find.ensures
     c.contains.result c.contains.ensures c.if-contains.false c.sequence_of-sequence.ensures).own (sequence_of c.args.concat) c.args.units).units
     (known_whole c.self.inside.open_max c.self.inside.finished c.self.inside.sets (piece_of c.args.now c.args.origin.now c.args.stamp c.args.concat c.args.units) c.in-Some.index c.sequence_of-sequence.result
-    (knows c.self.inside.finished c.self.inside.sets (piece_of c.args.now c.args.origin.now c.args.stamp c.args.concat c.args.units) c.in-Some.index c.sequence_of-sequence.result c.self.invariant
+    (knows c.self.inside.finished c.self.inside.sets (piece_of c.args.now c.args.origin.now c.args.stamp c.args.concat c.args.units) c.in-Some.index c.sequence_of-sequence.result c.self.invariant.0
     (in_place c.args.now c.args.origin.now c.args.stamp c.args.concat c.args.units c.requires) c.find.result c.in-Some.is c.find.ensures
     c.contains.result c.contains.ensures c.if-contains.false c.sequence_of-sequence.ensures)
     c.args.self.now c.self.view_is c.has.result c.has.ensures c.if-has.false c.lacks_one.result c.lacks_one.ensures c.if-not-lacks_one.false))
 
 pub invariant_of-self-2 : goal.invariant_of-self-2
-invariant_of-self-2 c =
-    (known_finish c.self.inside.open_max c.self.inside.finished c.self.inside.sets (piece_of c.args.now c.args.origin.now c.args.stamp c.args.concat c.args.units) c.in-Some.index c.sequence_of-sequence.result
-    (knows c.self.inside.finished c.self.inside.sets (piece_of c.args.now c.args.origin.now c.args.stamp c.args.concat c.args.units) c.in-Some.index c.sequence_of-sequence.result c.self.invariant
-    (in_place c.args.now c.args.origin.now c.args.stamp c.args.concat c.args.units c.requires) c.find.result c.in-Some.is c.find.ensures
-    c.contains.result c.contains.ensures c.if-contains.false c.sequence_of-sequence.ensures)
-    c.args.self.now c.self.view_is c.has.result c.has.ensures c.if-has.false c.lacks_one.result c.lacks_one.ensures c.if-not-lacks_one.false c.remove-key.new.self c.remove-key.ensures.others c.remove-key.result c.remove-key.ensures.key).0
+invariant_of-self-2 c = (
+  (known_finish c.self.inside.open_max c.self.inside.finished c.self.inside.sets (piece_of c.args.now c.args.origin.now c.args.stamp c.args.concat c.args.units) c.in-Some.index c.sequence_of-sequence.result
+      (knows c.self.inside.finished c.self.inside.sets (piece_of c.args.now c.args.origin.now c.args.stamp c.args.concat c.args.units) c.in-Some.index c.sequence_of-sequence.result c.self.invariant.0
+      (in_place c.args.now c.args.origin.now c.args.stamp c.args.concat c.args.units c.requires) c.find.result c.in-Some.is c.find.ensures
+      c.contains.result c.contains.ensures c.if-contains.false c.sequence_of-sequence.ensures)
+      c.args.self.now c.self.view_is c.has.result c.has.ensures c.if-has.false c.lacks_one.result c.lacks_one.ensures c.if-not-lacks_one.false c.remove-key.new.self c.remove-key.ensures.others c.remove-key.result c.remove-key.ensures.key).0,
+  fewer_after c.self.inside.sets c.in-Some.index c.remove-key.new.self c.self.inside.open_max c.remove-key.ensures.others c.self.invariant.1,
+)
 
 pub returns-clause-says : goal.returns-clause-says
 returns-clause-says c =
-    says_text c.args.self.now.open_max c.args.self.now.holds (piece_of c.args.now c.args.origin.now c.args.stamp c.args.concat c.args.units) (with_piece (knows c.self.inside.finished c.self.inside.sets (piece_of c.args.now c.args.origin.now c.args.stamp c.args.concat c.args.units) c.in-Some.index c.sequence_of-sequence.result c.self.invariant
+    says_text c.args.self.now.open_max c.args.self.now.holds (piece_of c.args.now c.args.origin.now c.args.stamp c.args.concat c.args.units) (with_piece (knows c.self.inside.finished c.self.inside.sets (piece_of c.args.now c.args.origin.now c.args.stamp c.args.concat c.args.units) c.in-Some.index c.sequence_of-sequence.result c.self.invariant.0
     (in_place c.args.now c.args.origin.now c.args.stamp c.args.concat c.args.units c.requires) c.find.result c.in-Some.is c.find.ensures
     c.contains.result c.contains.ensures c.if-contains.false c.sequence_of-sequence.ensures).own (sequence_of c.args.concat) c.args.units).units c.in_ok-text.text
     (known_whole c.self.inside.open_max c.self.inside.finished c.self.inside.sets (piece_of c.args.now c.args.origin.now c.args.stamp c.args.concat c.args.units) c.in-Some.index c.sequence_of-sequence.result
-    (knows c.self.inside.finished c.self.inside.sets (piece_of c.args.now c.args.origin.now c.args.stamp c.args.concat c.args.units) c.in-Some.index c.sequence_of-sequence.result c.self.invariant
+    (knows c.self.inside.finished c.self.inside.sets (piece_of c.args.now c.args.origin.now c.args.stamp c.args.concat c.args.units) c.in-Some.index c.sequence_of-sequence.result c.self.invariant.0
     (in_place c.args.now c.args.origin.now c.args.stamp c.args.concat c.args.units c.requires) c.find.result c.in-Some.is c.find.ensures
     c.contains.result c.contains.ensures c.if-contains.false c.sequence_of-sequence.ensures)
     c.args.self.now c.self.view_is c.has.result c.has.ensures c.if-has.false c.lacks_one.result c.lacks_one.ensures c.if-not-lacks_one.false)
     (known_text c.self.inside.open_max c.self.inside.finished c.self.inside.sets (piece_of c.args.now c.args.origin.now c.args.stamp c.args.concat c.args.units) c.in-Some.index c.sequence_of-sequence.result
-    (knows c.self.inside.finished c.self.inside.sets (piece_of c.args.now c.args.origin.now c.args.stamp c.args.concat c.args.units) c.in-Some.index c.sequence_of-sequence.result c.self.invariant
+    (knows c.self.inside.finished c.self.inside.sets (piece_of c.args.now c.args.origin.now c.args.stamp c.args.concat c.args.units) c.in-Some.index c.sequence_of-sequence.result c.self.invariant.0
     (in_place c.args.now c.args.origin.now c.args.stamp c.args.concat c.args.units c.requires) c.find.result c.in-Some.is c.find.ensures
     c.contains.result c.contains.ensures c.if-contains.false c.sequence_of-sequence.ensures)
     c.args.self.now c.self.view_is c.has.result c.has.ensures c.if-has.false c.lacks_one.result c.lacks_one.ensures c.if-not-lacks_one.false (chars (string_bytes c.in_ok-text.text)) c.in_ok-text.ensures)
@@ -139,7 +147,7 @@ returns-clause-holds c =
     subst (λ (ks : List Key). IsSame (joiner_of c.remove-key.new.self ks) (offered c.args.self.now.open_max c.args.self.now.remembered c.args.self.now.holds (piece_of c.args.now c.args.origin.now c.args.stamp c.args.concat c.args.units)))
     (sym (ap (λ (l : LastKeysValue). l.keys) c.push.ensures))
     (known_finish c.self.inside.open_max c.self.inside.finished c.self.inside.sets (piece_of c.args.now c.args.origin.now c.args.stamp c.args.concat c.args.units) c.in-Some.index c.sequence_of-sequence.result
-    (knows c.self.inside.finished c.self.inside.sets (piece_of c.args.now c.args.origin.now c.args.stamp c.args.concat c.args.units) c.in-Some.index c.sequence_of-sequence.result c.self.invariant
+    (knows c.self.inside.finished c.self.inside.sets (piece_of c.args.now c.args.origin.now c.args.stamp c.args.concat c.args.units) c.in-Some.index c.sequence_of-sequence.result c.self.invariant.0
     (in_place c.args.now c.args.origin.now c.args.stamp c.args.concat c.args.units c.requires) c.find.result c.in-Some.is c.find.ensures
     c.contains.result c.contains.ensures c.if-contains.false c.sequence_of-sequence.ensures)
     c.args.self.now c.self.view_is c.has.result c.has.ensures c.if-has.false c.lacks_one.result c.lacks_one.ensures c.if-not-lacks_one.false c.remove-key.new.self c.remove-key.ensures.others c.remove-key.result c.remove-key.ensures.key).1

@@ -22,7 +22,7 @@ pub returns-in_default : goal.returns-in_default
 returns-in_default c = λ now units.
     let p : Piece = piece_of now c.args.origin.now c.args.stamp c.args.concat units in
     subst (λ (v : JoinerValue). (c.size_of.result == 1) ≡ would_finish v.holds p) c.self.view_is
-    (alone_finishes c.self.inside.sets c.self.inside.finished.keys p (in_place now c.args.origin.now c.args.stamp c.args.concat units c.requires) c.self.invariant
+    (alone_finishes c.self.inside.sets c.self.inside.finished.keys p (in_place now c.args.origin.now c.args.stamp c.args.concat units c.requires) c.self.invariant.0
     (sym c.contains.ensures ∙ c.if-contains.false)
     (none_found c.self.inside.sets (key_of c.args.origin.now c.args.stamp c.args.concat) (sym c.find.ensures ∙ c.in_default.is))
     c.size_of.result (c.size_of.ensures ∙ size_is c.args.origin.now c.args.stamp c.args.concat) _ refl)
@@ -30,7 +30,7 @@ returns-in_default c = λ now units.
 pub has-requires : goal.has-requires
 has-requires c =
     known_place 0 c.self.inside.finished c.self.inside.sets (piece_of 0 c.args.origin.now c.args.stamp c.args.concat (Gsm [])) c.in-Some.index c.sequence_of.result
-    (knows c.self.inside.finished c.self.inside.sets (piece_of 0 c.args.origin.now c.args.stamp c.args.concat (Gsm [])) c.in-Some.index c.sequence_of.result c.self.invariant
+    (knows c.self.inside.finished c.self.inside.sets (piece_of 0 c.args.origin.now c.args.stamp c.args.concat (Gsm [])) c.in-Some.index c.sequence_of.result c.self.invariant.0
     (in_place 0 c.args.origin.now c.args.stamp c.args.concat (Gsm []) c.requires) c.find.result c.in-Some.is c.find.ensures
     c.contains.result c.contains.ensures c.if-contains.false c.sequence_of.ensures)
 
@@ -38,7 +38,7 @@ pub returns-then-not-has : goal.returns-then-not-has
 returns-then-not-has c = λ now units.
     subst (λ (v : JoinerValue). c.lacks_one.result ≡ would_finish v.holds (piece_of now c.args.origin.now c.args.stamp c.args.concat units)) c.self.view_is
     (known_lack 0 c.self.inside.finished c.self.inside.sets (piece_of now c.args.origin.now c.args.stamp c.args.concat units) c.in-Some.index c.sequence_of.result
-    (knows c.self.inside.finished c.self.inside.sets (piece_of now c.args.origin.now c.args.stamp c.args.concat units) c.in-Some.index c.sequence_of.result c.self.invariant
+    (knows c.self.inside.finished c.self.inside.sets (piece_of now c.args.origin.now c.args.stamp c.args.concat units) c.in-Some.index c.sequence_of.result c.self.invariant.0
     (in_place now c.args.origin.now c.args.stamp c.args.concat units c.requires) c.find.result c.in-Some.is c.find.ensures
     c.contains.result c.contains.ensures c.if-contains.false c.sequence_of.ensures) c.has.result c.has.ensures c.lacks_one.result c.lacks_one.ensures c.if-not-has.true)
 
@@ -46,6 +46,6 @@ pub returns-else-not-has : goal.returns-else-not-has
 returns-else-not-has c = λ now units.
     subst (λ (v : JoinerValue). not c.has.result ≡ would_finish v.holds (piece_of now c.args.origin.now c.args.stamp c.args.concat units)) c.self.view_is
     (ap not c.if-not-has.false ∙ known_come 0 c.self.inside.finished c.self.inside.sets (piece_of now c.args.origin.now c.args.stamp c.args.concat units) c.in-Some.index c.sequence_of.result
-    (knows c.self.inside.finished c.self.inside.sets (piece_of now c.args.origin.now c.args.stamp c.args.concat units) c.in-Some.index c.sequence_of.result c.self.invariant
+    (knows c.self.inside.finished c.self.inside.sets (piece_of now c.args.origin.now c.args.stamp c.args.concat units) c.in-Some.index c.sequence_of.result c.self.invariant.0
     (in_place now c.args.origin.now c.args.stamp c.args.concat units c.requires) c.find.result c.in-Some.is c.find.ensures
     c.contains.result c.contains.ensures c.if-contains.false c.sequence_of.ensures) c.has.result c.has.ensures c.if-not-has.false)

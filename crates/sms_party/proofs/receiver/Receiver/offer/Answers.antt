@@ -20,8 +20,8 @@ returns-in-Ok-Repeat-clause-steps c = λ limits s origin stands.
     is_repeated (record { alike = c.answers_alike.ensures; finishes = c.answer_finishes.ensures; same = c.same_is_equivalence.ensures }) limits v s
     (subst (λ (w : ReceiverValue). StandsFor limits w s) (sym c.self.view_is) stands) p c.args.tag c.args.origin origin
     (subst (λ (w : ReceiverValue). Room w p) (sym c.self.view_is) c.requires.room)
-    (record { limit = c.self.inside.limit; joiner = c.offer.new.self; store = c.reserve.new.self.items }) refl c.in-Ok-Repeat.ensures.limits c.in-Ok-Repeat.ensures.holds
-    step refl c.in_ok-packets.ensures.carries c.in_ok-reserve.ensures.items
+    (record { limit = c.self.inside.limit; joiner = c.offer.new.self; store = c.make_room.new.store.items }) refl c.in-Ok-Repeat.ensures.limits c.in-Ok-Repeat.ensures.holds
+    step refl c.in_ok-packets.ensures.carries c.in_ok-make_room.ensures.items
     (subst (λ (o : Offer). Says c.self.inside.joiner.open_max c.self.inside.joiner.holds p (Ok o)) c.in-Ok-Repeat.field-0-is c.in-Ok-Repeat.ensures.says)
 
 pub returns-in-Ok-Kept-clause-steps : goal.returns-in-Ok-Kept-clause-steps
@@ -32,8 +32,8 @@ returns-in-Ok-Kept-clause-steps c = λ limits s origin stands.
     is_kept (record { alike = c.answers_alike.ensures; finishes = c.answer_finishes.ensures; same = c.same_is_equivalence.ensures }) limits v s
     (subst (λ (w : ReceiverValue). StandsFor limits w s) (sym c.self.view_is) stands) p c.args.tag c.args.origin origin
     (subst (λ (w : ReceiverValue). Room w p) (sym c.self.view_is) c.requires.room)
-    (record { limit = c.self.inside.limit; joiner = c.offer.new.self; store = c.reserve.new.self.items }) refl c.in-Ok-Kept.ensures.limits c.in-Ok-Kept.ensures.holds
-    step refl c.in_ok-packets.ensures.carries c.in_ok-reserve.ensures.items
+    (record { limit = c.self.inside.limit; joiner = c.offer.new.self; store = c.make_room.new.store.items }) refl c.in-Ok-Kept.ensures.limits c.in-Ok-Kept.ensures.holds
+    step refl c.in_ok-packets.ensures.carries c.in_ok-make_room.ensures.items
     (subst (λ (o : Offer). Says c.self.inside.joiner.open_max c.self.inside.joiner.holds p (Ok o)) c.in-Ok-Kept.field-0-is c.in-Ok-Kept.ensures.says)
 
 pub returns-in-Ok-Finished-clause-steps : goal.returns-in-Ok-Finished-clause-steps
@@ -46,8 +46,8 @@ returns-in-Ok-Finished-clause-steps c = λ limits s origin stands.
     (subst (λ (w : ReceiverValue). Room w p) (sym c.self.view_is) c.requires.room)
     (record { limit = c.self.inside.limit; joiner = c.offer.new.self; store = c.push_reserved.new.self.items }) refl c.in-Ok-Finished.ensures.limits c.in-Ok-Finished.ensures.holds
     step c.in-Ok-Finished.text refl c.in_ok-packets.ensures.carries
-    (c.push_reserved.ensures.items ∙ (ap (λ t. c.reserve.new.self.items ++ record { origin = c.args.origin; characters = chars (string_bytes t) } ∷ []) c.in-Ok-Finished.text-is
-    ∙ ap (λ (l : List Entry). l ++ record { origin = c.args.origin; characters = chars (string_bytes c.in-Ok-Finished.text) } ∷ []) c.in_ok-reserve.ensures.items))
+    (c.push_reserved.ensures.items ∙ (ap (λ t. c.make_room.new.store.items ++ record { origin = c.args.origin; characters = chars (string_bytes t) } ∷ []) c.in-Ok-Finished.text-is
+    ∙ ap (λ (l : List Entry). l ++ record { origin = c.args.origin; characters = chars (string_bytes c.in-Ok-Finished.text) } ∷ []) c.in_ok-make_room.ensures.items))
     (subst (λ (o : Offer). Says c.self.inside.joiner.open_max c.self.inside.joiner.holds p (Ok o)) c.in-Ok-Finished.field-0-is c.in-Ok-Finished.ensures.says)
 
 pub returns-in-Err-TooManyOpen-clause-steps : goal.returns-in-Err-TooManyOpen-clause-steps
@@ -57,8 +57,8 @@ returns-in-Err-TooManyOpen-clause-steps c = λ limits s origin stands.
     is_over (record { alike = c.answers_alike.ensures; finishes = c.answer_finishes.ensures; same = c.same_is_equivalence.ensures }) limits v s
     (subst (λ (w : ReceiverValue). StandsFor limits w s) (sym c.self.view_is) stands) p c.args.tag c.args.origin origin
     (subst (λ (w : ReceiverValue). Room w p) (sym c.self.view_is) c.requires.room)
-    (record { limit = c.self.inside.limit; joiner = c.offer.new.self; store = c.reserve.new.self.items })
+    (record { limit = c.self.inside.limit; joiner = c.offer.new.self; store = c.make_room.new.store.items })
     c.no_room.result
     (subst (λ (f : OfferFault). Says c.self.inside.joiner.open_max c.self.inside.joiner.holds p (Err f)) c.in-Err-TooManyOpen.field-0-is c.in-Err-TooManyOpen.ensures.says)
-    (same_value c.self.inside.limit _ _ _ _ c.in-Err-TooManyOpen.ensures.refused c.in_ok-reserve.ensures.items)
+    (same_value c.self.inside.limit _ _ _ _ c.in-Err-TooManyOpen.ensures.refused c.in_ok-make_room.ensures.items)
     c.no_room.ensures

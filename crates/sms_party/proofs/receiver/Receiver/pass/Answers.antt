@@ -1,32 +1,22 @@
-use Rattle.std.proofs.Common.{◌≡◌, true, false, refl, sym, ap, subst, ◌∙◌, Ok, Err}
+use Rattle.std.proofs.Common.{refl, sym, ap, subst, ◌∙◌}
 use Rattle.sms_message.specs.declared.outcome.Step.{Step}
 use Rattle.sms_message.specs.declared.outcome.Outcome.TheVariants.{Noted}
-use Rattle.sms_message.specs.declared.outcome.Dropped.TheVariants.{Unmatched, NotCp}
-use Rattle.sms_message.specs.declared.message.Message.{Message}
-use Rattle.sms_message.specs.Message.Tests.{is_data}
-use Rattle.sms_party.specs.Receiver.{receiver_receives}
-use Rattle.sms_party.specs.Receiver.Standing.{ReceiverAnswers}
-use Rattle.sms_party.proofs.Storing.{nothing_comes, nothing_read, noted}
+use Rattle.sms_party.specs.Receiver.Waits.{takes_up}
+use Rattle.sms_party.proofs.Passing.{IsDropped, not_cp_dropped, note_noted, others_dropped}
 use Rattle.sms_party.proofs.receiver.Receiver.pass.Goals as goal
 
-pub returns-in-NotCp : goal.returns-in-NotCp
-unfolding receiver_receives
-returns-in-NotCp c = λ limits s origin stands.
-    subst (λ (m : Message). ReceiverAnswers limits s (receiver_receives limits s c.args.now m origin) (Err NotCp) c.args.self.now) (sym c.in-NotCp.is)
-    (nothing_read limits c.args.self.now s stands)
+pub returns-in-NotCp-clause-steps : goal.returns-in-NotCp-clause-steps
+returns-in-NotCp-clause-steps c = λ message e. not_cp_dropped c.args.now c.args.self.now message (e ∙ c.in-NotCp.is)
 
-pub returns-in-Note : goal.returns-in-Note
-unfolding receiver_receives
-returns-in-Note c = λ limits s origin stands.
+pub returns-in-Note-clause-steps : goal.returns-in-Note-clause-steps
+returns-in-Note-clause-steps c = λ message e.
     let step : Step = record { outcome = Noted; packets = c.new.result } in
-    subst (λ (m : Message). ReceiverAnswers limits s (receiver_receives limits s c.args.now m origin) (Ok step) c.args.self.now) (sym c.in-Note.is)
-    (noted limits c.args.self.now s step refl (rw c.new.ensures.items refl) stands)
+    note_noted c.args.now c.args.self.now message c.in-Note.flag c.in-Note.value (e ∙ c.in-Note.is) step refl (rw c.new.ensures.items refl)
 
-pub returns-in-Tiny : goal.returns-in-Tiny
-unfolding receiver_receives
-returns-in-Tiny c = λ limits s origin stands.
-    subst (λ (m : Message). ReceiverAnswers limits s (receiver_receives limits s c.args.now m origin) (Err Unmatched) c.args.self.now) (sym c.in-Tiny.is)
-    (nothing_comes limits c.args.self.now s stands)
+pub returns-in-Tiny-clause-steps : goal.returns-in-Tiny-clause-steps
+returns-in-Tiny-clause-steps c = λ message e.
+    others_dropped c.args.now c.args.self.now message (subst IsDropped (sym (e ∙ c.in-Tiny.is)) tt) (ap takes_up e ∙ c.requires)
 
-pub returns-in-Data : goal.returns-in-Data
-returns-in-Data c = let e : true ≡ false = sym (ap is_data c.in-Data.is) ∙ c.requires in absurd cc
+pub returns-in-Data-clause-steps : goal.returns-in-Data-clause-steps
+returns-in-Data-clause-steps c = λ message e.
+    others_dropped c.args.now c.args.self.now message (subst IsDropped (sym (e ∙ c.in-Data.is)) tt) (ap takes_up e ∙ c.requires)

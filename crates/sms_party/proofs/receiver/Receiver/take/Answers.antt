@@ -4,7 +4,9 @@ use Rattle.sms_message.specs.declared.message.Message.{Message}
 use Rattle.sms_message.specs.declared.message.Message.TheVariants.{Data}
 use Rattle.sms_party.specs.Receiver.{receiver_receives}
 use Rattle.sms_party.specs.Receiver.Standing.{ReceiverAnswers}
+use Rattle.sms_party.specs.Receiver.Waits.{takes_up}
 use Rattle.sms_party.proofs.Storing.{nothing_comes}
+use Rattle.sms_party.proofs.Passing.{not_taken_up}
 use Rattle.sms_party.proofs.receiver.Receiver.take.Goals as goal
 
 pub returns-then-flag-clause-steps : goal.returns-then-flag-clause-steps
@@ -20,4 +22,7 @@ returns-else-flag-clause-steps c = λ limits s origin stands.
     (c.take_request.ensures.steps limits s origin stands)
 
 pub returns-in_default-clause-steps : goal.returns-in_default-clause-steps
-returns-in_default-clause-steps c = c.pass-step.ensures
+returns-in_default-clause-steps c = c.pass.ensures.steps c.args.message (sym c.glance-seen.ensures)
+
+pub pass-requires : goal.pass-requires
+pass-requires c = ap takes_up c.glance-seen.ensures ∙ not_taken_up c.args.message c.in_default.not-Data

@@ -8,8 +8,8 @@ use Rattle.sms_party.specs.Receiver.Standing.{ReceiverAnswers}
 use Rattle.sms_party.proofs.Storing.{units_offered}
 use Rattle.sms_party.proofs.receiver.Receiver.take_delivery.Goals as goal
 
-pub returns-in-Some-clause-steps : goal.returns-in-Some-clause-steps
-returns-in-Some-clause-steps c = λ limits s origin stands.
+pub returns-clause-steps : goal.returns-clause-steps
+returns-clause-steps c = λ limits s origin stands.
     let here : Delivery = record {
       more = c.delivery.inside.more;
       looped = c.delivery.inside.looped;

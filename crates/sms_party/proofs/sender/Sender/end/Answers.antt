@@ -16,7 +16,7 @@ returns-clause-did c = λ note sent.
     subst (λ (o : Option TextValue). CarriesEach (map (λ (p : Vec ℕ Global). p.items) (option_to_list c.in_ok-submission.submission)) (text_put c.args.self.now.next c.args.self.now.reject 0 o)) (second_first c.args.self.now.pending)
     (subst (λ (v : SenderValue). CarriesEach (map (λ (p : Vec ℕ Global). p.items) (option_to_list c.in_ok-submission.submission)) (text_put c.args.self.now.next v.reject 0 (slice_get c.args.self.now.pending 1))) c.self.view_is c.in_ok-submission.ensures.carries) in
     let left : c.pop_front.new.self.items ≡ drop 1 c.self.inside.pending.items = c.pop_front.ensures.rest in
-    let more : c.push_reserved.new.self.items ≡ c.self.inside.ended.items ++ c.args.status ∷ [] = c.push_reserved.ensures.items ∙ ap (λ (l : List Status). l ++ c.args.status ∷ []) c.in_ok-reserve.ensures.items in
+    let more : c.push_reserved.new.self.items ≡ c.self.inside.ended.items ++ c.args.status ∷ [] = c.push_reserved.ensures.items in
     let w : List TextValue → List Status → SenderValue = λ p e. record {
       width = c.self.inside.width;
       reject = c.self.inside.reject;
@@ -30,7 +30,7 @@ returns-clause-did c = λ note sent.
       latest = c.self.inside.latest;
     } in (
       refl,
-      carried (λ (p : Vec ℕ Global). p.items) c.in_ok-packets.packets.items c.args.note c.in_ok-submission.submission note messages c.in_ok-packets.ensures sent out,
+      carried (λ (p : Vec ℕ Global). p.items) c.in_ok-packets.packets.items c.args.note c.in_ok-submission.submission note messages c.in_ok-packets.ensures.packets sent out,
       c.count.ensures messages (c.is_some-is_out.ensures ∙ is_out (λ (p : Vec ℕ Global). p.items) c.in_ok-submission.submission messages out)
           ∙ (ap (λ (p : List TextValue). counted (w p c.push_reserved.new.self.items) messages) left
           ∙ (ap (λ (e : List Status). counted (w (drop 1 c.self.inside.pending.items) e) messages) more

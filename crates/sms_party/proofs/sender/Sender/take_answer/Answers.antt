@@ -7,6 +7,8 @@ use Rattle.sms_message.specs.Does.{Answered}
 use Rattle.sms_party.specs.Sender.Answers.{sender_receives}
 use Rattle.sms_party.specs.Sender.Stands.{SenderStands, in_messages}
 use Rattle.sms_party.proofs.SenderSteps.{carried_over, heard, nothing_comes}
+use Rattle.sms_party.specs.Sender.Value.{hears_at}
+use Rattle.sms_party.proofs.SenderFew.{few_did, hears_few}
 use Rattle.sms_party.proofs.sender.Sender.take_answer.Goals as goal
 
 pub returns-in-FromPhone-clause-steps : goal.returns-in-FromPhone-clause-steps
@@ -38,3 +40,8 @@ unfolding sender_receives
 returns-in-Unreadable-clause-steps c = λ phone x stands.
     subst (λ (r : Relay). Answered (SenderStands phone c.args.self.now) x (in_messages (sender_receives x phone c.args.tag r)) (Err Unmatched)) (sym c.in-Unreadable.is)
     (nothing_comes phone x c.args.self.now stands)
+
+pub returns-in-ToPhone-clause-few : goal.returns-in-ToPhone-clause-few
+returns-in-ToPhone-clause-few c =
+    few_did (hears_at c.args.self.now c.args.tag c.in-Answer.cause c.in-Answer.report c.args.self.now.pending) c.args.self.now c.hear.new.self c.hear.result
+    (hears_few c.args.self.now c.args.tag c.in-Answer.cause c.in-Answer.report c.args.self.now.pending) c.hear.ensures.did

@@ -1,5 +1,4 @@
 use Rattle.std.proofs.Common.{◌<◌, sym, subst, arith, rules}
-use Rattle.sms_field.specs.AddressValue.{HasSpelling}
 use Rattle.sms_field.specs.declared.coding.Alphabet.{Alphabet}
 use Rattle.sms_tpdu.specs.UserData.{FitsAlphabet}
 use Rattle.sms_join.specs.declared.units.Units.{Units}
@@ -17,7 +16,7 @@ invariant_of-result c =
     record {
       validity = tt;
       reference = omega arith;
-      target = subst HasSpelling c.result.view_is c.result.invariant;
+      target = search rules;
       pid = omega arith;
       dcs = subst (λ n. n < 256) (sym dcs) (dcs_range c.args.segment.now.units);
       user = subst (λ (a : Alphabet). FitsAlphabet a c.in_ok-user.field-0) (sym c.coding_scheme.ensures.alphabet) c.in_ok-user.ensures.fits;

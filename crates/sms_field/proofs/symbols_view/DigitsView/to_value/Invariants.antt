@@ -1,0 +1,6 @@
+use Rattle.std.proofs.Common.{◌≡◌, ◌*◌}
+use Rattle.sms_field.specs.AddressSeen.{digits_in}
+use Rattle.sms_field.proofs.symbols_view.DigitsView.to_value.Given as goal
+
+abbrev pub invariant-loop-place : goal.invariant-loop-place
+invariant-loop-place l = l.digits.items ≡ digits_in (2 * l.place) l.self-inside.octets.now

@@ -1,0 +1,22 @@
+use Rattle.std.proofs.Common.{refl, sym, ap, subst, ◌∙◌}
+use Rattle.sms_message.specs.declared.outcome.Step.{Step}
+use Rattle.sms_message.specs.declared.outcome.Outcome.TheVariants.{Noted}
+use Rattle.sms_party.specs.Sender.Waits.{waits_for}
+use Rattle.sms_party.proofs.Passing.{IsDropped, not_cp_passes, note_passes, others_pass}
+use Rattle.sms_party.proofs.sender.Sender.pass.Goals as goal
+
+pub returns-in-NotCp-clause-steps : goal.returns-in-NotCp-clause-steps
+returns-in-NotCp-clause-steps c = λ message e. not_cp_passes c.args.self.now message (e ∙ c.in-NotCp.is)
+
+pub returns-in-Note-clause-steps : goal.returns-in-Note-clause-steps
+returns-in-Note-clause-steps c = λ message e.
+    let step : Step = record { outcome = Noted; packets = c.new.result } in
+    note_passes c.args.self.now message c.in-Note.flag c.in-Note.value (e ∙ c.in-Note.is) step refl c.new.ensures.items
+
+pub returns-in-Tiny-clause-steps : goal.returns-in-Tiny-clause-steps
+returns-in-Tiny-clause-steps c = λ message e.
+    others_pass c.args.self.now message (subst IsDropped (sym (e ∙ c.in-Tiny.is)) tt) (ap (waits_for c.args.self.now) e ∙ c.requires)
+
+pub returns-in-Data-clause-steps : goal.returns-in-Data-clause-steps
+returns-in-Data-clause-steps c = λ message e.
+    others_pass c.args.self.now message (subst IsDropped (sym (e ∙ c.in-Data.is)) tt) (ap (waits_for c.args.self.now) e ∙ c.requires)
