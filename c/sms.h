@@ -169,7 +169,8 @@ typedef struct sms_submit {
 } sms_submit;
 
 typedef struct sms_report {
-    sms_span data; /* TP-UD */
+    sms_span data;   /* TP-UD */
+    sms_span header; /* TP-UDH in it, after its length octet; offset 0 where there is none */
     size_t used;
     uint8_t has_header; /* TP-UDHI: the data begin with a header */
     uint8_t has_cause;
@@ -188,6 +189,7 @@ typedef struct sms_report {
 typedef struct sms_status_report {
     sms_address recipient; /* TP-RA */
     sms_span data;         /* TP-UD */
+    sms_span header;       /* TP-UDH in it, after its length octet; offset 0 where there is none */
     size_t used;
     uint8_t more;         /* TP-MMS as its meaning: 1 where more messages wait */
     uint8_t looped;       /* TP-LP */
@@ -209,6 +211,7 @@ typedef struct sms_status_report {
 typedef struct sms_command {
     sms_address target; /* TP-DA of the message in question */
     sms_span data;      /* TP-CD; its length is TP-CDL */
+    sms_span header;    /* TP-UDH in it, after its length octet; offset 0 where there is none */
     size_t used;
     uint8_t has_header; /* TP-UDHI: the data begin with a header */
     uint8_t report;     /* TP-SRR */
@@ -343,8 +346,7 @@ sms_status sms_deliver_write(const sms_deliver_fields *fields, const uint8_t *or
 
 /* The user data of all segments, each from its TP-UDL on, one after another, and where each lies in
  * out. *dcs is the TP-DCS of all. Where there is too little room for the octets or for the spans, the
- * call answers SMS_NO_ROOM and writes no octet; *needed and *segments tell how much is wanted, and of the
- * spans as many are written as there is room for. */
+ * call answers SMS_NO_ROOM and writes neither; *needed and *segments tell how much is wanted. */
 sms_status sms_split(const sms_reference *reference, const uint8_t *text, size_t text_count,
                      uint8_t *out, size_t room, size_t *needed,
                      sms_span *spans, size_t span_count, size_t *segments, uint8_t *dcs);

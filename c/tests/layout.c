@@ -73,6 +73,7 @@ static void units(void)
     FIELD(sms_submit, validity);
     STRUCT(sms_report);
     FIELD(sms_report, data);
+    FIELD(sms_report, header);
     FIELD(sms_report, used);
     FIELD(sms_report, has_header);
     FIELD(sms_report, has_cause);
@@ -89,6 +90,7 @@ static void units(void)
     STRUCT(sms_status_report);
     FIELD(sms_status_report, recipient);
     FIELD(sms_status_report, data);
+    FIELD(sms_status_report, header);
     FIELD(sms_status_report, used);
     FIELD(sms_status_report, more);
     FIELD(sms_status_report, looped);
@@ -108,6 +110,7 @@ static void units(void)
     STRUCT(sms_command);
     FIELD(sms_command, target);
     FIELD(sms_command, data);
+    FIELD(sms_command, header);
     FIELD(sms_command, used);
     FIELD(sms_command, has_header);
     FIELD(sms_command, report);

@@ -169,8 +169,9 @@ static void writes(void)
     CHECK(sms_split(&reference, (const uint8_t *)cyrillic, 200, all, sizeof all, &needed, spans, 2, &segments, &dcs) == SMS_OK);
     CHECK(segments == 2 && dcs == 8 && spans[0].offset == 0 && spans[1].offset == spans[0].length);
     CHECK(spans[0].length + spans[1].length == needed && all[0] == spans[0].length - 1);
-    CHECK(sms_split(&reference, (const uint8_t *)cyrillic, 200, all, sizeof all, &needed, spans, 1, &segments, &dcs) == SMS_NO_ROOM);
-    CHECK(segments == 2);
+    sms_span one = {77, 77};
+    CHECK(sms_split(&reference, (const uint8_t *)cyrillic, 200, all, sizeof all, &needed, &one, 1, &segments, &dcs) == SMS_NO_ROOM);
+    CHECK(segments == 2 && one.offset == 77 && one.length == 77);
     CHECK(sms_split(&reference, (const uint8_t *)cyrillic, 200, NULL, 0, &needed, NULL, 0, &segments, &dcs) == SMS_NO_ROOM);
     CHECK(segments == 2 && needed == spans[0].length + spans[1].length);
 }
@@ -218,7 +219,14 @@ static void reports(void)
     uint8_t *octets = block("0007000003616263", &count);
     CHECK(sms_deliver_ack_read(octets, count, &r, &refused) == SMS_OK);
     CHECK(r.has_pid && r.has_dcs && r.has_data && r.length == 3 && !r.has_stamp && !r.has_cause);
-    CHECK(r.data.offset == 5 && r.data.length == 3 && r.used == count);
+    CHECK(r.data.offset == 5 && r.data.length == 3 && r.header.offset == 0 && r.used == count);
+    free(octets);
+    /* TP-UDHI, without TP-PID: a header of three octets in TP-UD, then one that would go beyond it */
+    octets = block("400604050370010041", &count);
+    CHECK(sms_deliver_ack_read(octets, count, &r, &refused) == SMS_OK && r.has_header);
+    CHECK(r.data.offset == 4 && r.data.length == 5 && r.header.offset == 5 && r.header.length == 3);
+    octets[4] = 5;
+    CHECK(sms_deliver_ack_read(octets, count, &r, &refused) == SMS_OK && r.has_header && r.header.offset == 0);
     free(octets);
     octets = block("01D60030217251409080", &count);
     CHECK(sms_submit_error_read(octets, count, &r, &refused) == SMS_OK);
@@ -311,7 +319,9 @@ static void commands(void)
     octets = block("FE0841000602812103AABBCC00", &count);
     CHECK(sms_command_read(octets, count, &c, &refused) == SMS_OK && c.used == 12);
     CHECK(c.has_header == 1 && c.report == 1 && c.reference == 8 && c.pid == 0x41 && c.kind == 0 && c.message == 6);
-    CHECK(c.data.offset == 9 && c.data.length == 3);
+    CHECK(c.data.offset == 9 && c.data.length == 3 && c.header.offset == 0);
+    octets[9] = 2;
+    CHECK(sms_command_read(octets, count, &c, &refused) == SMS_OK && c.header.offset == 10 && c.header.length == 2);
     octets[8] = 158;
     sms_command same = c;
     CHECK(sms_command_read(octets, count, &c, &refused) == SMS_REFUSED && memcmp(&same, &c, sizeof c) == 0);

@@ -37,7 +37,9 @@ class Readers(unittest.TestCase):
     def test_reports(self):
         report = sms.DeliverReport.read_ack(bytes.fromhex("0007000003616263"))
         self.assertEqual((report.pid, report.dcs, report.length), (0, 0, 3))
-        self.assertEqual((report.data, report.cause, report.stamp), (b"abc", None, None))
+        self.assertEqual((report.data, report.header, report.cause, report.stamp), (b"abc", None, None, None))
+        report = sms.DeliverReport.read_ack(bytes.fromhex("400604050370010041"))
+        self.assertEqual((report.data, report.header), (bytes.fromhex("0370010041"), bytes.fromhex("700100")))
         report = sms.SubmitReport.read_error(bytes.fromhex("01D60030217251409080"))
         self.assertEqual((report.cause, report.data), (0xD6, None))
         self.assertEqual(report.stamp, sms.Stamp(bytes.fromhex("30217251409080")))
@@ -63,7 +65,7 @@ class Readers(unittest.TestCase):
         self.assertEqual((command.target, command.type_of_number, command.plan), ("12", 0, 1))
         self.assertEqual((command.reference, command.pid, command.kind, command.message), (8, 0x41, 0, 6))
         self.assertEqual((command.has_header, command.report), (True, True))
-        self.assertEqual((command.data, command.used), (bytes.fromhex("AABBCC"), 12))
+        self.assertEqual((command.data, command.header, command.used), (bytes.fromhex("AABBCC"), None, 12))
         with self.assertRaisesRegex(sms.Refused, "^at 8: data too long$"):
             sms.Command.read(bytes.fromhex("02070002050281219E"))
 

@@ -645,10 +645,17 @@ pub struct Report {
     pub dcs: Option<u8>,
     /// TP-UD.
     pub data: Option<Vec<u8>>,
+    /// TP-UDH in it, after its length octet, where TP-UDHI is set and it lies within.
+    pub header: Option<Vec<u8>>,
     /// TP-UDL.
     pub length: u8,
     /// By which TP-UDL counts.
     pub alphabet: Alphabet,
+}
+
+/// A header that is there has octets before it.
+fn header_of(octets: &[u8], span: raw::Span) -> Option<Vec<u8>> {
+    (span.offset > 0).then(|| octets[span.offset..][..span.length].to_vec())
 }
 
 fn report(call: Reader<raw::Report>, octets: &[u8]) -> Result<(Report, usize), Refused> {
@@ -661,6 +668,7 @@ fn report(call: Reader<raw::Report>, octets: &[u8]) -> Result<(Report, usize), R
         pid: (seen.has_pid == 1).then_some(seen.pid),
         dcs: (seen.has_dcs == 1).then_some(seen.dcs),
         data: (seen.has_data == 1).then(|| data.to_vec()),
+        header: header_of(octets, seen.header),
         length: seen.length,
         alphabet: Alphabet::of(seen.alphabet),
     };
@@ -718,6 +726,8 @@ pub struct StatusReport {
     pub dcs: Option<u8>,
     /// TP-UD.
     pub data: Option<Vec<u8>>,
+    /// TP-UDH in it, after its length octet, where TP-UDHI is set and it lies within.
+    pub header: Option<Vec<u8>>,
     /// TP-UDL.
     pub length: u8,
     /// By which TP-UDL counts.
@@ -745,6 +755,7 @@ impl StatusReport {
             pid: (seen.has_pid == 1).then_some(seen.pid),
             dcs: (seen.has_dcs == 1).then_some(seen.dcs),
             data: (seen.has_data == 1).then(|| data.to_vec()),
+            header: header_of(octets, seen.header),
             length: seen.length,
             alphabet: Alphabet::of(seen.alphabet),
         };
@@ -772,6 +783,8 @@ pub struct Command {
     pub plan: u8,
     /// TP-CD.
     pub data: Vec<u8>,
+    /// TP-UDH in it, after its length octet, where TP-UDHI is set and it lies within.
+    pub header: Option<Vec<u8>>,
 }
 
 impl Command {
@@ -789,6 +802,7 @@ impl Command {
             type_of_number: seen.target.type_of_number,
             plan: seen.target.plan,
             data: octets[seen.data.offset..][..seen.data.length].to_vec(),
+            header: header_of(octets, seen.header),
         };
         Ok((command, seen.used))
     }

@@ -91,6 +91,7 @@ structs! {
     }
     "sms_report" Report {
         data: Span,
+        header: Span,
         used: usize,
         has_header: u8,
         has_cause: u8,
@@ -108,6 +109,7 @@ structs! {
     "sms_status_report" StatusReport {
         recipient: Address,
         data: Span,
+        header: Span,
         used: usize,
         more: u8,
         looped: u8,
@@ -128,6 +130,7 @@ structs! {
     "sms_command" Command {
         target: Address,
         data: Span,
+        header: Span,
         used: usize,
         has_header: u8,
         report: u8,

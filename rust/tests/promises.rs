@@ -100,7 +100,9 @@ fn reads_commands() {
     assert_eq!((command.target.as_str(), command.type_of_number, command.plan), ("12", 0, 1));
     assert_eq!((command.reference, command.pid, command.kind, command.message), (8, 0x41, 0, 6));
     assert_eq!((command.has_header, command.report, used), (true, true, 12));
-    assert_eq!(command.data, [0xAA, 0xBB, 0xCC]);
+    assert_eq!((command.data.as_slice(), command.header), (&[0xAA, 0xBB, 0xCC][..], None));
+    let headed = [0xFE, 0x08, 0x41, 0x00, 0x06, 0x02, 0x81, 0x21, 0x03, 0x02, 0xBB, 0xCC];
+    assert_eq!(Command::read(&headed).unwrap().0.header.as_deref(), Some(&[0xBB, 0xCC][..]));
     let refused = Refused { place: 8, reason: Reason::DataTooLong };
     assert_eq!(Command::read(&[0x02, 0x07, 0x00, 0x02, 0x05, 0x02, 0x81, 0x21, 0x9E]), Err(refused));
 }

@@ -7,6 +7,7 @@ pub mod SeenCommand
 pub mod SeenRelay
 pub mod SeenReport
 pub mod SeenStatusReport
+pub mod Splitting
 pub mod Status
 pub mod Times
 pub mod Wrapping

@@ -1,9 +1,9 @@
 -- What C sees of an SMS-COMMAND that was read.
-use Rattle.std.specs.Prelude.{◌≡◌, ℕ, ◌+◌, List}
-use Rattle.sms_field.specs.Address.{address}
-use Rattle.sms_field.specs.Reading.{Reads}
+use Rattle.std.specs.Prelude.{◌≡◌, ℕ, List}
 use Rattle.sms_tpdu.specs.Command.{CommandValue}
-use Rattle.sms_c.specs.Parts.{bit, octets_at}
+use Rattle.sms_tpdu.specs.Command.Spans.{CommandLies}
+use Rattle.sms_tpdu.specs.declared.command.spans.CommandSpans.{CommandSpans}
+use Rattle.sms_c.specs.Parts.{bit, span_at, span_if}
 use Rattle.sms_c.specs.declared.reading.command.CommandSeen.{CommandSeen}
 
 -- an SMS-COMMAND that was read at the front of the octets, with the address and the command data
@@ -17,10 +17,8 @@ pub record ShowsCommand (value : CommandValue) (octets : List ℕ) (seen : Comma
   pub message : seen.message ≡ value.message
   pub target_kind : seen.target.type_of_number ≡ value.target.kind
   pub target_plan : seen.target.plan ≡ value.target.plan
-  -- after the first octet, TP-MR, TP-PID, TP-CT and TP-MN
-  pub begins : seen.target.octets.offset ≡ 5
-  pub target : Reads address value.target (octets_at octets seen.target.octets)
-      seen.target.octets.length
-  -- TP-CD: the last of the octets that were read
-  pub lies : octets_at octets seen.«data» ≡ value.octets
-  pub ends : seen.«data».offset + seen.«data».length ≡ seen.used
+  pub spans : CommandSpans
+  pub lie : CommandLies value octets seen.used spans
+  pub target : seen.target.octets ≡ span_at spans.target
+  pub «data» : seen.«data» ≡ span_at spans.«data».octets
+  pub header : seen.header ≡ span_if spans.«data».header

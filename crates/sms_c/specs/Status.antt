@@ -1,5 +1,5 @@
 -- The numbers that C sees.
-use Rattle.std.specs.Prelude.{ℕ, Result, Ok, Err}
+use Rattle.std.specs.Prelude.{◌≡◌, ℕ, Result, Ok, Err}
 use Rattle.sms_field.specs.declared.refusal.Fault.{Fault}
 use Rattle.sms_field.specs.declared.fault.TextFault.{TextFault}
 use Rattle.sms_field.specs.declared.fault.TextFault.TheVariants as text
@@ -28,6 +28,10 @@ status_of why.Closed = 10
 abbrev pub status_in : Result (Unit {0}) Failure → ℕ
 status_in (Ok _) = 0
 status_in (Err failure) = status_of failure
+
+-- another reason than that an answer has no room
+abbrev pub IsNotRoom : Failure → Type 0
+IsNotRoom failure = failure ≡ why.NoRoom → ⊥
 
 -- ---- what a call answers where one that it makes fails
 

@@ -1,4 +1,5 @@
--- Packets that are written around the octets of a unit (3GPP TS 24.011, 7.2 and 7.3).
+-- Packets that are written around the octets of a unit (3GPP TS 24.011, 7.2 and 7.3), and what
+-- becomes of them: they are put where there is room, or have none.
 use Rattle.std.specs.Prelude.{◌≡◌, ℕ, ◌==◌, if◌then◌else◌, Bool, List, length, Option, Some, None, Ok}
 use Rattle.std.specs.Str.{chars}
 use Rattle.sms_field.specs.RelayAddressText.{relay_address_of_text}
@@ -9,8 +10,7 @@ use Rattle.sms_relay.specs.RpValue.{RpValue}
 use Rattle.sms_relay.specs.declared.cp.CpBody.{CpBody}
 use Rattle.sms_relay.specs.declared.side.Side.{Side}
 use Rattle.sms_c.specs.SeenRelay.{side_number}
-use Rattle.sms_c.specs.Writing.{ArePut}
-use Rattle.sms_c.specs.declared.relay.Envelope.{Envelope}
+use Rattle.sms_c.specs.declared.wrapping.Envelope.{Envelope}
 
 -- TI flag
 abbrev pub flag_in : Envelope → Bool
@@ -25,40 +25,37 @@ abbrev pub IsCentre : List ℕ → Option RelayAddressValue → Type 0
 IsCentre text None = length text ≡ 0
 IsCentre text (Some centre) = relay_address_of_text (chars text) ≡ Ok centre
 
--- a message of the connection alone is put out
-pub record PutsCp (envelope : Envelope) (body : CpBody) (before after : List ℕ) (needed : ℕ)
-    : Type 0 where
+-- what becomes of a message of the connection alone
+pub record OfCp (envelope : Envelope) (body : CpBody) (Out : List ℕ → Type 0) : Type 0 where
   pub packet : List ℕ
   pub spelled : SpellsCp (in_transaction (flag_in envelope) envelope.value body) packet
-  pub put : ArePut packet before after needed
+  pub out : Out packet
 
--- a packet is put out around a message of the relay
-pub record PutsRelay (envelope : Envelope) (message : RpValue) (before after : List ℕ) (needed : ℕ)
-    : Type 0 where
+-- what becomes of a packet around a message of the relay
+pub record OfRelay (envelope : Envelope) (message : RpValue) (Out : List ℕ → Type 0) : Type 0 where
   pub packet : List ℕ
   pub carried : CarriesRelay (flag_in envelope) envelope.value (Some message) packet
-  pub put : ArePut packet before after needed
+  pub out : Out packet
 
--- a packet is put out that carries a message
-pub record PutsPacket (envelope : Envelope) (message : Carried) (before after : List ℕ) (needed : ℕ)
+-- what becomes of a packet that carries a message
+pub record OfPacket (envelope : Envelope) (message : Carried) (Out : List ℕ → Type 0)
     : Type 0 where
   pub packet : List ℕ
   pub carried : Carries (flag_in envelope) envelope.value message packet
-  pub put : ArePut packet before after needed
+  pub out : Out packet
 
--- a packet with an RP-DATA around a unit
-pub record PutsData (envelope : Envelope) (address unit : List ℕ) (before after : List ℕ)
-    (needed : ℕ) : Type 0 where
+-- what becomes of a packet with an RP-DATA around a unit
+pub record OfData (envelope : Envelope) (address unit : List ℕ) (Out : List ℕ → Type 0)
+    : Type 0 where
   pub side : Side
   pub side_is : envelope.side ≡ side_number side
   pub centre : Option RelayAddressValue
   pub centre_is : IsCentre address centre
-  pub puts : PutsPacket envelope (transfer side envelope.reference centre unit) before after needed
+  pub packet : OfPacket envelope (transfer side envelope.reference centre unit) Out
 
--- a packet with an RP-ACK, or with a cause an RP-ERROR
-pub record PutsAnswer (envelope : Envelope) (cause : Option ℕ) (unit : List ℕ)
-    (before after : List ℕ) (needed : ℕ) : Type 0 where
+-- what becomes of a packet with an RP-ACK, or with a cause an RP-ERROR
+pub record OfAnswer (envelope : Envelope) (cause : Option ℕ) (unit : List ℕ)
+    (Out : List ℕ → Type 0) : Type 0 where
   pub side : Side
   pub side_is : envelope.side ≡ side_number side
-  pub puts : PutsPacket envelope (answer side envelope.reference cause (unit_in unit))
-      before after needed
+  pub packet : OfPacket envelope (answer side envelope.reference cause (unit_in unit)) Out

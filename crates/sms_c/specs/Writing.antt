@@ -1,5 +1,5 @@
 -- What is written of a text.
-use Rattle.std.specs.Prelude.{◌≡◌, ℕ, ◌==◌, if◌then◌else◌, Bool, true, false, List, ◌++◌, length, drop, slice_get, Option, Some, None, Ok}
+use Rattle.std.specs.Prelude.{◌≡◌, ℕ, ◌==◌, if◌then◌else◌, Bool, true, false, List, length, slice_get, Some, Ok}
 use Rattle.std.specs.Str.{chars}
 use Rattle.sms_field.specs.AddressValue.{AddressValue}
 use Rattle.sms_field.specs.AddressText.{address_of_text}
@@ -12,7 +12,6 @@ use Rattle.sms_join.specs.Segments.{AreSegments}
 use Rattle.sms_join.specs.declared.segment.Segment.{Segment}
 use Rattle.sms_c.specs.Parts.{bits_of}
 use Rattle.sms_c.specs.Times.{validity_of}
-use Rattle.sms_c.specs.declared.writing.Reference.{Reference}
 use Rattle.sms_c.specs.declared.writing.SubmitFields.{SubmitFields}
 use Rattle.sms_c.specs.declared.writing.DeliverFields.{DeliverFields}
 
@@ -50,14 +49,6 @@ delivery fields origin width segment =
       user = user_of width fields.segments.reference segment;
     }
 
--- a text is cut into so many segments
-pub record IsCutInto (reference : Reference) (text : List ℕ) (count : ℕ) : Type 0 where
-  pub width : Width
-  pub width_is : reference.width ≡ bits_of width
-  pub segments : List Segment
-  pub cut : AreSegments width (chars text) segments
-  pub counted : count ≡ length segments
-
 -- the segment of an index of a text that is cut into so many
 pub record IsPieceOf (text : List ℕ) (width : Width) (index count : ℕ) (segment : Segment)
     : Type 0 where
@@ -66,14 +57,9 @@ pub record IsPieceOf (text : List ℕ) (width : Width) (index count : ℕ) (segm
   pub counted : count ≡ length segments
   pub there : slice_get segments index ≡ Some segment
 
--- octets at the front of what had room for them; the rest is as it was
-pub record ArePut (octets before after : List ℕ) (needed : ℕ) : Type 0 where
-  pub written : after ≡ octets ++ drop needed before
-  pub counted : needed ≡ length octets
-
--- the segment of an index of a text is written as an SMS-SUBMIT
-pub record WritesSubmit (fields : SubmitFields) (target text : List ℕ) (index : ℕ)
-    (before after : List ℕ) (needed count : ℕ) : Type 0 where
+-- what becomes of the segment of an index of a text that is written as an SMS-SUBMIT
+pub record OfSubmit (fields : SubmitFields) (target text : List ℕ) (index count : ℕ)
+    (Out : List ℕ → Type 0) : Type 0 where
   pub width : Width
   pub width_is : fields.segments.width ≡ bits_of width
   pub validity : Validity
@@ -84,11 +70,11 @@ pub record WritesSubmit (fields : SubmitFields) (target text : List ℕ) (index 
   pub piece : IsPieceOf text width index count segment
   pub octets : List ℕ
   pub spelled : SpellsSubmit (submission fields validity address width segment) octets
-  pub put : ArePut octets before after needed
+  pub out : Out octets
 
--- the segment of an index of a text is written as an SMS-DELIVER
-pub record WritesDeliver (fields : DeliverFields) (origin text : List ℕ) (index : ℕ)
-    (before after : List ℕ) (needed count : ℕ) : Type 0 where
+-- what becomes of the segment of an index of a text that is written as an SMS-DELIVER
+pub record OfDeliver (fields : DeliverFields) (origin text : List ℕ) (index count : ℕ)
+    (Out : List ℕ → Type 0) : Type 0 where
   pub width : Width
   pub width_is : fields.segments.width ≡ bits_of width
   pub address : AddressValue
@@ -97,4 +83,4 @@ pub record WritesDeliver (fields : DeliverFields) (origin text : List ℕ) (inde
   pub piece : IsPieceOf text width index count segment
   pub octets : List ℕ
   pub spelled : SpellsDeliver (delivery fields address width segment) octets
-  pub put : ArePut octets before after needed
+  pub out : Out octets

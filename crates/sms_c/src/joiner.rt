@@ -1,6 +1,6 @@
 //! A joiner that C keeps.
 
-ghost use Rattle.std.specs.Prelude.{◌≡◌, ℕ, ◌++◌, length, drop, Some, None, MatchOption, IfSome, IfOk, IfErr, OnErr};
+ghost use Rattle.std.specs.Prelude.{◌≡◌, ◌≤◌, ◌<◌, ℕ, length, Some, None, MatchOption, IfSome, IfOk, IfErr, OnErr};
 ghost use Rattle.std.specs.String.{string_bytes};
 ghost use Rattle.sms_field.specs.Reading.{Reads};
 ghost use Rattle.sms_tpdu.specs.Deliver.{deliver};
@@ -9,6 +9,7 @@ ghost use Rattle.sms_join.specs.Joiner.{new_joiner};
 ghost use Rattle.sms_join.specs.JoinerValue.{SameLimits};
 ghost use Rattle.sms_join.specs.Same.{IsSame};
 ghost use Rattle.sms_c.specs.Offers.{Offers, OnOkIs, RefusesUnit, WouldFinish, units_in};
+ghost use Rattle.sms_c.specs.HandedOut.{ArePut, LackRoom};
 ghost use Rattle.sms_c.specs.Kept.{count};
 ghost use Rattle.sms_c.specs.Status as numbers;
 ghost use Rattle.sms_tpdu.specs.UserData.ConcatenationFound.{IsPlace, concat_of_header};
@@ -247,13 +248,15 @@ pub extern "C" fn sms_joiner_text(
     out: &mut [u8],
     needed: &mut usize,
 ) -> u32
-    ensures closed { handle.old.kept.held ≡ None → result ≡ 10 }
+    ensures closed { handle.old.kept.held ≡ None → (result ≡ 10) × (needed.new ≡ 0) }
     ensures same { handle.new.kept.held ≡ handle.old.kept.held }
     ensures none { (result ≡ 0 → ⊥) → out.new ≡ out.old }
-    ensures needed { IfSome handle.old.kept.held (λ inside.
-        needed.new ≡ length (string_bytes inside.text)) }
-    ensures text { result ≡ 0 → IfSome handle.old.kept.held (λ inside.
-        out.new ≡ string_bytes inside.text ++ drop needed.new out.old) }
+    ensures put { IfSome handle.old.kept.held (λ inside.
+        length (string_bytes inside.text) ≤ length out.old
+        → (result ≡ 0) × ArePut out.old out.new needed.new (string_bytes inside.text)) }
+    ensures no_room { IfSome handle.old.kept.held (λ inside.
+        length out.old < length (string_bytes inside.text)
+        → (result ≡ 3) × LackRoom out.old out.new needed.new (string_bytes inside.text)) }
 {
     *needed = 0;
     let Some(inside) = mem::replace(handle, Handle::closed(alloc)).into_box() else {

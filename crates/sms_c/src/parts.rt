@@ -1,22 +1,23 @@
 //! What C sees of the parts of a unit: values, and where the rest lies in the caller's octets.
 
-ghost use Rattle.std.specs.Prelude.{◌≡◌, ℕ, drop, is_some, IfSome, IfOk, OnErr};
+ghost use Rattle.std.specs.Prelude.{◌≡◌, ℕ, Err, is_some, IfSome, IfOk, IfErr, OnErr};
 ghost use Rattle.std.specs.Str.{chars};
 ghost use Rattle.std.specs.String.{string_bytes};
 ghost use Rattle.sms_field.specs.Reading.{Reads};
 ghost use Rattle.sms_field.specs.Address.{address as address_field};
 ghost use Rattle.sms_field.specs.AddressValue.{AddressValue};
-ghost use Rattle.sms_field.specs.Lies.{TakesOctets};
 ghost use Rattle.sms_field.specs.AddressText.{address_text as text_of_address};
-ghost use Rattle.sms_c.specs.HandedOut.{IsHandedOut};
+ghost use Rattle.sms_c.specs.HandedOut.{ArePut, LackRoom, OfText};
 ghost use Rattle.sms_tpdu.specs.UserData.ConcatenationFound.{concat_of_header};
 ghost use Rattle.sms_c.specs.Parts as seen;
-ghost use Rattle.sms_c.specs.Parts.{ShowsUser};
+ghost use Rattle.sms_c.specs.Parts.{OfAddress, ShowsUser};
+ghost use Rattle.sms_c.specs.Status.{IsNotRoom};
+ghost use Rattle.sms_c.specs.declared.status.Failure.TheVariants.{NoRoom};
 
 use crate::out::hand_out;
 use crate::status::{Failure, status_of};
 use sms_field::{AddressView, Alphabet, alphabet_of};
-use sms_text::{text_of_gsm, text_of_ucs2, units_of_octets, unpack};
+use sms_text::{text_of_packed, text_of_ucs2_octets};
 use sms_tpdu::{BodyView, Concat, HeaderView, UserDataView, UserSpans, Width};
 use std::alloc::Global;
 
@@ -141,20 +142,8 @@ pub fn address_seen(view: &AddressView, span: sms_field::Span) -> AddressSeen
     }
 }
 
-/// Where the address lies that begins after so many octets. Not looked at is whether it can be read.
-pub fn address_after(octets: &[u8], before: usize) -> sms_field::Span
-    ensures begins { result.offset ≡ before }
-    ensures takes { TakesOctets address_field (drop before octets.now) result.length }
-{
-    let (_, after) = octets.split_at(before.min(octets.len()));
-    sms_field::Span {
-        offset: before,
-        length: AddressView::length_in(after),
-    }
-}
-
-/// Where a header lies, and that it is there.
-fn header_seen(span: Option<sms_field::Span>) -> Span
+/// Where a part lies that may be there.
+pub fn some_span(span: Option<sms_field::Span>) -> Span
     ensures { result ≡ seen.span_if span }
 {
     match span {
@@ -213,11 +202,12 @@ fn count_in(user: &UserDataView) -> u8
 }
 
 /// User data that lie at these spans.
+#[inline(always)]
 pub fn user_seen(user: &UserDataView, dcs: u8, spans: UserSpans) -> UserSeen
     ensures { ShowsUser user.now dcs spans result }
 {
     UserSeen {
-        header: header_seen(spans.header),
+        header: some_span(spans.header),
         body: Span::at(spans.body),
         place: place_seen(place_told(user.header())),
         length: user.length(),
@@ -230,9 +220,10 @@ pub fn user_seen(user: &UserDataView, dcs: u8, spans: UserSpans) -> UserSeen
 
 /// The text of the address at the front of octets.
 fn address_in(alloc: Global, octets: &[u8]) -> Result<String, Failure>
-    ensures { IfOk result (λ text. (value : AddressValue) × (used : ℕ)
+    ensures text { IfOk result (λ text. (value : AddressValue) × (used : ℕ)
         × Reads address_field value octets.now used
         × (chars (string_bytes text) ≡ text_of_address value)) }
+    ensures room { IfErr result IsNotRoom }
 {
     let Ok((view, _)) = AddressView::read(octets) else {
         return Err(Failure::Refused);
@@ -248,10 +239,12 @@ fn put_address(
     out: &mut [u8],
     needed: &mut usize,
 ) -> Result<(), Failure>
-    ensures text { IfOk result (λ _. (value : AddressValue) × (used : ℕ)
-        × Reads address_field value (seen.octets_at octets.now address.now.octets) used
-        × IsHandedOut (text_of_address value) out.old out.new needed.new) }
+    ensures put { IfOk result (λ _. OfAddress (seen.octets_at octets.now address.now.octets)
+        (ArePut out.old out.new needed.new)) }
+    ensures no_room { result ≡ Err NoRoom → OfAddress (seen.octets_at octets.now address.now.octets)
+        (LackRoom out.old out.new needed.new) }
     ensures none { OnErr result (out.new ≡ out.old) }
+    ensures needed { IfErr result (λ why. IsNotRoom why → needed.new ≡ needed.old) }
 {
     let Some(octets) = address.octets.of(octets) else {
         return Err(Failure::OutOfRange);
@@ -269,10 +262,12 @@ pub extern "C" fn sms_address_text(
     out: &mut [u8],
     needed: &mut usize,
 ) -> u32
-    ensures text { result ≡ 0 → (value : AddressValue) × (used : ℕ)
-        × Reads address_field value (seen.octets_at octets.now address.now.octets) used
-        × IsHandedOut (text_of_address value) out.old out.new needed.new }
+    ensures put { result ≡ 0 → OfAddress (seen.octets_at octets.now address.now.octets)
+        (ArePut out.old out.new needed.new) }
+    ensures no_room { result ≡ 3 → OfAddress (seen.octets_at octets.now address.now.octets)
+        (LackRoom out.old out.new needed.new) }
     ensures none { (result ≡ 0 → ⊥) → out.new ≡ out.old }
+    ensures needed { (result ≡ 0 → ⊥) → (result ≡ 3 → ⊥) → needed.new ≡ 0 }
 {
     *needed = 0;
     status_of(put_address(alloc, octets, address, out, needed))
@@ -280,8 +275,9 @@ pub extern "C" fn sms_address_text(
 
 /// The text of user data.
 fn text_in(alloc: Global, octets: &[u8], user: &UserSeen) -> Result<String, Failure>
-    ensures { IfOk result (λ text.
+    ensures text { IfOk result (λ text.
         chars (string_bytes text) ≡ seen.user_chars octets.now user.now) }
+    ensures room { IfErr result IsNotRoom }
 {
     let Some(octets) = user.body.of(octets) else {
         return Err(Failure::OutOfRange);
@@ -291,15 +287,13 @@ fn text_in(alloc: Global, octets: &[u8], user: &UserSeen) -> Result<String, Fail
             if user.fill > 6 {
                 return Err(Failure::OutOfRange);
             }
-            let Some(septets) = unpack(alloc, octets, user.fill, usize::from(user.count))? else {
+            let Some(text) = text_of_packed(alloc, octets, user.fill, usize::from(user.count))?
+            else {
                 return Err(Failure::OutOfRange);
             };
-            Ok(text_of_gsm(alloc, &septets)?)
+            Ok(text)
         }
-        2 => {
-            let units = units_of_octets(alloc, octets)?;
-            Ok(text_of_ucs2(alloc, &units)?)
-        }
+        2 => Ok(text_of_ucs2_octets(alloc, octets)?),
         _ => Err(Failure::NotThere),
     }
 }
@@ -312,9 +306,12 @@ fn user_text(
     out: &mut [u8],
     needed: &mut usize,
 ) -> Result<(), Failure>
-    ensures text { IfOk result (λ _. IsHandedOut (seen.user_chars octets.now user.now)
-        out.old out.new needed.new) }
+    ensures put { IfOk result (λ _. OfText (seen.user_chars octets.now user.now)
+        (ArePut out.old out.new needed.new)) }
+    ensures no_room { result ≡ Err NoRoom → OfText (seen.user_chars octets.now user.now)
+        (LackRoom out.old out.new needed.new) }
     ensures none { OnErr result (out.new ≡ out.old) }
+    ensures needed { IfErr result (λ why. IsNotRoom why → needed.new ≡ needed.old) }
 {
     let text = text_in(alloc, octets, user)?;
     hand_out(text.as_bytes(), out, needed)
@@ -329,9 +326,12 @@ pub extern "C" fn sms_user_text(
     out: &mut [u8],
     needed: &mut usize,
 ) -> u32
-    ensures text { result ≡ 0 → IsHandedOut (seen.user_chars octets.now user.now)
-        out.old out.new needed.new }
+    ensures put { result ≡ 0 → OfText (seen.user_chars octets.now user.now)
+        (ArePut out.old out.new needed.new) }
+    ensures no_room { result ≡ 3 → OfText (seen.user_chars octets.now user.now)
+        (LackRoom out.old out.new needed.new) }
     ensures none { (result ≡ 0 → ⊥) → out.new ≡ out.old }
+    ensures needed { (result ≡ 0 → ⊥) → (result ≡ 3 → ⊥) → needed.new ≡ 0 }
 {
     *needed = 0;
     status_of(user_text(alloc, octets, user, out, needed))

@@ -1,33 +1,30 @@
-//! Messages of the relay and of the connection.
+//! Messages of the relay and of the connection, read.
 
-ghost use Rattle.std.specs.Prelude.{◌≡◌, ◌<◌, Some, None, IfOk, OnErr};
+ghost use Rattle.std.specs.Prelude.{◌≡◌, ◌<◌, ℕ, true, false, List, length, drop, is_some, option_map};
+ghost use Rattle.sms_field.specs.Lies.{TakesOctets};
 ghost use Rattle.sms_field.specs.Reading.{Reads};
+ghost use Rattle.sms_field.specs.RelayAddress.{relay_address};
 ghost use Rattle.sms_field.specs.WholeAnswer.{IsFaultOf};
 ghost use Rattle.sms_field.specs.declared.refusal.Fault.{Fault as TheFault};
 ghost use Rattle.sms_relay.specs.Cp.{cp_message};
-ghost use Rattle.sms_relay.specs.CpValue.{CpValue, IsCpBody};
-ghost use Rattle.sms_relay.specs.Rp.{rp_message, SpellsRp};
-ghost use Rattle.sms_relay.specs.RpUserData.{IsOptionalUserData, IsUserData};
+ghost use Rattle.sms_relay.specs.CpSeen.{seen_cp_body};
+ghost use Rattle.sms_relay.specs.CpValue.{CpValue};
+ghost use Rattle.sms_relay.specs.Rp.{rp_message};
+ghost use Rattle.sms_relay.specs.RpSeen.{seen_rp_body};
 ghost use Rattle.sms_relay.specs.RpValue.{RpValue};
-ghost use Rattle.sms_relay.specs.declared.cp.CpBody.TheVariants as cp;
 ghost use Rattle.sms_relay.specs.declared.fault.RelayFault.{RelayFault};
 ghost use Rattle.sms_relay.specs.declared.fault.RelayFault.TheVariants.{Short};
+ghost use Rattle.sms_c.specs.Parts.{no_span};
+ghost use Rattle.sms_c.specs.SeenRelay as seen;
+ghost use Rattle.sms_c.specs.SeenRelay.{ShowsCp, ShowsRp};
 ghost use Rattle.sms_c.specs.Status.{relay_refused as told};
-ghost use Rattle.sms_c.specs.SeenRelay.{side_number, ShowsCp, ShowsRp};
-ghost use Rattle.sms_c.specs.Wrapping.{unit_in, IsCentre, PutsCp, PutsRelay, PutsData, PutsAnswer};
 
-use crate::out::{hand_out, text_of};
-use crate::parts::{AddressSeen, Span, bit};
-use crate::status::{Failure, OK, Refused, relay_refused, status_of};
-use sms_field::RpAddress;
-use sms_relay::{
-    CpBody, CpBodyView, CpMessage, CpView, RpBody, RpBodyView, RpMessage, RpView, Side,
-};
-use sms_tpdu::{Octets, OctetsView, Unit};
-use std::alloc::Global;
-
-/// The most octets of a unit in a packet.
-const UNIT_MAX: usize = 233;
+use crate::parts::{Span, bit};
+use crate::reading::report::octet_seen;
+use crate::status::{OK, Refused, relay_refused};
+use sms_field::RpAddressView;
+use sms_relay::{CpBodyView, CpView, RpBodyView, RpView, Side};
+use sms_tpdu::OctetsView;
 
 /// A message of the connection, and where its user data lie.
 #[repr(C)]
@@ -68,21 +65,51 @@ pub struct RpSeen {
     pub diagnostic: u8,
 }
 
-/// What C sees of a message of the connection that takes so many octets.
-fn cp_seen(view: &CpView, used: usize) -> CpSeen
-    ensures used { result.used ≡ used }
-    ensures shows { ShowsCp view.now result }
+/// So many octets before a place.
+fn span_before(used: usize, length: Option<usize>) -> Span
+    ensures { result ≡ seen.span_before used length }
 {
-    let (kind, cause, length) = match &view.body {
-        CpBodyView::Transfer(user) => (0, 0, user.as_slice().len()),
-        CpBodyView::Ack => (1, 0, 0),
-        CpBodyView::Fail(cause) => (2, *cause, 0),
-    };
-    CpSeen {
-        user: Span {
+    match length {
+        Some(length) => Span {
             offset: used.saturating_sub(length),
             length,
         },
+        None => Span::NONE,
+    }
+}
+
+/// The number of a kind, and CP-Cause.
+fn cp_kind_and_cause(body: &CpBodyView) -> (u8, u8)
+    ensures kind { result.0 ≡ seen.cp_kind (seen_cp_body body.now) }
+    ensures cause { result.1 ≡ seen.cp_cause (seen_cp_body body.now) }
+{
+    match body {
+        CpBodyView::Transfer(_) => (0, 0),
+        CpBodyView::Ack => (1, 0),
+        CpBodyView::Fail(cause) => (2, *cause),
+    }
+}
+
+/// How many octets the user data of a message of the connection have, where they are there.
+fn cp_user_length(body: &CpBodyView) -> Option<usize>
+    ensures { result ≡ option_map (λ user. length user) (seen.cp_user (seen_cp_body body.now)) }
+{
+    match body {
+        CpBodyView::Transfer(user) => Some(user.as_slice().len()),
+        _ => None,
+    }
+}
+
+/// What C sees of a message of the connection that takes so many octets.
+fn cp_seen(view: &CpView, used: usize) -> CpSeen
+    ensures used { result.used ≡ used }
+    ensures shows { (octets : List ℕ) → Reads cp_message view.now octets used
+        → ShowsCp view.now octets result }
+{
+    let (kind, cause) = cp_kind_and_cause(&view.body);
+    let length = cp_user_length(&view.body);
+    CpSeen {
+        user: span_before(used, length),
         used,
         flag: bit(view.flag),
         value: view.value,
@@ -96,7 +123,7 @@ fn cp_seen(view: &CpView, used: usize) -> CpSeen
 pub extern "C" fn sms_cp_read(octets: &[u8], out: &mut CpSeen, refused: &mut Refused) -> u32
     ensures status { result < 2 }
     ensures read { result ≡ 0 → (value : CpValue)
-        × Reads cp_message value octets.now out.new.used × ShowsCp value out.new }
+        × Reads cp_message value octets.now out.new.used × ShowsCp value octets.now out.new }
     ensures refused { result ≡ 1 → (fault : TheFault RelayFault)
         × IsFaultOf cp_message Short octets.now fault × (refused.new ≡ told fault)
         × (out.new ≡ out.old) }
@@ -110,81 +137,120 @@ pub extern "C" fn sms_cp_read(octets: &[u8], out: &mut CpSeen, refused: &mut Ref
     }
 }
 
-/// The user data at the end of a message that takes so many octets.
-fn user_seen(user: &Option<OctetsView>, used: usize) -> (Span, u8) {
-    match user {
-        Some(user) => {
-            let length = user.as_slice().len();
-            let offset = used.saturating_sub(length);
-            (Span { offset, length }, 1)
-        }
-        None => (Span::NONE, 0),
+/// The number of a side.
+fn side_number(side: Side) -> u8
+    ensures { result ≡ seen.side_number side }
+{
+    match side {
+        Side::FromPhone => 0,
+        Side::ToPhone => 1,
     }
 }
 
-/// Where the address of an RP-DATA lies, with its length octet.
-fn address_seen(octets: &[u8], side: Side) -> Span {
-    let offset = match side {
+/// The number of a kind, RP-Cause and its diagnostic.
+fn rp_kind_and_cause(body: &RpBodyView) -> (u8, u8, Option<u8>)
+    ensures kind { result.0 ≡ seen.rp_kind (seen_rp_body body.now) }
+    ensures cause { result.1 ≡ seen.rp_cause (seen_rp_body body.now) }
+    ensures diagnostic { result.2 ≡ seen.rp_diagnostic (seen_rp_body body.now) }
+{
+    match body {
+        RpBodyView::Transfer { .. } => (0, 0, None),
+        RpBodyView::Ack { .. } => (1, 0, None),
+        RpBodyView::Fail {
+            cause,
+            diagnostic,
+            ..
+        } => (2, *cause, *diagnostic),
+    }
+}
+
+/// Whether there is an address of a service centre.
+fn has_address(body: &RpBodyView) -> bool
+    ensures { result ≡ is_some (seen.rp_address (seen_rp_body body.now)) }
+{
+    match body {
+        RpBodyView::Transfer { address, .. } => address.is_some(),
+        _ => false,
+    }
+}
+
+/// How many octets some user data have.
+fn length_of(user: &Option<OctetsView>) -> Option<usize>
+    ensures { result ≡ option_map (λ user. length user) user.now }
+{
+    Some(user.as_ref()?.as_slice().len())
+}
+
+/// How many octets the user data have, where they are there.
+fn rp_user_length(body: &RpBodyView) -> Option<usize>
+    ensures { result ≡ option_map (λ user. length user) (seen.rp_user (seen_rp_body body.now)) }
+{
+    match body {
+        RpBodyView::Transfer { user, .. } => Some(user.as_slice().len()),
+        RpBodyView::Ack { user } => length_of(user),
+        RpBodyView::Fail { user, .. } => length_of(user),
+    }
+}
+
+/// How many octets stand before the address of an RP-DATA.
+fn before_address(side: Side) -> usize
+    ensures { result ≡ seen.before_address side }
+{
+    match side {
         Side::FromPhone => 3,
         Side::ToPhone => 2,
-    };
-    let length = match octets.get(offset) {
-        Some(count) => 1 + usize::from(*count),
-        None => 0,
-    };
-    Span { offset, length }
+    }
+}
+
+/// Where the address lies, with its length octet, that begins after so many octets. Not looked at
+/// is whether it can be read.
+fn address_after(octets: &[u8], before: usize) -> Span
+    ensures begins { result.offset ≡ before }
+    ensures takes { TakesOctets relay_address (drop before octets.now) result.length }
+{
+    let (_, after) = octets.split_at(before.min(octets.len()));
+    Span {
+        offset: before,
+        length: RpAddressView::length_in(after),
+    }
+}
+
+/// Where the address of an RP-DATA lies, if it is there.
+fn address_span(octets: &[u8], side: Side, there: bool) -> Span
+    ensures none { there ≡ false → result ≡ no_span }
+    ensures begins { there ≡ true → result.offset ≡ seen.before_address side }
+    ensures takes { there ≡ true → TakesOctets relay_address
+        (drop (seen.before_address side) octets.now) result.length }
+{
+    if !there {
+        return Span::NONE;
+    }
+    address_after(octets, before_address(side))
 }
 
 /// What C sees of a message of the relay that takes so many of the octets.
 fn rp_seen(octets: &[u8], view: &RpView, used: usize) -> RpSeen
+    requires { Reads rp_message view.now octets.now used }
     ensures used { result.used ≡ used }
-    ensures shows { ShowsRp view.now result }
+    ensures shows { ShowsRp view.now octets.now result }
 {
-    let side = match view.side {
-        Side::FromPhone => 0,
-        Side::ToPhone => 1,
-    };
-    let mut seen = RpSeen {
-        address: Span::NONE,
-        user: Span::NONE,
+    let (kind, cause, diagnostic) = rp_kind_and_cause(&view.body);
+    let (has_diagnostic, diagnostic) = octet_seen(diagnostic);
+    let addressed = has_address(&view.body);
+    let length = rp_user_length(&view.body);
+    RpSeen {
+        address: address_span(octets, view.side, addressed),
+        user: span_before(used, length),
         used,
-        side,
+        side: side_number(view.side),
         reference: view.reference,
-        kind: 0,
-        has_address: 0,
-        has_user: 0,
-        cause: 0,
-        has_diagnostic: 0,
-        diagnostic: 0,
-    };
-    match &view.body {
-        RpBodyView::Transfer { address, user } => {
-            if address.is_some() {
-                seen.has_address = 1;
-                seen.address = address_seen(octets, view.side);
-            }
-            let length = user.as_slice().len();
-            let offset = used.saturating_sub(length);
-            seen.user = Span { offset, length };
-            seen.has_user = 1;
-        }
-        RpBodyView::Ack { user } => {
-            seen.kind = 1;
-            (seen.user, seen.has_user) = user_seen(user, used);
-        }
-        RpBodyView::Fail {
-            cause,
-            diagnostic,
-            user,
-        } => {
-            seen.kind = 2;
-            seen.cause = *cause;
-            seen.has_diagnostic = bit(diagnostic.is_some());
-            seen.diagnostic = diagnostic.unwrap_or(0);
-            (seen.user, seen.has_user) = user_seen(user, used);
-        }
+        kind,
+        has_address: bit(addressed),
+        has_user: bit(length.is_some()),
+        cause,
+        has_diagnostic,
+        diagnostic,
     }
-    seen
 }
 
 /// Sees a message of the relay at the front of the octets.
@@ -192,7 +258,7 @@ fn rp_seen(octets: &[u8], view: &RpView, used: usize) -> RpSeen
 pub extern "C" fn sms_rp_read(octets: &[u8], out: &mut RpSeen, refused: &mut Refused) -> u32
     ensures status { result < 2 }
     ensures read { result ≡ 0 → (value : RpValue)
-        × Reads rp_message value octets.now out.new.used × ShowsRp value out.new }
+        × Reads rp_message value octets.now out.new.used × ShowsRp value octets.now out.new }
     ensures refused { result ≡ 1 → (fault : TheFault RelayFault)
         × IsFaultOf rp_message Short octets.now fault × (refused.new ≡ told fault)
         × (out.new ≡ out.old) }
@@ -204,273 +270,4 @@ pub extern "C" fn sms_rp_read(octets: &[u8], out: &mut RpSeen, refused: &mut Ref
         }
         Err(fault) => relay_refused(refused, fault),
     }
-}
-
-/// The transaction of a packet, and the reference of its message.
-#[repr(C)]
-#[derive(Clone, Copy)]
-pub struct Envelope {
-    /// TI flag: 0 from the side that opened the transaction.
-    pub flag: u8,
-    /// TI value, 0 to 6.
-    pub value: u8,
-    /// 0 from the phone, 1 to it.
-    pub side: u8,
-    /// RP-Message Reference.
-    pub reference: u8,
-}
-
-/// The side of a number.
-fn side_of(side: u8) -> Result<Side, Failure>
-    ensures { IfOk result (λ found. side ≡ side_number found) }
-{
-    match side {
-        0 => Ok(Side::FromPhone),
-        1 => Ok(Side::ToPhone),
-        _ => Err(Failure::OutOfRange),
-    }
-}
-
-/// Puts out a packet around a message of the connection.
-fn put_packet(
-    alloc: Global,
-    envelope: Envelope,
-    body: CpBody,
-    out: &mut [u8],
-    needed: &mut usize,
-) -> Result<(), Failure>
-    requires { IsCpBody body }
-    ensures puts { IfOk result (λ _. PutsCp envelope body out.old out.new needed.new) }
-    ensures none { OnErr result (out.new ≡ out.old) }
-{
-    if envelope.value > 6 || envelope.flag > 1 {
-        return Err(Failure::OutOfRange);
-    }
-    let message = CpMessage {
-        flag: envelope.flag == 1,
-        value: envelope.value,
-        body,
-    };
-    let octets = message.write(alloc)?;
-    hand_out(&octets, out, needed)
-}
-
-/// The octets of a message of the relay, as user data.
-fn relayed(alloc: Global, message: RpMessage) -> Result<Octets, Failure>
-    ensures spelled { IfOk result (SpellsRp message) }
-    ensures fits { IfOk result (λ octets. IsCpBody (cp.Transfer octets)) }
-{
-    let octets = message.write(alloc)?;
-    if octets.len() > 255 {
-        return Err(Failure::TooLong);
-    }
-    Ok(Octets::from_slice(alloc, &octets)?)
-}
-
-/// Puts out a packet around a message of the relay.
-fn put_message(
-    alloc: Global,
-    envelope: Envelope,
-    message: RpMessage,
-    out: &mut [u8],
-    needed: &mut usize,
-) -> Result<(), Failure>
-    ensures puts { IfOk result (λ _. PutsRelay envelope message out.old out.new needed.new) }
-    ensures none { OnErr result (out.new ≡ out.old) }
-{
-    let user = relayed(alloc, message)?;
-    put_packet(alloc, envelope, CpBody::Transfer(user), out, needed)
-}
-
-/// The address of a service centre that a text spells; none of no text.
-fn centre_of(alloc: Global, text: &[u8]) -> Result<Option<RpAddress>, Failure>
-    ensures { IfOk result (IsCentre text.now) }
-{
-    if text.is_empty() {
-        return Ok(None);
-    }
-    let text = text_of(text)?;
-    Ok(Some(RpAddress::from_text(alloc, text)?))
-}
-
-/// The octets of a unit, where they are not too many.
-fn unit_of(alloc: Global, unit: &[u8]) -> Result<Octets, Failure>
-    ensures unit { IfOk result (λ octets. octets ≡ unit.now) }
-    ensures fits { IfOk result IsUserData }
-{
-    if unit.len() > UNIT_MAX {
-        return Err(Failure::TooLong);
-    }
-    Ok(Octets::from_slice(alloc, unit)?)
-}
-
-/// The octets of a unit, where there is one and they are not too many.
-fn some_unit(alloc: Global, unit: &[u8]) -> Result<Option<Octets>, Failure>
-    ensures unit { IfOk result (λ octets. octets ≡ unit_in unit.now) }
-    ensures fits { IfOk result IsOptionalUserData }
-{
-    if unit.is_empty() {
-        return Ok(None);
-    }
-    Ok(Some(unit_of(alloc, unit)?))
-}
-
-/// Puts out the packet of an RP-DATA.
-fn put_data(
-    alloc: Global,
-    envelope: Envelope,
-    address: &[u8],
-    unit: &[u8],
-    out: &mut [u8],
-    needed: &mut usize,
-) -> Result<(), Failure>
-    ensures puts { IfOk result (λ _. PutsData envelope address.now unit.now
-        out.old out.new needed.new) }
-    ensures none { OnErr result (out.new ≡ out.old) }
-{
-    let side = side_of(envelope.side)?;
-    let user = unit_of(alloc, unit)?;
-    let address = centre_of(alloc, address)?;
-    let message = RpMessage {
-        side,
-        reference: envelope.reference,
-        body: RpBody::Transfer { address, user },
-    };
-    put_message(alloc, envelope, message, out, needed)
-}
-
-/// Writes a CP-DATA around an RP-DATA around a unit.
-#[unsafe(no_mangle)]
-pub extern "C" fn sms_wrap_data(
-    alloc: Global,
-    envelope: &Envelope,
-    address: &[u8],
-    unit: &[u8],
-    out: &mut [u8],
-    needed: &mut usize,
-) -> u32
-    ensures puts { result ≡ 0 → PutsData envelope.now address.now unit.now
-        out.old out.new needed.new }
-    ensures none { (result ≡ 0 → ⊥) → out.new ≡ out.old }
-{
-    *needed = 0;
-    status_of(put_data(alloc, *envelope, address, unit, out, needed))
-}
-
-/// Puts out the packet of an RP-ACK.
-fn put_ack(
-    alloc: Global,
-    envelope: Envelope,
-    unit: &[u8],
-    out: &mut [u8],
-    needed: &mut usize,
-) -> Result<(), Failure>
-    ensures puts { IfOk result (λ _. PutsAnswer envelope None unit.now
-        out.old out.new needed.new) }
-    ensures none { OnErr result (out.new ≡ out.old) }
-{
-    let side = side_of(envelope.side)?;
-    let user = some_unit(alloc, unit)?;
-    let message = RpMessage {
-        side,
-        reference: envelope.reference,
-        body: RpBody::Ack { user },
-    };
-    put_message(alloc, envelope, message, out, needed)
-}
-
-/// Writes a CP-DATA around an RP-ACK, with a unit or without.
-#[unsafe(no_mangle)]
-pub extern "C" fn sms_wrap_ack(
-    alloc: Global,
-    envelope: &Envelope,
-    unit: &[u8],
-    out: &mut [u8],
-    needed: &mut usize,
-) -> u32
-    ensures puts { result ≡ 0 → PutsAnswer envelope.now None unit.now
-        out.old out.new needed.new }
-    ensures none { (result ≡ 0 → ⊥) → out.new ≡ out.old }
-{
-    *needed = 0;
-    status_of(put_ack(alloc, *envelope, unit, out, needed))
-}
-
-/// Puts out the packet of an RP-ERROR.
-fn put_error(
-    alloc: Global,
-    envelope: Envelope,
-    cause: u8,
-    unit: &[u8],
-    out: &mut [u8],
-    needed: &mut usize,
-) -> Result<(), Failure>
-    ensures puts { IfOk result (λ _. PutsAnswer envelope (Some cause) unit.now
-        out.old out.new needed.new) }
-    ensures none { OnErr result (out.new ≡ out.old) }
-{
-    if cause > 127 {
-        return Err(Failure::OutOfRange);
-    }
-    let side = side_of(envelope.side)?;
-    let user = some_unit(alloc, unit)?;
-    let message = RpMessage {
-        side,
-        reference: envelope.reference,
-        body: RpBody::Fail {
-            cause,
-            diagnostic: None,
-            user,
-        },
-    };
-    put_message(alloc, envelope, message, out, needed)
-}
-
-/// Writes a CP-DATA around an RP-ERROR, with a unit or without.
-#[unsafe(no_mangle)]
-pub extern "C" fn sms_wrap_error(
-    alloc: Global,
-    envelope: &Envelope,
-    cause: u8,
-    unit: &[u8],
-    out: &mut [u8],
-    needed: &mut usize,
-) -> u32
-    ensures puts { result ≡ 0 → PutsAnswer envelope.now (Some cause) unit.now
-        out.old out.new needed.new }
-    ensures none { (result ≡ 0 → ⊥) → out.new ≡ out.old }
-{
-    *needed = 0;
-    status_of(put_error(alloc, *envelope, cause, unit, out, needed))
-}
-
-/// Writes a CP-ACK.
-#[unsafe(no_mangle)]
-pub extern "C" fn sms_cp_ack(
-    alloc: Global,
-    envelope: &Envelope,
-    out: &mut [u8],
-    needed: &mut usize,
-) -> u32
-    ensures puts { result ≡ 0 → PutsCp envelope.now cp.Ack out.old out.new needed.new }
-    ensures none { (result ≡ 0 → ⊥) → out.new ≡ out.old }
-{
-    *needed = 0;
-    status_of(put_packet(alloc, *envelope, CpBody::Ack, out, needed))
-}
-
-/// Writes a CP-ERROR.
-#[unsafe(no_mangle)]
-pub extern "C" fn sms_cp_error(
-    alloc: Global,
-    envelope: &Envelope,
-    cause: u8,
-    out: &mut [u8],
-    needed: &mut usize,
-) -> u32
-    ensures puts { result ≡ 0 → PutsCp envelope.now (cp.Fail cause) out.old out.new needed.new }
-    ensures none { (result ≡ 0 → ⊥) → out.new ≡ out.old }
-{
-    *needed = 0;
-    status_of(put_packet(alloc, *envelope, CpBody::Fail(cause), out, needed))
 }

@@ -1,8 +1,8 @@
 //! What a call answers, and why octets are refused.
 
-ghost use Rattle.std.specs.Prelude.{◌≡◌};
+ghost use Rattle.std.specs.Prelude.{◌≡◌, Err};
 ghost use Rattle.sms_c.specs.Status as numbers;
-ghost use Rattle.sms_c.specs.declared.status.Failure.TheVariants.{Memory};
+ghost use Rattle.sms_c.specs.declared.status.Failure.TheVariants.{Memory, NoRoom};
 
 use sms_field::{Fault, TextFault};
 use sms_join::SplitFault;
@@ -60,7 +60,8 @@ impl Failure {
 
 /// The number of what a call answers.
 pub fn status_of(answer: Result<(), Failure>) -> u32
-    ensures { result ≡ numbers.status_in answer }
+    ensures status { result ≡ numbers.status_in answer }
+    ensures no_room { result ≡ 3 → answer ≡ Err NoRoom }
 {
     match answer {
         Ok(()) => OK,

@@ -1,6 +1,6 @@
 //! Texts written as user data and as units.
 
-ghost use Rattle.std.specs.Prelude.{◌≡◌, ◌<◌, All, IfOk, OnErr};
+ghost use Rattle.std.specs.Prelude.{◌≡◌, ◌<◌, All, Err, IfOk, IfErr, OnErr};
 ghost use Rattle.std.specs.Str.{chars};
 ghost use Rattle.sms_field.specs.AddressText.{address_of_text};
 ghost use Rattle.sms_tpdu.specs.Deliver.{SpellsDeliver};
@@ -11,10 +11,12 @@ ghost use Rattle.sms_join.specs.SegmentUser.{IsSendable};
 ghost use Rattle.sms_join.specs.Segments.{AreSegments};
 ghost use Rattle.sms_c.specs.Parts.{bits_of};
 ghost use Rattle.sms_c.specs.Writing as seen;
-ghost use Rattle.sms_c.specs.Writing.{IsCutInto, WritesDeliver, WritesSubmit};
+ghost use Rattle.sms_c.specs.HandedOut.{ArePut, LackRoom};
+ghost use Rattle.sms_c.specs.Status.{IsNotRoom};
+ghost use Rattle.sms_c.specs.Writing.{OfDeliver, OfSubmit};
+ghost use Rattle.sms_c.specs.declared.status.Failure.TheVariants.{NoRoom};
 
 use crate::out::{hand_out, text_of};
-use crate::parts::Span;
 use crate::status::{Failure, status_of};
 use crate::times::{StampOctets, ValidityOctets};
 use sms_field::{Address, Stamp, Validity};
@@ -33,9 +35,10 @@ pub struct Reference {
 }
 
 /// The width of a reference that it can hold.
-fn width_of(reference: Reference) -> Result<Width, Failure>
+pub fn width_of(reference: Reference) -> Result<Width, Failure>
     ensures width { IfOk result (λ width. reference.width ≡ bits_of width) }
     ensures in_range { IfOk result (λ width. width ≡ Eight → reference.reference < 256) }
+    ensures room { IfErr result IsNotRoom }
 {
     match reference.width {
         8 if reference.reference < 256 => Ok(Width::Eight),
@@ -80,16 +83,18 @@ fn is_set(octet: u8) -> bool
 
 /// The address that a text spells.
 fn address_of(alloc: Global, text: &[u8]) -> Result<Address, Failure>
-    ensures { IfOk result (λ address. address_of_text (chars text.now) ≡ Ok address) }
+    ensures address { IfOk result (λ address. address_of_text (chars text.now) ≡ Ok address) }
+    ensures room { IfErr result IsNotRoom }
 {
     let text = text_of(text)?;
     Ok(Address::from_text(alloc, text)?)
 }
 
 /// The segments of a text.
-fn segments_of(alloc: Global, text: &[u8], width: Width) -> Result<Segments, Failure>
+pub fn segments_of(alloc: Global, text: &[u8], width: Width) -> Result<Segments, Failure>
     ensures segments { IfOk result (AreSegments width (chars text.now)) }
     ensures sendable { IfOk result (All (IsSendable width)) }
+    ensures room { IfErr result IsNotRoom }
 {
     let text = text_of(text)?;
     Ok(cut_text(alloc, text, width)?)
@@ -136,9 +141,12 @@ fn put_submit(
     needed: &mut usize,
     count: &mut usize,
 ) -> Result<(), Failure>
-    ensures written { IfOk result (λ _. WritesSubmit fields target.now text.now index
-        out.old out.new needed.new count.new) }
+    ensures put { IfOk result (λ _. OfSubmit fields target.now text.now index count.new
+        (ArePut out.old out.new needed.new)) }
+    ensures no_room { result ≡ Err NoRoom → OfSubmit fields target.now text.now index count.new
+        (LackRoom out.old out.new needed.new) }
     ensures none { OnErr result (out.new ≡ out.old) }
+    ensures needed { IfErr result (λ why. IsNotRoom why → needed.new ≡ needed.old) }
 {
     let width = width_of(fields.segments)?;
     let Some(validity) = fields.validity.validity() else {
@@ -166,9 +174,12 @@ pub extern "C" fn sms_submit_write(
     needed: &mut usize,
     count: &mut usize,
 ) -> u32
-    ensures written { result ≡ 0 → WritesSubmit fields.now target.now text.now index
-        out.old out.new needed.new count.new }
+    ensures put { result ≡ 0 → OfSubmit fields.now target.now text.now index count.new
+        (ArePut out.old out.new needed.new) }
+    ensures no_room { result ≡ 3 → OfSubmit fields.now target.now text.now index count.new
+        (LackRoom out.old out.new needed.new) }
     ensures none { (result ≡ 0 → ⊥) → out.new ≡ out.old }
+    ensures needed { (result ≡ 0 → ⊥) → (result ≡ 3 → ⊥) → needed.new ≡ 0 }
 {
     *needed = 0;
     *count = 0;
@@ -214,9 +225,12 @@ fn put_deliver(
     needed: &mut usize,
     count: &mut usize,
 ) -> Result<(), Failure>
-    ensures written { IfOk result (λ _. WritesDeliver fields origin.now text.now index
-        out.old out.new needed.new count.new) }
+    ensures put { IfOk result (λ _. OfDeliver fields origin.now text.now index count.new
+        (ArePut out.old out.new needed.new)) }
+    ensures no_room { result ≡ Err NoRoom → OfDeliver fields origin.now text.now index count.new
+        (LackRoom out.old out.new needed.new) }
     ensures none { OnErr result (out.new ≡ out.old) }
+    ensures needed { IfErr result (λ why. IsNotRoom why → needed.new ≡ needed.old) }
 {
     let width = width_of(fields.segments)?;
     let origin = address_of(alloc, origin)?;
@@ -241,98 +255,14 @@ pub extern "C" fn sms_deliver_write(
     needed: &mut usize,
     count: &mut usize,
 ) -> u32
-    ensures written { result ≡ 0 → WritesDeliver fields.now origin.now text.now index
-        out.old out.new needed.new count.new }
+    ensures put { result ≡ 0 → OfDeliver fields.now origin.now text.now index count.new
+        (ArePut out.old out.new needed.new) }
+    ensures no_room { result ≡ 3 → OfDeliver fields.now origin.now text.now index count.new
+        (LackRoom out.old out.new needed.new) }
     ensures none { (result ≡ 0 → ⊥) → out.new ≡ out.old }
+    ensures needed { (result ≡ 0 → ⊥) → (result ≡ 3 → ⊥) → needed.new ≡ 0 }
 {
     *needed = 0;
     *count = 0;
     status_of(put_deliver(alloc, *fields, origin, text, index, out, needed, count))
-}
-
-/// Hands out the user data of each segment, one after another, and where each lies.
-fn put_users(
-    alloc: Global,
-    segments: &Segments,
-    width: Width,
-    reference: u16,
-    out: &mut [u8],
-    needed: &mut usize,
-    spans: &mut [Span],
-    dcs: &mut u8,
-) -> Result<(), Failure>
-    requires sendable { All (IsSendable width) segments.now }
-    requires reference { width ≡ Eight → reference < 256 }
-    ensures none { OnErr result (out.new ≡ out.old) }
-{
-    let mut all = Vec::new(alloc);
-    for index in 0..segments.len() {
-        let Some(segment) = segments.get(index) else {
-            break;
-        };
-        *dcs = segment.coding_scheme();
-        let user = segment.write_user(alloc, width, reference)?;
-        if let Some(span) = spans.get_mut(index) {
-            *span = Span {
-                offset: all.len(),
-                length: user.len(),
-            };
-        }
-        all.extend_from_slice(&user)?;
-    }
-    if segments.len() > spans.len() {
-        *needed = all.len();
-        return Err(Failure::NoRoom);
-    }
-    hand_out(&all, out, needed)
-}
-
-/// Cuts a text, and hands out the user data of its segments.
-fn put_split(
-    alloc: Global,
-    reference: Reference,
-    text: &[u8],
-    out: &mut [u8],
-    needed: &mut usize,
-    spans: &mut [Span],
-    count: &mut usize,
-    dcs: &mut u8,
-) -> Result<(), Failure>
-    ensures cut { IfOk result (λ _. IsCutInto reference text.now count.new) }
-    ensures none { OnErr result (out.new ≡ out.old) }
-{
-    let width = width_of(reference)?;
-    let segments = segments_of(alloc, text, width)?;
-    *count = segments.len();
-    put_users(
-        alloc,
-        &segments,
-        width,
-        reference.reference,
-        out,
-        needed,
-        spans,
-        dcs,
-    )
-}
-
-/// Writes the user data of the segments of a text, each with its TP-UDL, one after another.
-#[unsafe(no_mangle)]
-pub extern "C" fn sms_split(
-    alloc: Global,
-    reference: &Reference,
-    text: &[u8],
-    out: &mut [u8],
-    needed: &mut usize,
-    spans: &mut [Span],
-    count: &mut usize,
-    dcs: &mut u8,
-) -> u32
-    ensures cut { result ≡ 0 → IsCutInto reference.now text.now count.new }
-    ensures none { (result ≡ 0 → ⊥) → out.new ≡ out.old }
-{
-    *needed = 0;
-    *count = 0;
-    *dcs = 0;
-    status_of(put_split(alloc, *reference, text, out, needed, spans, count, dcs))
 }

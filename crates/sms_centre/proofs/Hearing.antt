@@ -1,5 +1,5 @@
 -- The answer to a push at one line is that of the machine.
-use Rattle.std.proofs.Common.{◌≡◌, ℕ, ◌<◌, Bool, true, false, cond, not, nat_lt, List, [], ◌∷◌, Option, Some, None, Result, Ok, Err, refl, sym, ap, ◌∙◌, subst, arith}
+use Rattle.std.proofs.Common.{◌≡◌, ℕ, ◌<◌, Bool, true, false, cond, not, nat_lt, List, [], ◌∷◌, Option, Some, None, Result, Ok, Err, OnErr, refl, sym, ap, ◌∙◌, subst, arith}
 use Rattle.std.specs.Prelude.{◌==◌}
 use Rattle.std.proofs.lemmas.Bool.Decides.{nat_tests}
 use Rattle.std.specs.List.{slice_get, filter}
@@ -7,7 +7,9 @@ use Rattle.sms_field.specs.AddressValue.{AddressValue}
 use Rattle.sms_message.specs.declared.message.Tag.{Tag}
 use Rattle.sms_centre.specs.Centre.State.{Acceptance, Pushing, CentreState}
 use Rattle.sms_centre.specs.Centre.Held.{unended}
-use Rattle.sms_centre.specs.Centre.Verdicts.{unqueued, stays, left_in, after_answer, settled, centre_hears}
+use Rattle.sms_message.specs.Few.{FewPackets, few_put}
+use Rattle.sms_message.specs.declared.message.Message.TheVariants.{Note}
+use Rattle.sms_centre.specs.Centre.Verdicts.{verdict, unqueued, stays, left_in, after_answer, settled, centre_hears}
 use Rattle.sms_centre.specs.Centre.Value.{CentreValue, LineValue, WaitingValue, addresses}
 use Rattle.sms_centre.specs.Centre.Lines.{left_waiting, is_awaited, HearsFor, LineHears, ChangesLine}
 use Rattle.sms_centre.specs.Centre.Standing.{waiting_in, push_of, LineStands, StandsFor}
@@ -104,6 +106,31 @@ address_for now tag cause line new None (Err TooManySegments) h = absurd h
 -- an answer keeps the address of its line
 pub heard_address : (now : ℕ) (tag : Tag) (cause : Option ℕ) (line new : LineValue) (r : Result Step Dropped) → LineHears now tag cause line r new → new.address ≡ line.address
 heard_address now tag cause line new r h = address_for now tag cause line new line.latest r h
+
+few_for : (now : ℕ) (tag : Tag) (cause : Option ℕ) (line new : LineValue) (latest : Option Push) (r : Result Step Dropped) → HearsFor now tag cause line latest r new → FewPackets r
+few_for now tag cause line new (Some p) (Ok step) h = few_put (verdict cause) (Note false tag.value ∷ []) (Ok step) (omega arith) (h.1, h.2)
+few_for now tag cause line new None (Ok step) h = absurd h
+few_for now tag cause line new latest (Err why) h = tt
+
+-- an answer is answered by one packet, or none
+pub heard_few : (now : ℕ) (tag : Tag) (cause : Option ℕ) (line new : LineValue) (r : Result Step Dropped) → LineHears now tag cause line r new → FewPackets r
+heard_few now tag cause line new r h = few_for now tag cause line new line.latest r h
+
+-- one that fails changes nothing
+pub heard_same : (now : ℕ) (tag : Tag) (cause : Option ℕ) (line new : LineValue) (r : Result Step Dropped) → LineHears now tag cause line r new → OnErr r (new ≡ line)
+heard_same now tag cause line new r h = same_for line.latest r h
+  where
+    same_for : (latest : Option Push) (r : Result Step Dropped) → HearsFor now tag cause line latest r new → OnErr r (new ≡ line)
+    same_for latest (Ok step) h = tt
+    same_for (Some p) (Err Unmatched) h = h.1
+    same_for None (Err Unmatched) h = h
+    same_for latest (Err Memory) h = h
+    same_for (Some p) (Err NotCp) h = absurd h
+    same_for None (Err NotCp) h = absurd h
+    same_for (Some p) (Err Busy) h = absurd h
+    same_for None (Err Busy) h = absurd h
+    same_for (Some p) (Err TooManySegments) h = absurd h
+    same_for None (Err TooManySegments) h = absurd h
 
 pub heard_phones : (now : ℕ) (tag : Tag) (cause : Option ℕ) (phone : ℕ) (old new : List LineValue) (r : Result Step Dropped) → ChangesLine phone old new (λ line new. LineHears now tag cause line r new) → addresses new ≡ addresses old
 heard_phones now tag cause phone old new r h = ap addresses h.others_stay ∙ addresses_set old phone h.before h.after h.is_there (heard_address now tag cause h.before h.after r h.how)

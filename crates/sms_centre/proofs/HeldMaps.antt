@@ -1,8 +1,8 @@
 -- What a change of the two maps of held messages does to what is kept.
-use Rattle.std.proofs.Common.{◌≡◌, ◌≢◌, ℕ, Bool, true, false, cond, ◌&&◌, ◌||◌, nat_lt, List, [], ◌∷◌, Option, Some, None, refl, sym, ap, ◌∙◌, subst, arith}
+use Rattle.std.proofs.Common.{◌≡◌, ◌≢◌, ℕ, Bool, true, false, cond, ◌&&◌, ◌||◌, nat_lt, List, [], ◌∷◌, ◌++◌, Option, Some, None, refl, sym, ap, ◌∙◌, subst, arith}
 use Rattle.std.specs.Prelude.{All, max}
 use Rattle.std.specs.List.{slice_get}
-use Rattle.std.specs.Map.{keys_of, values_of, lookup}
+use Rattle.std.specs.Map.{keys_of, lookup}
 use Rattle.std.specs.Ordering.{match_ordering, nat_cmp, ordering_then}
 use Rattle.std.specs.BTreeMap.{insert_entry}
 use Rattle.std.specs.declared.cmp.Ordering.{Ordering}
@@ -63,38 +63,51 @@ same_ending a b e =
     let k = both_equal (nat_cmp a.recipient b.recipient) (nat_cmp a.stamp b.stamp) h.1 in
     endings a.end a.recipient a.stamp b.end b.recipient b.stamp (exact_unsigned _ _ h.0) (exact_unsigned _ _ k.0) (exact_unsigned _ _ k.1)
 
-put_one : (o : Ordering) (e : Ending × HeldKey) (es new : List (Ending × HeldKey)) (ending : Ending) (key : HeldKey) → (o ≡ Equal → ending ≡ e.0) → e.0 ≢ ending → IsPutIn ending (keys_of es) (keys_of new)
-    → IsPutIn ending (e.0 ∷ keys_of es) (keys_of (match_ordering o ((ending, key) ∷ e ∷ es) ((e.0, key) ∷ es) (e ∷ new)))
-put_one Less e es new ending key same apart rest = record { before = []; after = e.0 ∷ keys_of es; was = refl; is = refl }
+put_one : (o : Ordering) (e : Ending × HeldKey) (es new : List (Ending × HeldKey)) (ending : Ending) (key : HeldKey) → (o ≡ Equal → ending ≡ e.0) → e.0 ≢ ending → IsPutIn (ending, key) es new
+    → IsPutIn (ending, key) (e ∷ es) (match_ordering o ((ending, key) ∷ e ∷ es) ((e.0, key) ∷ es) (e ∷ new))
+put_one Less e es new ending key same apart rest = record { before = []; after = e ∷ es; was = refl; is = refl }
 put_one Equal e es new ending key same apart rest = absurd (apart (sym (same refl)))
 put_one Greater e es new ending key same apart rest = record {
-  before = e.0 ∷ rest.before;
+  before = e ∷ rest.before;
   after = rest.after;
-  was = ap (λ (r : List Ending). e.0 ∷ r) rest.was;
-  is = ap (λ (r : List Ending). e.0 ∷ r) rest.is;
+  was = ap (λ (r : List (Ending × HeldKey)). e ∷ r) rest.was;
+  is = ap (λ (r : List (Ending × HeldKey)). e ∷ r) rest.is;
 }
 
--- an ending that none of the others is comes to stand among them
-pub put_in : (es : List (Ending × HeldKey)) (ending : Ending) (key : HeldKey) → All (λ e. e ≢ ending) (keys_of es) → IsPutIn ending (keys_of es) (keys_of (insert_entry ending_cmp es ending key))
+-- an ending that none of the others is comes to stand among them, with its key
+pub put_in : (es : List (Ending × HeldKey)) (ending : Ending) (key : HeldKey) → All (λ e. e ≢ ending) (keys_of es) → IsPutIn (ending, key) es (insert_entry ending_cmp es ending key)
 put_in [] ending key apart = record { before = []; after = []; was = refl; is = refl }
 put_in (e ∷ es) ending key apart =
     put_one (ending_cmp ending e.0) e es (insert_entry ending_cmp es ending key) ending key (same_ending ending e.0) (All-head (λ x. x ≢ ending) e.0 (keys_of es) apart)
     (put_in es ending key (All-tail (λ x. x ≢ ending) e.0 (keys_of es) apart))
 
+endings-append : (xs ys : List (Ending × HeldKey)) → keys_of (xs ++ ys) ≡ keys_of xs ++ keys_of ys
+endings-append [] ys = refl
+endings-append (x ∷ xs) ys = ap (λ (r : List Ending). x.0 ∷ r) (endings-append xs ys)
+
+put_ending : (es new : List (Ending × HeldKey)) (ending : Ending) (key : HeldKey) → IsPutIn (ending, key) es new → IsPutIn ending (keys_of es) (keys_of new)
+put_ending es new ending key put = record {
+  before = keys_of put.before;
+  after = keys_of put.after;
+  was = ap (λ (x : List (Ending × HeldKey)). keys_of x) put.was ∙ endings-append put.before put.after;
+  is = ap (λ (x : List (Ending × HeldKey)). keys_of x) put.is ∙ endings-append put.before ((ending, key) ∷ put.after);
+}
+
 pub holds_also : (old : HeldValue) (key : HeldKey) (ending : Ending) (es new_es : List (Ending × HeldKey)) (last mid new : List (HeldKey × ℕ)) (greatest : ℕ) (found : Option ℕ)
-    → ◌≡◌ {A = HeldValue} (record { endings = keys_of es; keys = values_of es; last = last }) old → All (λ e. e ≢ ending) old.endings
+    → ◌≡◌ {A = HeldValue} (record { endings = keys_of es; messages = es; last = last }) old → All (λ e. e ≢ ending) old.endings
     → new_es ≡ insert_entry ending_cmp es ending key
     → mid ≡ last → found ≡ lookup (key_eq key) last → greatest ≡ greatest_of ending.end found
     → ((q : HeldKey) → lookup (key_eq q) new ≡ cond (key_eq key q) (Some greatest) (lookup (key_eq q) mid))
-    → HoldsAlso old key ending (record { endings = keys_of new_es; keys = values_of new_es; last = new })
+    → HoldsAlso old key ending (record { endings = keys_of new_es; messages = new_es; last = new })
 holds_also old key ending es new_es last mid new greatest found is_old apart put same found_is greatest_is update =
     let apart_here : All (λ e. e ≢ ending) (keys_of es) = subst (λ (v : HeldValue). All (λ e. e ≢ ending) v.endings) (sym is_old) apart in
-    let put_here : IsPutIn ending (keys_of es) (keys_of new_es) = subst (λ (x : List (Ending × HeldKey)). IsPutIn ending (keys_of es) (keys_of x)) (sym put) (put_in es ending key apart_here) in
+    let put_here : IsPutIn (ending, key) es new_es = subst (λ (x : List (Ending × HeldKey)). IsPutIn (ending, key) es x) (sym put) (put_in es ending key apart_here) in
     let updated : (q : HeldKey) → lookup (key_eq q) new ≡ cond (key_eq key q) (Some (greatest_of ending.end (lookup (key_eq key) last))) (lookup (key_eq q) last) =
     λ q. update q ∙ (ap (λ (x : List (HeldKey × ℕ)). cond (key_eq key q) (Some greatest) (lookup (key_eq q) x)) same
     ∙ ap (λ (n : ℕ). cond (key_eq key q) (Some n) (lookup (key_eq q) last)) (greatest_is ∙ ap (greatest_of ending.end) found_is)) in
-    subst (λ (v : HeldValue). HoldsAlso v key ending (record { endings = keys_of new_es; keys = values_of new_es; last = new })) is_old (record {
-      endings = put_here;
+    subst (λ (v : HeldValue). HoldsAlso v key ending (record { endings = keys_of new_es; messages = new_es; last = new })) is_old (record {
+      messages = put_here;
+      endings = put_ending es new_es ending key put_here;
       kept = kept_with last new key ending.end updated;
     })
 

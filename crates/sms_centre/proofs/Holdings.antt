@@ -8,13 +8,14 @@ use Rattle.std.proofs.lemmas.List.{length-append}
 use Rattle.std.proofs.lemmas.List.Elements.{All-nil, All-cons, All-head, All-tail, All-push, All-weaker, All-filter, filter_passes, filter-append, Contains-append_left, Contains-append_right, Contains-append_cases}
 use Rattle.sms_field.specs.AddressValue.{AddressValue}
 use Rattle.sms_centre.specs.declared.centre.held.Ending.{Ending}
+use Rattle.sms_centre.specs.declared.centre.held.HeldKey.{HeldKey}
 use Rattle.sms_message.specs.declared.message.Tag.{Tag}
 use Rattle.sms_centre.specs.declared.centre.waiting.Push.{Push}
 use Rattle.sms_message.specs.declared.outcome.Step.{Step}
 use Rattle.sms_message.specs.declared.outcome.Dropped.{Dropped}
 use Rattle.sms_message.specs.declared.outcome.Dropped.TheVariants.{NotCp, Unmatched, Busy, Memory, TooManySegments}
 use Rattle.sms_centre.specs.Centre.Verdicts.{stays}
-use Rattle.sms_centre.specs.Centre.Kept.{free_at, IsPutIn, IsHeldLater, ForgetsFirst}
+use Rattle.sms_centre.specs.Centre.Kept.{free_at, IsPutIn, IsLeftLater, IsHeldLater, ForgetsFirst}
 use Rattle.sms_centre.specs.Centre.Value.{WaitingValue, LineValue, HeldValue, HoldingsValue, waiting_at, line_at, endings_after}
 use Rattle.sms_centre.specs.Centre.Lines.{new_line, accepting_line, forgetting_line, ChangesLine, PushesFrom, LinePushes, HearsFor, LineHears}
 use Rattle.sms_centre.specs.Centre.Holdings.{ending_of, AreHeld, LeavesSame, ForgetsOne}
@@ -58,6 +59,19 @@ endings_later clock now endings le = filter_twice (λ e. nat_lt clock e.end) (λ
 pub endings_left : (now : ℕ) (endings : List Ending) → All (λ e. now < e.end) (endings_after now endings)
 endings_left now endings = λ k d within. after_is now _ (filter_passes (λ e. nat_lt now e.end) endings k d within)
 
+fewer_by : (now : ℕ) (e : Ending) (endings : List Ending) (b : Bool) → length (endings_after now endings) ≤ length endings → length (cond b (e ∷ endings_after now endings) (endings_after now endings)) ≤ suc (length endings)
+fewer_by now e endings true h = omega (arith, h)
+fewer_by now e endings false h = omega (arith, h)
+
+-- no more are left than were there
+pub fewer_left : (now : ℕ) (endings : List Ending) → length (endings_after now endings) ≤ length endings
+fewer_left now [] = omega arith
+fewer_left now (e ∷ endings) = fewer_by now e endings (nat_lt now e.end) (fewer_left now endings)
+
+-- one more is held
+pub one_more_held : {X : Type 0} (x : X) (old new : List X) → IsPutIn x old new → length new ≡ suc (length old)
+one_more_held x old new h = omega (arith, ap (λ l. length l) h.was, ap (λ l. length l) h.is, length-append h.before h.after, length-append h.before (x ∷ h.after))
+
 -- one more ending
 more_by : (at : ℕ) (ending : Ending) (before after : List Ending) (b : Bool) → nat_lt at ending.end ≡ b
     → length (endings_after at (before ++ ending ∷ after)) ≡ cond b (suc (length (endings_after at (before ++ after)))) (length (endings_after at (before ++ after)))
@@ -85,7 +99,7 @@ first_or_rest_by : {X : Type 0} (y : X) (xs : List X) (x : X) (k : ℕ) → k < 
 first_or_rest_by y xs x zero lt e = inl e
 first_or_rest_by y xs x (suc k) lt e = inr (k, omega arith, e)
 
-first_or_rest : {X : Type 0} (y : X) (xs : List X) (x : X) → Contains (y ∷ xs) x → (y ≡ x) ⊎ Contains xs x
+pub first_or_rest : {X : Type 0} (y : X) (xs : List X) (x : X) → Contains (y ∷ xs) x → (y ≡ x) ⊎ Contains xs x
 first_or_rest y xs x c = first_or_rest_by y xs x c.0 c.1 c.2
 
 -- one more is among them, and the others still are
@@ -167,7 +181,8 @@ moved : (P : WaitingValue → Type 0) (m : WaitingValue) (others : List WaitingV
 moved P m others h = All-push P others m (All-tail P m others h) (All-head P m others h)
 
 pushed_by : (P : WaitingValue → Type 0) (line new : LineValue) (queue : List WaitingValue) (r : Result Step Dropped) → line.queue ≡ queue → All P queue → PushesFrom line queue r new → All P new.queue × (new.free ≡ line.free)
-pushed_by P line new queue (Err why) is h p = (subst (λ (q : List WaitingValue). All P q) (sym (ap (λ (l : LineValue). l.queue) p.1 ∙ is)) h, ap (λ (l : LineValue). l.free) p.1)
+pushed_by P line new [] (Err why) is h p = absurd p
+pushed_by P line new (m ∷ others) (Err why) is h p = (subst (λ (q : List WaitingValue). All P q) (sym (ap (λ (l : LineValue). l.queue) p.1 ∙ is)) h, ap (λ (l : LineValue). l.free) p.1)
 pushed_by P line new [] (Ok step) is h p = (subst (λ (q : List WaitingValue). All P q) (sym (ap (λ (l : LineValue). l.queue) p.2 ∙ is)) h, ap (λ (l : LineValue). l.free) p.2)
 pushed_by P line new (m ∷ others) (Ok step) is h p = (subst (λ (q : List WaitingValue). All P q) (sym (ap (λ (l : LineValue). l.queue) p.2)) (moved P m others h), ap (λ (l : LineValue). l.free) p.2)
 
@@ -343,10 +358,12 @@ leaves_again now first middle last a b = record {
   lines = b.lines ∙ a.lines;
 }
 
-pub held_left : (now : ℕ) (first last : HoldingsValue) → LeavesSame now first last → All (λ e. now < e.end) last.held.endings → IsHeldLater now first.held last.held
-held_left now first last same after = record {
+pub held_left : (now : ℕ) (first last : HoldingsValue) → LeavesSame now first last → All (λ e. now < e.end) last.held.endings → ((key : HeldKey) → IsLeftLater now key last.held)
+    → IsHeldLater now first.held last.held
+held_left now first last same after gone = record {
   endings = sym (endings_stay now last.held.endings after) ∙ same.endings;
   kept = same.kept;
+  gone = gone;
 }
 
 -- ---- nothing at first

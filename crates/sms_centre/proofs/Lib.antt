@@ -9,6 +9,8 @@ pub mod Taking
 pub mod Hearing
 pub mod Accepting
 pub mod Receiving
+pub mod Seen
+pub mod Later
 pub mod Stamps
 pub mod Recipients
 pub mod NewCentre
@@ -16,5 +18,6 @@ mod Rows
 pub mod Few
 pub mod Drops
 pub mod Holdings
+pub mod HeldKeys
 pub mod SameAddresses
 pub mod DeliveryKeys

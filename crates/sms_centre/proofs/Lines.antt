@@ -1,6 +1,6 @@
 -- A line in place of another.
 use Rattle.std.proofs.lemmas.Option.{slice_get_read}
-use Rattle.std.proofs.Common.{length, get_or, ◌≡◌, ◌≢◌, ℕ, zero, suc, ◌<◌, ◌==◌, Bool, true, false, cond, nat_lt, List, [], ◌∷◌, ◌++◌, Some, refl, sym, ap, ◌∙◌, subst, arith}
+use Rattle.std.proofs.Common.{length, get_or, ◌≡◌, ◌≢◌, ℕ, zero, suc, ◌<◌, ◌==◌, Bool, true, false, cond, nat_lt, List, [], ◌∷◌, ◌++◌, Some, Result, Ok, Err, OnErr, refl, sym, ap, ◌∙◌, subst, arith}
 use Rattle.std.specs.List.{slice_get}
 use Rattle.std.proofs.Math.ListN.{set}
 use Rattle.std.proofs.lemmas.Bool.Decides.{nat_tests}
@@ -25,6 +25,16 @@ set_elsewhere (x ∷ xs) zero zero y n = absurd (n refl)
 set_elsewhere (x ∷ xs) zero (suc j) y n = refl
 set_elsewhere (x ∷ xs) (suc i) zero y n = refl
 set_elsewhere (x ∷ xs) (suc i) (suc j) y n = set_elsewhere xs i j y (λ e. n (ap suc e))
+
+pub set_same : {X : Type 0} (xs : List X) (i : ℕ) (x : X) → slice_get xs i ≡ Some x → set xs i x ≡ xs
+set_same [] i x e = absurd cc
+set_same (y ∷ xs) zero x e = let q : x ≡ y = cc in ap (λ v. v ∷ xs) q
+set_same (y ∷ xs) (suc i) x e = ap (λ v. y ∷ v) (set_same xs i x e)
+
+-- where a call fails the line is as it was, and so are all lines
+pub same_lines : {T E : Type 0} (lines : List LineValue) (i : ℕ) (line new : LineValue) (r : Result T E) → slice_get lines i ≡ Some line → OnErr r (new ≡ line) → OnErr r (set lines i new ≡ lines)
+same_lines lines i line new (Ok v) there same = tt
+same_lines lines i line new (Err e) there same = ap (set lines i) same ∙ set_same lines i line there
 
 pub addresses_set : (lines : List LineValue) (i : ℕ) (line new : LineValue) → slice_get lines i ≡ Some line → new.address ≡ line.address → addresses (set lines i new) ≡ addresses lines
 addresses_set [] i line new e a = absurd cc

@@ -22,7 +22,7 @@ new_stands (a ∷ phones) all clock r zero line e =
     (record { queue = refl; free = λ now. omega arith; value = refl; reference = refl; latest = refl })
 new_stands (a ∷ phones) all clock r (suc n) line e = new_stands phones all clock r n line e
 
-pub new_centre_stands : (limit : ℕ) (phones : List AddressValue) (clock : ℕ) → StandsFor limit phones clock (record { limit = limit; held = record { endings = []; keys = []; last = [] }; lines = map new_line phones }) new_centre
+pub new_centre_stands : (limit : ℕ) (phones : List AddressValue) (clock : ℕ) → StandsFor limit phones clock (record { limit = limit; held = record { endings = []; messages = []; last = [] }; lines = map new_line phones }) new_centre
 unfolding new_centre
 new_centre_stands limit phones clock = record {
   limit_is = refl;

@@ -43,28 +43,22 @@ fn number_of(octet: u8) -> u8 {
     }
 }
 
-/// The octet of two digits, if they are digits.
-fn octet_of(high: u8, low: u8) -> Option<u8> {
-    let (high, low) = (number_of(high), number_of(low));
-    if high == NO_DIGIT || low == NO_DIGIT {
-        return None;
+/// Puts the octets of digits in pairs, and says whether all are digits.
+fn put_pairs(octets: &mut [u8], pairs: &[[u8; 2]]) -> bool {
+    let mut seen = 0;
+    for (octet, [high, low]) in octets.iter_mut().zip(pairs) {
+        let (high, low) = (number_of(*high), number_of(*low));
+        seen |= high | low;
+        *octet = (high << 4) | low;
     }
-    Some((high << 4) | low)
+    seen != NO_DIGIT
 }
 
 /// Adds the octets of digits in pairs, and says whether all are.
 fn add_pairs(octets: &mut Vec<u8>, digits: &[u8]) -> Result<bool, AllocError> {
-    octets.reserve(digits.len() / 2)?;
-    for pair in digits.chunks(2) {
-        let [high, low] = pair else {
-            return Ok(false);
-        };
-        let Some(octet) = octet_of(*high, *low) else {
-            return Ok(false);
-        };
-        octets.push(octet)?;
-    }
-    Ok(true)
+    let (pairs, rest) = digits.as_chunks::<2>();
+    octets.resize(pairs.len(), 0)?;
+    Ok(rest.is_empty() && put_pairs(octets, pairs))
 }
 
 /// The character at a place of a text in UTF-8.

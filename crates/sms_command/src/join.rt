@@ -3,6 +3,7 @@
 ghost use Rattle.std.specs.Prelude.{IfOk};
 ghost use Rattle.sms_tpdu.specs.UserData.ConcatenationFound.{IsPlace};
 
+use crate::address_text::AddressText;
 use crate::digits::read_octets;
 use crate::fault::Fault;
 use crate::lines::{Form, Layer, Lines, Printed};
@@ -16,8 +17,8 @@ use crate::shown::Done;
 use crate::words::Joined;
 use sms_field::{Address, Alphabet, RpAddressView, Stamp, alphabet_of};
 use sms_join::{Joiner, Offer, OfferFault, Ucs2Units, Units};
-use sms_text::units_of_octets;
-use sms_tpdu::{Body, Concat, DeliverView, Header};
+use sms_text::{units_of_octets, unpack};
+use sms_tpdu::{BodyView, Concat, DeliverView, HeaderView, Septets, SeptetsView};
 use std::alloc::{AllocError, Global};
 use std::io::{Read, Write};
 
@@ -34,7 +35,7 @@ struct Piece {
 }
 
 /// The place of a segment that the header tells, if there is one and it tells one.
-fn concat_of(header: &Option<Header>) -> Option<Concat>
+fn concat_of(header: &Option<HeaderView<'_>>) -> Option<Concat>
     ensures { IsPlace result }
 {
     match header {
@@ -43,15 +44,28 @@ fn concat_of(header: &Option<Header>) -> Option<Concat>
     }
 }
 
+/// The septets that lie packed in a unit.
+fn septets_of(alloc: Global, septets: &SeptetsView<'_>) -> Result<Units, AllocError> {
+    let (octets, fill) = septets.packed();
+    match unpack(alloc, octets, fill, usize::from(septets.count()))? {
+        Some(septets) => Ok(Units::Gsm(Septets::new(septets))),
+        None => unreachable!(),
+    }
+}
+
 /// The units of a text in this alphabet; none where the alphabet is no text's.
-fn units_of(alloc: Global, alphabet: Alphabet, body: Body) -> Result<Option<Units>, AllocError> {
-    match (alphabet, body) {
-        (Alphabet::Gsm7, Body::Septets(septets)) => Ok(Some(Units::Gsm(septets))),
-        (Alphabet::Ucs2, Body::Octets(octets)) => {
-            let units = units_of_octets(alloc, octets.as_slice())?;
+fn units_of(
+    alloc: Global,
+    alphabet: Alphabet,
+    body: &BodyView<'_>,
+) -> Result<Option<Units>, AllocError> {
+    match body {
+        BodyView::Septets(septets) => Ok(Some(septets_of(alloc, septets)?)),
+        BodyView::Octets(octets) if alphabet == Alphabet::Ucs2 => {
+            let units = units_of_octets(alloc, octets)?;
             Ok(Some(Units::Ucs2(Ucs2Units::new(units))))
         }
-        _ => Ok(None),
+        BodyView::Octets(_) => Ok(None),
     }
 }
 
@@ -60,9 +74,9 @@ fn piece_of(alloc: Global, octets: &[u8]) -> Result<Piece, Fault>
     ensures { IfOk result (λ piece. IsPlace piece.concat) }
 {
     let (deliver, _) = DeliverView::read(octets)?;
-    let user = deliver.user.to_value(alloc)?;
-    let concat = concat_of(&user.header);
-    let Some(units) = units_of(alloc, alphabet_of(deliver.dcs), user.body)? else {
+    let concat = concat_of(deliver.user.header());
+    let alphabet = alphabet_of(deliver.dcs);
+    let Some(units) = units_of(alloc, alphabet, &deliver.user.body())? else {
         return Err(Fault::NoText);
     };
     Ok(Piece {
@@ -238,8 +252,8 @@ fn put_text(
     text: &str,
     page: &mut Page,
 ) -> Result<(), Fault> {
-    let party = origin.to_text(alloc)?;
-    let from = Party::new(&party, Numbering::of(origin));
+    let party = AddressText::of(alloc, origin)?;
+    let from = Party::new(party.as_str(), Numbering::of(origin));
     let moment = Moment(stamp.moment());
     if form == Form::Plain {
         put_values(page, moment, from, text);
@@ -329,8 +343,8 @@ fn put_open(
     text: &OpenText,
     page: &mut Page,
 ) -> Result<(), Fault> {
-    let party = place.origin.to_text(alloc)?;
-    let from = Party::new(&party, Numbering::of(&place.origin));
+    let party = AddressText::of(alloc, &place.origin)?;
+    let from = Party::new(party.as_str(), Numbering::of(&place.origin));
     let mut lines = Lines::new(alloc, form, page.take(alloc));
     lines.put(name, OpenSet { from, place, text });
     *page = lines.finish();

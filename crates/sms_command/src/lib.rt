@@ -2,6 +2,7 @@
 //! split, scripts that are played.
 #![tactic(auto)]
 
+mod address_text;
 mod addresses;
 mod any;
 mod chart;

@@ -1,6 +1,7 @@
 //! JSON that is written a token at a time.
 
-use crate::page::Page;
+use crate::address_text::AddressText;
+use crate::page::{FEW, Page, digits_in};
 use json::Writer;
 use sms_field::Address;
 use std::alloc::{AllocError, Global};
@@ -10,25 +11,32 @@ use std::alloc::{AllocError, Global};
 #[derive(Drop)]
 pub struct Object {
     alloc: Global,
+    page: Page,
     writer: Writer,
     is_cut: bool,
 }
 
 impl Object {
     /// Begins after what stands on a page.
-    pub fn new(alloc: Global, page: Page) -> Object {
-        let (octets, is_cut) = page.into_parts();
+    pub fn new(alloc: Global, mut page: Page) -> Object {
+        let room = page.take_room(alloc);
         Object {
             alloc,
-            writer: Writer::new(octets),
-            is_cut,
+            page,
+            writer: Writer::new(room),
+            is_cut: false,
         }
     }
 
     /// The page with what was written, and the end of a line after it.
     pub fn into_line(self) -> Page {
-        let mut page = Page::of(self.writer.into_inner(), self.is_cut);
-        page.put(b"\n");
+        let Object {
+            mut page,
+            writer,
+            is_cut,
+            ..
+        } = self;
+        page.put_object(writer.into_inner(), is_cut);
         page
     }
 
@@ -111,6 +119,15 @@ impl Object {
 
     /// Octets in upper case hexadecimal digits, as a text.
     pub fn octets(&mut self, octets: &[u8]) {
+        let mut room = [0; 2 * FEW];
+        match digits_in(octets, &mut room) {
+            Some(digits) => self.ascii(digits),
+            None => self.many_octets(octets),
+        }
+    }
+
+    /// So many octets that their digits take memory.
+    fn many_octets(&mut self, octets: &[u8]) {
         match hex::encode_upper(self.alloc, octets) {
             Ok(digits) => self.text(&digits),
             Err(error) => self.keep(Err(error)),
@@ -127,10 +144,10 @@ impl Object {
 
     /// An address: its text, and what kind of number it is.
     pub fn address(&mut self, address: &Address) {
-        match address.to_text(self.alloc) {
+        match AddressText::of(self.alloc, address) {
             Ok(text) => {
                 self.open();
-                self.text_named("text", &text);
+                self.text_named("text", text.as_str());
                 self.number_named("type", u64::from(address.type_of_number));
                 self.number_named("plan", u64::from(address.plan));
                 self.close();

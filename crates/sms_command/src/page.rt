@@ -13,6 +13,8 @@ const ENOUGH: usize = 32_768;
 #[derive(Drop)]
 pub struct Page {
     octets: Vec<u8>,
+    /// Room that an object is written into, empty between them.
+    room: Vec<u8>,
     is_cut: bool,
 }
 
@@ -21,23 +23,28 @@ impl Page {
     pub fn new(alloc: Global) -> Page {
         Page {
             octets: Vec::new(alloc),
+            room: Vec::new(alloc),
             is_cut: false,
         }
     }
 
-    /// A page that has these octets, and that is cut after them or not.
-    pub fn of(octets: Vec<u8>, is_cut: bool) -> Page {
-        Page { octets, is_cut }
+    /// Takes the room that an object is written into.
+    pub fn take_room(&mut self, alloc: Global) -> Vec<u8> {
+        mem::replace(&mut self.room, Vec::new(alloc))
     }
 
-    /// The octets, and whether they are cut.
-    pub fn into_parts(self) -> (Vec<u8>, bool) {
-        (self.octets, self.is_cut)
+    /// Adds the line of an object, cut or not, and keeps the room that it was written into.
+    pub fn put_object(&mut self, object: Vec<u8>, is_cut: bool) {
+        self.put(&object);
+        self.is_cut = self.is_cut || is_cut;
+        self.put(b"\n");
+        self.room = object;
+        self.room.clear();
     }
 
     /// The page as a text, which is in UTF-8.
     pub fn into_text(self) -> Result<String, Fault> {
-        let Page { octets, is_cut } = self;
+        let Page { octets, is_cut, .. } = self;
         if is_cut {
             return Err(Fault::Memory);
         }
@@ -69,13 +76,16 @@ impl Page {
 
     /// Adds an octet in two upper case hexadecimal digits.
     pub fn put_octet(&mut self, octet: u8) {
-        self.put(&[digit_of(octet / 16), digit_of(octet % 16)]);
+        self.put(&digits_of(octet));
     }
 
     /// Adds octets in upper case hexadecimal digits.
     pub fn put_digits(&mut self, octets: &[u8]) {
-        for octet in octets {
-            self.put_octet(*octet);
+        for some in octets.chunks(FEW) {
+            let mut room = [0; 2 * FEW];
+            if let Some(digits) = digits_in(some, &mut room) {
+                self.put(digits);
+            }
         }
     }
 
@@ -103,6 +113,24 @@ impl Page {
         }
         Ok(())
     }
+}
+
+/// How many octets are written at once.
+pub const FEW: usize = 32;
+
+/// The upper case hexadecimal digits of octets, in room that is lent; none where it is too small.
+pub fn digits_in<'a>(octets: &[u8], room: &'a mut [u8; 2 * FEW]) -> Option<&'a [u8]> {
+    let digits = room.get_mut(..octets.len().saturating_mul(2))?;
+    let (pairs, _) = digits.as_chunks_mut::<2>();
+    for (pair, octet) in pairs.iter_mut().zip(octets) {
+        *pair = digits_of(*octet);
+    }
+    Some(digits)
+}
+
+/// The two upper case hexadecimal digits of an octet.
+fn digits_of(octet: u8) -> [u8; 2] {
+    [digit_of(octet / 16), digit_of(octet % 16)]
 }
 
 /// The upper case hexadecimal digit of a number below 16.

@@ -3,7 +3,7 @@
 use crate::lines::Printed;
 use crate::object::Object;
 use crate::page::Page;
-use sms_field::{Address, RpAddress, Stamp, StampDate, Validity};
+use sms_field::{Address, AddressView, RpAddressView, Stamp, StampDate, Validity};
 use sms_script::Escape;
 use sms_tpdu::{Concat, HeaderView, Width};
 
@@ -112,16 +112,22 @@ impl Printed for Escaped<'_> {
 /// of several octets stands as it is.
 pub fn put_escaped(page: &mut Page, text: &str) {
     let octets = text.as_bytes();
-    if octets
-        .iter()
-        .all(|octet| Escape::of(*octet) == Escape::Plain)
-    {
+    if are_plain(octets) {
         page.put(octets);
     } else {
         for octet in octets {
             put_escaped_octet(page, *octet);
         }
     }
+}
+
+/// Whether octets of a text stand in one line as they are.
+fn are_plain(octets: &[u8]) -> bool {
+    let mut all = true;
+    for octet in octets {
+        all &= Escape::is_plain(*octet);
+    }
+    all
 }
 
 /// Adds an octet of a text in one line.
@@ -214,10 +220,17 @@ impl Numbering {
         }
     }
 
-    pub fn of_relay(address: &RpAddress) -> Numbering {
+    pub fn seen(address: &AddressView<'_>) -> Numbering {
         Numbering {
-            type_of_number: address.type_of_number,
-            plan: address.plan,
+            type_of_number: address.type_of_number(),
+            plan: address.plan(),
+        }
+    }
+
+    pub fn of_centre(address: &RpAddressView<'_>) -> Numbering {
+        Numbering {
+            type_of_number: address.type_of_number(),
+            plan: address.plan(),
         }
     }
 }

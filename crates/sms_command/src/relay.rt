@@ -44,9 +44,9 @@ fn unit_inside<'a>(body: &RpBodyView<'a>) -> Option<&'a [u8]> {
 }
 
 /// The lines of what stands before the unit of a relay message.
-fn put_body(alloc: Global, lines: &mut Lines, body: &RpBodyView<'_>) -> Result<(), Fault> {
+fn put_body(lines: &mut Lines, body: &RpBodyView<'_>) {
     match body {
-        RpBodyView::Transfer { address, .. } => put_centre(alloc, lines, "address", address)?,
+        RpBodyView::Transfer { address, .. } => put_centre(lines, "address", address),
         RpBodyView::Ack { .. } => {}
         RpBodyView::Fail {
             cause,
@@ -59,18 +59,16 @@ fn put_body(alloc: Global, lines: &mut Lines, body: &RpBodyView<'_>) -> Result<(
             }
         }
     }
-    Ok(())
 }
 
 /// The lines of a relay message without the unit that it carries.
-fn put_front(alloc: Global, lines: &mut Lines, message: &RpView<'_>) -> Result<(), Fault> {
+fn put_front(lines: &mut Lines, message: &RpView<'_>) {
     lines.put("rp", relay_name(message));
     lines.put("reference", Octet(message.reference));
-    put_body(alloc, lines, &message.body)?;
+    put_body(lines, &message.body);
     if unit_inside(&message.body).is_none() {
         lines.put("user", Nobody);
     }
-    Ok(())
 }
 
 /// The kind as which the unit of a relay message is read: the one that its first octet tells where
@@ -91,7 +89,7 @@ pub fn show_rp(alloc: Global, any: bool, octets: &[u8], lines: &mut Lines) -> Re
         return show_memory_available(octets, lines);
     }
     let (message, used) = RpView::read(octets)?;
-    put_front(alloc, lines, &message)?;
+    put_front(lines, &message);
     lines.put_rest(octets.len() - used);
     match unit_inside(&message.body) {
         Some(unit) => {

@@ -1,5 +1,6 @@
 //! The fields of a unit, one a line.
 
+use crate::address_text::AddressText;
 use crate::fault::Fault;
 use crate::lines::{Layer, Lines};
 use crate::printed::{
@@ -10,14 +11,13 @@ use crate::reports::{show_deliver_ack, show_deliver_error, show_submit_ack, show
 use crate::status_reports::{show_command, show_status_report};
 use crate::words::UnitKind;
 use sms_field::{AddressView, Alphabet, FieldFault, RpAddressView, alphabet_of};
-use sms_text::{text_of_gsm, text_of_ucs2_octets};
-use sms_tpdu::{Body, DeliverView, Header, HeaderView, SubmitView, UserDataView};
+use sms_tpdu::{BodyView, DeliverView, HeaderView, SubmitView, UserDataView};
 use std::alloc::Global;
 
 /// The lines of a header: its octets, and the concatenation that it tells.
-fn put_header(lines: &mut Lines, view: &HeaderView<'_>, header: &Header) {
-    if !view.as_slice().is_empty() {
-        lines.put("header", HeaderText(view));
+fn put_header(lines: &mut Lines, header: &HeaderView<'_>) {
+    if !header.as_slice().is_empty() {
+        lines.put("header", HeaderText(header));
     }
     if let Some(concat) = header.concat() {
         lines.put("concat", ConcatText(concat));
@@ -29,18 +29,12 @@ fn put_body(
     alloc: Global,
     lines: &mut Lines,
     alphabet: Alphabet,
-    body: &Body,
+    body: &BodyView<'_>,
 ) -> Result<(), Fault> {
-    match body {
-        Body::Septets(septets) => {
-            let text = text_of_gsm(alloc, septets.as_slice())?;
-            lines.put("text", Escaped(&text));
-        }
-        Body::Octets(octets) if alphabet == Alphabet::Ucs2 => {
-            let text = text_of_ucs2_octets(alloc, octets.as_slice())?;
-            lines.put("text", Escaped(&text));
-        }
-        Body::Octets(octets) => lines.put("data", Hexadecimal(octets.as_slice())),
+    if let Some(text) = body.text(alloc, alphabet)? {
+        lines.put("text", Escaped(&text));
+    } else if let BodyView::Octets(octets) = body {
+        lines.put("data", Hexadecimal(octets));
     }
     Ok(())
 }
@@ -52,12 +46,11 @@ fn put_user(
     dcs: u8,
     view: &UserDataView<'_>,
 ) -> Result<(), Fault> {
-    let user = view.to_value(alloc)?;
     lines.put("length", view.length());
-    if let (Some(seen), Some(header)) = (view.header(), &user.header) {
-        put_header(lines, seen, header);
+    if let Some(header) = view.header() {
+        put_header(lines, header);
     }
-    put_body(alloc, lines, alphabet_of(dcs), &user.body)
+    put_body(alloc, lines, alphabet_of(dcs), &view.body())
 }
 
 /// The lines of an address, by the name of its party.
@@ -67,10 +60,9 @@ pub fn put_party(
     name: &str,
     view: &AddressView<'_>,
 ) -> Result<(), Fault> {
-    let address = view.to_value(alloc)?;
-    let text = address.to_text(alloc)?;
-    let numbering = Numbering::of(&address);
-    lines.put(name, Party::new(&text, numbering));
+    let text = AddressText::seen(alloc, view)?;
+    let numbering = Numbering::seen(view);
+    lines.put(name, Party::new(text.as_str(), numbering));
     lines.put_plain("number", numbering);
     Ok(())
 }
@@ -81,31 +73,24 @@ pub fn centre_fault(fault: sms_field::Fault<FieldFault>) -> Fault {
 }
 
 /// The line of a service centre's address, by a name.
-pub fn put_centre(
-    alloc: Global,
-    lines: &mut Lines,
-    name: &str,
-    centre: &Option<RpAddressView<'_>>,
-) -> Result<(), Fault> {
-    match RpAddressView::some_to_value(alloc, centre)? {
+pub fn put_centre(lines: &mut Lines, name: &str, centre: &Option<RpAddressView<'_>>) {
+    match centre {
         Some(address) => {
-            let text = address.to_text(alloc)?;
-            lines.put(name, Party::new(&text, Numbering::of_relay(&address)));
+            let text = AddressText::of_centre(address);
+            lines.put(
+                name,
+                Party::new(text.as_str(), Numbering::of_centre(address)),
+            );
         }
         None => lines.put(name, Nobody),
     }
-    Ok(())
 }
 
 /// Writes the address of a service centre, and gives the octets after it.
-pub fn show_centre<'a>(
-    alloc: Global,
-    octets: &'a [u8],
-    lines: &mut Lines,
-) -> Result<&'a [u8], Fault> {
+pub fn show_centre<'a>(octets: &'a [u8], lines: &mut Lines) -> Result<&'a [u8], Fault> {
     lines.begin(Layer::Centre);
     let (centre, used) = RpAddressView::read(octets).map_err(centre_fault)?;
-    put_centre(alloc, lines, "centre", &centre)?;
+    put_centre(lines, "centre", &centre);
     Ok(&octets[used..])
 }
 

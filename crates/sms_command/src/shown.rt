@@ -64,7 +64,7 @@ fn put_octets(
     lines: &mut Lines,
 ) -> Result<(), Fault> {
     let unit = if shown.has_centre {
-        show_centre(alloc, octets, lines)?
+        show_centre(octets, lines)?
     } else {
         octets
     };

@@ -3,6 +3,7 @@
 
 ghost use Rattle.std.specs.Prelude.{◌≡◌, ◌≤◌, ◌<◌, length, false, None, IfOk, IfSome};
 
+use crate::feed::read_some;
 use sms_world::{DeviceFailed, Sink, Source};
 use std::alloc::{AllocError, Global};
 use std::cell::RefCell;
@@ -79,24 +80,28 @@ pub struct Mouth<'a, 'b, W: Write> {
     output: &'b RefCell<&'a mut W>,
     /// Whether a call of it failed.
     pub failed: bool,
-    search: Search,
+    /// What looks for events that name nothing, where that is asked for.
+    search: Option<Search>,
 }
 
 impl<'a, 'b, W: Write> Mouth<'a, 'b, W> {
-    /// One that has not failed.
-    pub fn new(output: &'b RefCell<&'a mut W>) -> Mouth<'a, 'b, W>
+    /// One that has not failed, and that looks for events that name nothing or not.
+    pub fn new(output: &'b RefCell<&'a mut W>, is_checked: bool) -> Mouth<'a, 'b, W>
         ensures { result.failed ≡ false }
     {
         Mouth {
             output,
             failed: false,
-            search: Search::new(),
+            search: is_checked.then_some(Search::new()),
         }
     }
 
-    /// Whether an event that names nothing was told.
-    pub fn has_told_fault(&self) -> bool {
-        self.search.has_found
+    /// Whether an event that names nothing was found.
+    pub fn has_found_fault(&self) -> bool {
+        match self.search {
+            Some(search) => search.has_found,
+            None => false,
+        }
     }
 }
 
@@ -130,7 +135,9 @@ impl<W: Write> Sink for Mouth<'_, '_, W> {
     fn write(&mut self, octets: &[u8]) -> Result<usize, DeviceFailed> {
         match write_some(self.output, octets) {
             Some(count) => {
-                self.search.look_at(octets.get(..count).unwrap_or(&[]));
+                if let Some(search) = &mut self.search {
+                    search.look_at(octets.get(..count).unwrap_or(&[]));
+                }
                 Ok(count)
             }
             None => {
@@ -209,9 +216,9 @@ fn fill<R: Read, W: Write>(
     if !flush(output) {
         return Err(Silence::Mute);
     }
-    match input.read(room.as_mut_slice()) {
-        Ok(count) => Ok(count),
-        Err(_) => Err(Silence::Deaf),
+    match read_some(input, room.as_mut_slice()) {
+        Some(count) => Ok(count),
+        None => Err(Silence::Deaf),
     }
 }
 
@@ -219,6 +226,10 @@ fn fill<R: Read, W: Write>(
 fn copy_front(octets: &[u8], buffer: &mut [u8]) -> usize
     ensures { result ≤ length buffer.old }
 {
+    if let ([octet, ..], [place]) = (octets, &mut *buffer) {
+        *place = *octet;
+        return 1;
+    }
     let count = octets.len().min(buffer.len());
     buffer[..count].copy_from_slice(&octets[..count]);
     count

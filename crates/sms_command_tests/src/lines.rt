@@ -8,7 +8,7 @@ use crate::found::{holds, says};
 use listing::{LISTED, LISTING, Listed};
 use rows::{EXPLAINED, LINES};
 use std::alloc::{AllocError, Global};
-use std::io::Read;
+use std::io::{ErrorKind, Read};
 use std::test::Fail;
 
 #[test]
@@ -60,15 +60,20 @@ fn shows_a_listing_of_27_units(rt: HostRuntime) -> Result<(), Fail> {
     Ok(())
 }
 
-/// Gives at most so many octets at a time.
+/// Gives at most so many octets at a time, and is interrupted before each time.
 #[derive(Drop)]
 struct Slow<'a> {
     octets: &'a [u8],
     most: usize,
+    is_interrupted: bool,
 }
 
 impl Read for Slow<'_> {
     fn read(&mut self, buffer: &mut [u8]) -> std::io::Result<usize> {
+        self.is_interrupted = !self.is_interrupted;
+        if self.is_interrupted {
+            return Err(std::io::Error::from(ErrorKind::Interrupted));
+        }
         let count = self.most.min(buffer.len()).min(self.octets.len());
         let (front, rest) = self.octets.split_at(count);
         buffer[..count].copy_from_slice(front);
@@ -83,6 +88,7 @@ fn listing_by(alloc: Global, most: usize) -> Result<(u8, String), Fail> {
     let mut input = Slow {
         octets: LISTING.as_bytes(),
         most,
+        is_interrupted: false,
     };
     fed_from(alloc, &words, &mut input)
 }

@@ -150,6 +150,21 @@ fn forgets_what_has_ended(rt: HostRuntime) -> Result<(), Fail> {
     plays(&rt, rt.alloc(), 1000, ENDED.as_slice())
 }
 
+/// Whether another number of messages is held than this.
+fn counts_otherwise(fixture: &Fixture, count: usize) -> Option<&'static str> {
+    (fixture.centre.held_count() != count).then_some("the count")
+}
+
+#[test]
+fn counts_what_is_held(rt: HostRuntime) -> Result<(), Fail> {
+    let mut fixture = new_fixture(rt.alloc(), 1000)?;
+    none_differs(&rt, differs(rt.alloc(), &mut fixture, &ENDED[..2]));
+    none_differs(&rt, counts_otherwise(&fixture, 1));
+    none_differs(&rt, differs(rt.alloc(), &mut fixture, &ENDED[2..]));
+    none_differs(&rt, counts_otherwise(&fixture, 0));
+    Ok(())
+}
+
 #[test]
 fn accepts_between_a_push_and_its_answer(rt: HostRuntime) -> Result<(), Fail> {
     plays(&rt, rt.alloc(), 1000, BETWEEN.as_slice())

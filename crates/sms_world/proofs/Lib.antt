@@ -68,3 +68,4 @@ pub mod Transcribing
 pub mod Promises
 pub mod Nowhere
 pub mod Called
+pub mod PuttingsOut

@@ -2,7 +2,7 @@
 
 ghost use Rattle.sms_world.specs.Accepted.{AcceptedIsAccepted};
 ghost use Rattle.sms_world.specs.Accepted.Reject.{AllReject, OnlyTimeIsLeft};
-ghost use Rattle.sms_world.specs.Accepted.Few.{FewPuttingsOut};
+ghost use Rattle.sms_world.specs.Accepted.Few.{FewPuttingsOut, FewAreHonest};
 ghost use Rattle.sms_world.specs.Below.{Below};
 ghost use Rattle.sms_world.specs.Breaches.{WatchingGoesOn};
 ghost use Rattle.sms_world.specs.Claims.Pieces.{EachMessageHasItsPiece};
@@ -172,6 +172,12 @@ pub fn accepted_texts_were_accepted()
 /// the two numbers of its latest putting out is to that one.
 pub fn few_answers_are_told_apart()
     ensures { FewPuttingsOut }
+{}
+
+/// Where a phone has put out no more than 1,792 times by the end of a run, answers to it are of
+/// what they seem to be of, however often the others put out.
+pub fn few_puttings_out_are_honest()
+    ensures { FewAreHonest }
 {}
 
 /// Where duplicates are to be rejected from the first putting out on, each submission says so.

@@ -23,7 +23,7 @@ ghost use Rattle.sms_message.specs.Address.{phone_at};
 ghost use Rattle.sms_world.specs.World.Asked.{newest_at, way_at, way_at_phone, way_of_packet};
 ghost use Rattle.sms_world.specs.World.Parties.{place_at, on_way};
 ghost use Rattle.sms_world.specs.World.Phones.{store_in, statuses_at};
-ghost use Rattle.sms_world.specs.World.Standing.{StandsFor};
+ghost use Rattle.sms_world.specs.World.Standing.{StandsFor, ComesOfRun};
 ghost use Rattle.sms_world.specs.World.Claims.{StoresAreWhole, RefusesOnlyWhereFull};
 ghost use Rattle.sms_world.specs.World.Claims.{AcceptsOnce, AcceptedWereAccepted, CopiesMayComeInTime};
 ghost use Rattle.sms_world.specs.World.Steps.{event_of, PutsMore, Steps, IfNowhere};
@@ -89,6 +89,14 @@ impl World {
             parties: Parties::new(alloc, limits, phones)?,
             packets: Vec::new(alloc),
         })
+    }
+
+    /// Each world stands for a state that some run led to. The contract is this law; nothing is
+    /// done.
+    pub fn comes_of_a_run(&self)
+        ensures { ComesOfRun self.now }
+    {
+        let _limits = self.limits;
     }
 
     /// What happens at an event. If it answers a fault, the clock, the phones, the centre and the

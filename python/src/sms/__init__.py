@@ -175,6 +175,10 @@ def _at(octets: bytes, span: raw.Span) -> bytes:
     return octets[span.offset : span.offset + span.length]
 
 
+def _header(octets: bytes, span: raw.Span) -> Optional[bytes]:
+    return _at(octets, span) if span.offset else None
+
+
 def _utf8(text: str) -> bytes:
     try:
         return text.encode()
@@ -476,7 +480,8 @@ def _octet(value: int) -> int:
 
 @dataclass(frozen=True)
 class Report:
-    """SMS-DELIVER-REPORT or SMS-SUBMIT-REPORT (3GPP TS 23.040, 9.2.2.1a and 9.2.2.2a)."""
+    """SMS-DELIVER-REPORT or SMS-SUBMIT-REPORT (3GPP TS 23.040, 9.2.2.1a and 9.2.2.2a). `header` is TP-UDH in `data`,
+    after its length octet, where TP-UDHI is set and it lies within."""
 
     used: int
     has_header: bool
@@ -485,6 +490,7 @@ class Report:
     pid: Optional[int]
     dcs: Optional[int]
     data: Optional[bytes]
+    header: Optional[bytes]
     length: int
     alphabet: Alphabet
 
@@ -500,6 +506,7 @@ def _report(call: Callable[..., int], octets: Octets) -> Report:
         pid=seen.pid if seen.has_pid else None,
         dcs=seen.dcs if seen.has_dcs else None,
         data=_at(octets, seen.data) if seen.has_data else None,
+        header=_header(octets, seen.header),
         length=seen.length,
         alphabet=Alphabet(seen.alphabet),
     )
@@ -553,6 +560,7 @@ class StatusReport:
     pid: Optional[int]
     dcs: Optional[int]
     data: Optional[bytes]
+    header: Optional[bytes]
     length: int
     alphabet: Alphabet
 
@@ -578,6 +586,7 @@ class StatusReport:
             pid=seen.pid if seen.has_pid else None,
             dcs=seen.dcs if seen.has_dcs else None,
             data=_at(octets, seen.data) if seen.has_data else None,
+            header=_header(octets, seen.header),
             length=seen.length,
             alphabet=Alphabet(seen.alphabet),
         )
@@ -599,6 +608,7 @@ class Command:
     type_of_number: int
     plan: int
     data: bytes
+    header: Optional[bytes]
 
     @classmethod
     def read(cls, octets: Octets) -> Command:
@@ -617,6 +627,7 @@ class Command:
             type_of_number=seen.target.type_of_number,
             plan=seen.target.plan,
             data=_at(octets, seen.data),
+            header=_header(octets, seen.header),
         )
 
 

@@ -90,6 +90,7 @@ class Submit(Structure):
 class Report(Structure):
     _fields_ = [
         ("data", Span),
+        ("header", Span),
         ("used", c_size_t),
         ("has_header", c_uint8),
         ("has_cause", c_uint8),
@@ -110,6 +111,7 @@ class StatusReport(Structure):
     _fields_ = [
         ("recipient", Address),
         ("data", Span),
+        ("header", Span),
         ("used", c_size_t),
         ("more", c_uint8),
         ("looped", c_uint8),
@@ -133,6 +135,7 @@ class Command(Structure):
     _fields_ = [
         ("target", Address),
         ("data", Span),
+        ("header", Span),
         ("used", c_size_t),
         ("has_header", c_uint8),
         ("report", c_uint8),

@@ -10,7 +10,7 @@ ghost use Rattle.sms_tpdu.specs.declared.fault.UnitFault.TheVariants.{Short};
 ghost use Rattle.sms_c.specs.Status.{unit_refused as told};
 ghost use Rattle.sms_c.specs.SeenCommand.{ShowsCommand};
 
-use crate::parts::{AddressSeen, Span, address_after, address_seen, bit};
+use crate::parts::{AddressSeen, Span, address_seen, bit, some_span};
 use crate::status::{OK, Refused, unit_refused};
 use sms_tpdu::CommandView;
 
@@ -22,6 +22,8 @@ pub struct CommandSeen {
     pub target: AddressSeen,
     /// The octets of TP-CD.
     pub data: Span,
+    /// The header at their front, after its length octet.
+    pub header: Span,
     /// How many octets the unit takes.
     pub used: usize,
     /// TP-UDHI.
@@ -38,21 +40,17 @@ pub struct CommandSeen {
     pub message: u8,
 }
 
-/// The octets before TP-DA.
-const BEFORE_TARGET: usize = 5;
-
 /// What C sees of an SMS-COMMAND that takes so many of the octets.
 fn command_seen(octets: &[u8], view: &CommandView, used: usize) -> CommandSeen
     requires { Reads command view.now octets.now used }
     ensures used { result.used ≡ used }
     ensures shows { ShowsCommand view.now octets.now result }
 {
-    let target = address_after(octets, BEFORE_TARGET);
-    let length = view.octets.as_slice().len();
-    let offset = used.saturating_sub(length);
+    let spans = view.spans(octets, used);
     CommandSeen {
-        target: address_seen(&view.target, target),
-        data: Span { offset, length },
+        target: address_seen(&view.target, spans.target),
+        data: Span::at(spans.data.octets),
+        header: some_span(spans.data.header),
         used,
         has_header: bit(view.has_header),
         report: bit(view.report),
@@ -71,8 +69,8 @@ pub extern "C" fn sms_command_read(
     refused: &mut Refused,
 ) -> u32
     ensures status { result < 2 }
-    ensures read { result ≡ 0 → (value : CommandValue) × Reads command value octets.now out.new.used
-        × ShowsCommand value octets.now out.new }
+    ensures read { result ≡ 0 → (value : CommandValue)
+        × Reads command value octets.now out.new.used × ShowsCommand value octets.now out.new }
     ensures refused { result ≡ 1 → (fault : TheFault UnitFault)
         × IsFaultOf command Short octets.now fault × (refused.new ≡ told fault)
         × (out.new ≡ out.old) }

@@ -1,6 +1,6 @@
 //! The four reports (3GPP TS 23.040, 9.2.2.1a and 9.2.2.2a).
 
-ghost use Rattle.std.specs.Prelude.{◌≡◌, ◌<◌, is_some, unwrap_or};
+ghost use Rattle.std.specs.Prelude.{◌≡◌, ◌<◌, ℕ, List, is_some, unwrap_or};
 ghost use Rattle.sms_field.specs.Reading.{Reads};
 ghost use Rattle.sms_field.specs.WholeAnswer.{IsFaultOf};
 ghost use Rattle.sms_field.specs.declared.refusal.Fault.{Fault as TheFault};
@@ -13,13 +13,16 @@ ghost use Rattle.sms_tpdu.specs.declared.fault.UnitFault.{UnitFault};
 ghost use Rattle.sms_tpdu.specs.declared.fault.UnitFault.TheVariants.{Short};
 ghost use Rattle.sms_c.specs.Parts as seen;
 ghost use Rattle.sms_c.specs.Status.{unit_refused as told};
-ghost use Rattle.sms_c.specs.SeenReport.{length_of, data_span, ShowsParts, ShowsDeliverAck, ShowsDeliverError, ShowsSubmitAck, ShowsSubmitError};
+ghost use Rattle.sms_c.specs.SeenReport as shown;
+ghost use Rattle.sms_c.specs.SeenReport.{ShowsParts, ShowsDeliverAck, ShowsDeliverError, ShowsSubmitAck, ShowsSubmitError};
 
-use crate::parts::{Span, alphabet_number, bit};
+use crate::parts::{Span, alphabet_number, bit, some_span};
 use crate::status::{OK, Refused, unit_refused};
 use crate::times::StampOctets;
 use sms_field::{Alphabet, alphabet_of};
-use sms_tpdu::{DeliverAckView, DeliverErrorView, ReportDataView, SubmitAckView, SubmitErrorView};
+use sms_tpdu::{
+    DataSpans, DeliverAckView, DeliverErrorView, ReportDataView, SubmitAckView, SubmitErrorView,
+};
 
 /// A report, and where its data lie.
 #[repr(C)]
@@ -27,6 +30,8 @@ use sms_tpdu::{DeliverAckView, DeliverErrorView, ReportDataView, SubmitAckView, 
 pub struct ReportSeen {
     /// The octets of TP-UD.
     pub data: Span,
+    /// The header at their front, after its length octet.
+    pub header: Span,
     /// How many octets the report takes.
     pub used: usize,
     /// TP-UDHI.
@@ -61,19 +66,33 @@ pub fn octet_seen(octet: Option<u8>) -> (u8, u8)
     }
 }
 
-/// Where the data of a report lie that takes so many octets, that they are there, and their length.
-pub fn data_seen(user: &Option<ReportDataView>, used: usize) -> (Span, u8, u8)
-    ensures span { result.0 ≡ data_span user.now used }
-    ensures there { result.1 ≡ seen.bit (is_some user.now) }
-    ensures length { result.2 ≡ length_of user.now }
+/// TP-UDL, where there are data.
+pub fn length_of(user: &Option<ReportDataView>) -> u8
+    ensures { result ≡ shown.length_of user.now }
 {
     match user {
-        Some(user) => {
-            let length = user.octets.len();
-            let offset = used.saturating_sub(length);
-            (Span { offset, length }, 1, user.length)
-        }
-        None => (Span::NONE, 0, 0),
+        Some(user) => user.length,
+        None => 0,
+    }
+}
+
+/// Where the data of a report lie.
+pub fn data_at(spans: Option<DataSpans>) -> Span
+    ensures { result ≡ shown.data_at spans }
+{
+    match spans {
+        Some(spans) => Span::at(spans.octets),
+        None => Span::NONE,
+    }
+}
+
+/// Where the header of the data lies.
+pub fn header_at(spans: Option<DataSpans>) -> Span
+    ensures { result ≡ shown.header_at spans }
+{
+    match spans {
+        Some(spans) => some_span(spans.header),
+        None => Span::NONE,
     }
 }
 
@@ -93,10 +112,13 @@ fn parts_seen(
     pid: Option<u8>,
     dcs: Option<u8>,
     user: &Option<ReportDataView>,
+    spans: Option<DataSpans>,
     used: usize,
 ) -> ReportSeen
     ensures used { result.used ≡ used }
     ensures has_header { result.has_header ≡ seen.bit has_header }
+    ensures data_lie { result.«data» ≡ shown.data_at spans }
+    ensures header_lies { result.header ≡ shown.header_at spans }
     ensures no_cause { result.has_cause ≡ 0 }
     ensures no_stamp { result.has_stamp ≡ 0 }
     ensures parts { ShowsParts pid dcs user.now result }
@@ -104,9 +126,9 @@ fn parts_seen(
     let alphabet = counted_by(dcs);
     let (has_pid, pid) = octet_seen(pid);
     let (has_dcs, dcs) = octet_seen(dcs);
-    let (data, has_data, length) = data_seen(user, used);
     ReportSeen {
-        data,
+        data: data_at(spans),
+        header: header_at(spans),
         used,
         has_header: bit(has_header),
         has_cause: 0,
@@ -119,8 +141,8 @@ fn parts_seen(
         pid,
         has_dcs,
         dcs,
-        has_data,
-        length,
+        has_data: bit(user.is_some()),
+        length: length_of(user),
         alphabet,
     }
 }
@@ -128,9 +150,11 @@ fn parts_seen(
 /// What C sees of an SMS-DELIVER-REPORT of an RP-ACK that takes so many octets.
 fn deliver_ack_seen(view: &DeliverAckView, used: usize) -> ReportSeen
     ensures used { result.used ≡ used }
-    ensures shows { ShowsDeliverAck view.now result }
+    ensures shows { (octets : List ℕ) → Reads deliver_ack view.now octets used
+        → ShowsDeliverAck view.now octets result }
 {
-    parts_seen(view.has_header, view.pid, view.dcs, &view.user, used)
+    let spans = view.spans(used);
+    parts_seen(view.has_header, view.pid, view.dcs, &view.user, spans, used)
 }
 
 /// Sees an SMS-DELIVER-REPORT of an RP-ACK at the front of the octets.
@@ -142,7 +166,8 @@ pub extern "C" fn sms_deliver_ack_read(
 ) -> u32
     ensures status { result < 2 }
     ensures read { result ≡ 0 → (value : DeliverAckValue)
-        × Reads deliver_ack value octets.now out.new.used × ShowsDeliverAck value out.new }
+        × Reads deliver_ack value octets.now out.new.used
+        × ShowsDeliverAck value octets.now out.new }
     ensures refused { result ≡ 1 → (fault : TheFault UnitFault)
         × IsFaultOf deliver_ack Short octets.now fault × (refused.new ≡ told fault)
         × (out.new ≡ out.old) }
@@ -159,9 +184,11 @@ pub extern "C" fn sms_deliver_ack_read(
 /// What C sees of an SMS-DELIVER-REPORT of an RP-ERROR that takes so many octets.
 fn deliver_error_seen(view: &DeliverErrorView, used: usize) -> ReportSeen
     ensures used { result.used ≡ used }
-    ensures shows { ShowsDeliverError view.now result }
+    ensures shows { (octets : List ℕ) → Reads deliver_error view.now octets used
+        → ShowsDeliverError view.now octets result }
 {
-    let mut seen = parts_seen(view.has_header, view.pid, view.dcs, &view.user, used);
+    let spans = view.spans(used);
+    let mut seen = parts_seen(view.has_header, view.pid, view.dcs, &view.user, spans, used);
     seen.has_cause = 1;
     seen.cause = view.cause;
     seen
@@ -176,7 +203,8 @@ pub extern "C" fn sms_deliver_error_read(
 ) -> u32
     ensures status { result < 2 }
     ensures read { result ≡ 0 → (value : DeliverErrorValue)
-        × Reads deliver_error value octets.now out.new.used × ShowsDeliverError value out.new }
+        × Reads deliver_error value octets.now out.new.used
+        × ShowsDeliverError value octets.now out.new }
     ensures refused { result ≡ 1 → (fault : TheFault UnitFault)
         × IsFaultOf deliver_error Short octets.now fault × (refused.new ≡ told fault)
         × (out.new ≡ out.old) }
@@ -193,9 +221,11 @@ pub extern "C" fn sms_deliver_error_read(
 /// What C sees of an SMS-SUBMIT-REPORT of an RP-ACK that takes so many octets.
 fn submit_ack_seen(view: &SubmitAckView, used: usize) -> ReportSeen
     ensures used { result.used ≡ used }
-    ensures shows { ShowsSubmitAck view.now result }
+    ensures shows { (octets : List ℕ) → Reads submit_ack view.now octets used
+        → ShowsSubmitAck view.now octets result }
 {
-    let mut seen = parts_seen(view.has_header, view.pid, view.dcs, &view.user, used);
+    let spans = view.spans(used);
+    let mut seen = parts_seen(view.has_header, view.pid, view.dcs, &view.user, spans, used);
     seen.has_stamp = 1;
     seen.stamp = StampOctets::of(view.stamp);
     seen
@@ -210,7 +240,8 @@ pub extern "C" fn sms_submit_ack_read(
 ) -> u32
     ensures status { result < 2 }
     ensures read { result ≡ 0 → (value : SubmitAckValue)
-        × Reads submit_ack value octets.now out.new.used × ShowsSubmitAck value out.new }
+        × Reads submit_ack value octets.now out.new.used
+        × ShowsSubmitAck value octets.now out.new }
     ensures refused { result ≡ 1 → (fault : TheFault UnitFault)
         × IsFaultOf submit_ack Short octets.now fault × (refused.new ≡ told fault)
         × (out.new ≡ out.old) }
@@ -227,9 +258,11 @@ pub extern "C" fn sms_submit_ack_read(
 /// What C sees of an SMS-SUBMIT-REPORT of an RP-ERROR that takes so many octets.
 fn submit_error_seen(view: &SubmitErrorView, used: usize) -> ReportSeen
     ensures used { result.used ≡ used }
-    ensures shows { ShowsSubmitError view.now result }
+    ensures shows { (octets : List ℕ) → Reads submit_error view.now octets used
+        → ShowsSubmitError view.now octets result }
 {
-    let mut seen = parts_seen(view.has_header, view.pid, view.dcs, &view.user, used);
+    let spans = view.spans(used);
+    let mut seen = parts_seen(view.has_header, view.pid, view.dcs, &view.user, spans, used);
     seen.has_cause = 1;
     seen.cause = view.cause;
     seen.has_stamp = 1;
@@ -246,7 +279,8 @@ pub extern "C" fn sms_submit_error_read(
 ) -> u32
     ensures status { result < 2 }
     ensures read { result ≡ 0 → (value : SubmitErrorValue)
-        × Reads submit_error value octets.now out.new.used × ShowsSubmitError value out.new }
+        × Reads submit_error value octets.now out.new.used
+        × ShowsSubmitError value octets.now out.new }
     ensures refused { result ≡ 1 → (fault : TheFault UnitFault)
         × IsFaultOf submit_error Short octets.now fault × (refused.new ≡ told fault)
         × (out.new ≡ out.old) }

@@ -10,8 +10,8 @@ ghost use Rattle.sms_tpdu.specs.declared.fault.UnitFault.TheVariants.{Short};
 ghost use Rattle.sms_c.specs.Status.{unit_refused as told};
 ghost use Rattle.sms_c.specs.SeenStatusReport.{ShowsStatusReport};
 
-use crate::parts::{AddressSeen, Span, address_after, address_seen, bit};
-use crate::reading::report::{counted_by, data_seen, octet_seen};
+use crate::parts::{AddressSeen, Span, address_seen, bit};
+use crate::reading::report::{counted_by, data_at, header_at, length_of, octet_seen};
 use crate::status::{OK, Refused, unit_refused};
 use crate::times::StampOctets;
 use sms_tpdu::StatusReportView;
@@ -24,6 +24,8 @@ pub struct StatusReportSeen {
     pub recipient: AddressSeen,
     /// The octets of TP-UD.
     pub data: Span,
+    /// The header at their front, after its length octet.
+    pub header: Span,
     /// How many octets the unit takes.
     pub used: usize,
     pub more: u8,
@@ -53,22 +55,19 @@ pub struct StatusReportSeen {
     pub alphabet: u8,
 }
 
-/// The octets before TP-RA.
-const BEFORE_RECIPIENT: usize = 2;
-
 /// What C sees of an SMS-STATUS-REPORT that takes so many of the octets.
 fn status_report_seen(octets: &[u8], view: &StatusReportView, used: usize) -> StatusReportSeen
     requires { Reads status_report view.now octets.now used }
     ensures used { result.used ≡ used }
     ensures shows { ShowsStatusReport view.now octets.now result }
 {
-    let recipient = address_after(octets, BEFORE_RECIPIENT);
+    let spans = view.spans(octets, used);
     let (has_pid, pid) = octet_seen(view.pid);
     let (has_dcs, dcs) = octet_seen(view.dcs);
-    let (data, has_data, length) = data_seen(&view.user, used);
     StatusReportSeen {
-        recipient: address_seen(&view.recipient, recipient),
-        data,
+        recipient: address_seen(&view.recipient, spans.recipient),
+        data: data_at(spans.user),
+        header: header_at(spans.user),
         used,
         more: bit(view.more),
         looped: bit(view.looped),
@@ -82,8 +81,8 @@ fn status_report_seen(octets: &[u8], view: &StatusReportView, used: usize) -> St
         pid,
         has_dcs,
         dcs,
-        has_data,
-        length,
+        has_data: bit(view.user.is_some()),
+        length: length_of(&view.user),
         alphabet: counted_by(view.dcs),
     }
 }

@@ -1,5 +1,5 @@
 -- What it means that a call of the code is a step of the machine.
-use Rattle.std.specs.Prelude.{◌≡◌, ℕ, ◌≤◌, ◌<◌, max, List, Option, Result, Err}
+use Rattle.std.specs.Prelude.{◌≡◌, ℕ, ◌≤◌, ◌<◌, max, List, Option, Result, Ok, Err}
 use Rattle.sms_field.specs.AddressValue.{AddressValue}
 use Rattle.sms_tpdu.specs.Submit.{Submission}
 use Rattle.sms_message.specs.Message.{Origin}
@@ -19,6 +19,7 @@ use Rattle.sms_centre.specs.declared.centre.check.Check.TheVariants.{Refuse, Acc
 use Rattle.sms_message.specs.declared.outcome.Step.{Step}
 use Rattle.sms_message.specs.declared.outcome.Dropped.{Dropped}
 use Rattle.sms_message.specs.declared.outcome.Dropped.TheVariants as dropped
+use Rattle.sms_message.specs.declared.outcome.Outcome.TheVariants.{Pushed}
 
 -- In a state the centre did this at a moment: what is said of each party (Does), where the value
 -- stands for the state.
@@ -45,6 +46,13 @@ PushSteps now phone old result new =
     (limit : ℕ) (phones : List AddressValue) (clock : ℕ) (c : CentreState) → clock ≤ now
     → StandsFor limit phones clock old c
     → CentreAnswers limit phones now c (centre_pushes phones c now phone) result new
+
+-- in each such state a message waits for the phone, so that there is one to put out
+abbrev pub IsPushed : ℕ → ℕ → CentreValue → Type 0
+IsPushed now phone old =
+    (limit : ℕ) (phones : List AddressValue) (clock : ℕ) (c : CentreState) → clock ≤ now
+    → StandsFor limit phones clock old c
+    → (centre_pushes phones c now phone).answer ≡ Ok Pushed
 
 -- what was accepted has the next stamp of its recipient
 abbrev pub IsCheckIn : ℕ → ℕ → Submission → Check → CentreValue → Type 0

@@ -2,14 +2,15 @@
 use Rattle.std.specs.Prelude.{◌≡◌, ℕ, ◌<◌, Bool, true, false, All, Contains, length, map, slice_get, List, [], Some}
 use Rattle.sms_field.specs.AddressValue.{AddressValue}
 use Rattle.sms_centre.specs.Centre.Value.{WaitingValue, LineValue, HoldingsValue, line_at, endings_after}
-use Rattle.sms_centre.specs.Centre.Kept.{free_at, KeepsAfter}
+use Rattle.sms_centre.specs.Centre.Kept.{free_at, KeepsAfter, IsLeftLater}
 use Rattle.sms_centre.specs.Centre.Lines.{new_line}
 use Rattle.sms_centre.specs.declared.centre.held.Ending.{Ending}
+use Rattle.sms_centre.specs.declared.centre.held.HeldKey.{HeldKey}
 
 -- nothing is held, and nothing waits for any of these phones
 abbrev pub new_holdings : List AddressValue → HoldingsValue
 new_holdings phones =
-    record { held = record { endings = []; keys = []; last = [] }; lines = map new_line phones }
+    record { held = record { endings = []; messages = []; last = [] }; lines = map new_line phones }
 
 -- the ending of a message that waits for this recipient
 abbrev pub ending_of : ℕ → WaitingValue → Ending
@@ -34,4 +35,5 @@ ForgetsOne now old true new =
     LeavesSame now old new × (length new.held.endings < length old.held.endings)
 ForgetsOne now old false new =
     (new ≡ old) × All (λ e. now < e.end) old.held.endings
+    × ((key : HeldKey) → IsLeftLater now key old.held)
     × (map (line_at now) old.lines ≡ old.lines)

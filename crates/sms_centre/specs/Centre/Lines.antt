@@ -1,5 +1,5 @@
 -- What the calls do at one recipient.
-use Rattle.std.specs.Prelude.{◌≡◌, ℕ, ◌+◌, ◌%◌, slice_get, Bool, true, false, not, ◌&&◌, ◌||◌, ◌==◌, nat_lt, if◌then◌else◌, List, [], ◌∷◌, ◌++◌, Option, Some, None, Result, Ok, Err}
+use Rattle.std.specs.Prelude.{◌≡◌, ℕ, zero, suc, ◌+◌, ◌%◌, slice_get, Bool, true, false, not, ◌&&◌, ◌||◌, ◌==◌, nat_lt, if◌then◌else◌, List, [], ◌∷◌, ◌++◌, Option, Some, None, Result, Ok, Err}
 use Rattle.std.specs.List.{filter}
 use Rattle.std.proofs.Math.ListN.{set}
 use Rattle.sms_field.specs.AddressValue.{AddressValue}
@@ -59,9 +59,10 @@ pushed_line line m others =
     }
 
 abbrev pub PushesFrom : LineValue → List WaitingValue → Result Step Dropped → LineValue → Type 0
-PushesFrom line queue (Err why) new = (why ≡ dropped.Memory) × (new ≡ line)
+PushesFrom line [] (Err why) new = ⊥
 PushesFrom line [] (Ok step) new =
     (step.outcome ≡ NothingWaits) × (packets_of step ≡ []) × (new ≡ line)
+PushesFrom line (m ∷ others) (Err why) new = (why ≡ dropped.Memory) × (new ≡ line)
 PushesFrom line (m ∷ others) (Ok step) new =
     (step.outcome ≡ Pushed)
     × CarriesEach (packets_of step)
@@ -81,6 +82,10 @@ left_waiting queue stamp cause =
 abbrev pub is_awaited : ℕ → Tag → Push → Bool
 is_awaited now tag p = (tag.value == p.value && tag.reference == p.reference) && nat_lt now p.ends
 
+abbrev pub awaits_in : ℕ → Tag → Option Push → Bool
+awaits_in now tag None = false
+awaits_in now tag (Some p) = is_awaited now tag p
+
 abbrev pub HearsFor : ℕ → Tag → Option ℕ → LineValue → Option Push → Result Step Dropped → LineValue
     → Type 0
 HearsFor now tag cause line latest (Err dropped.Memory) new = new ≡ line
@@ -97,6 +102,12 @@ abbrev pub LineHears : ℕ → Tag → Option ℕ → LineValue → Result Step 
 LineHears now tag cause line result new = HearsFor now tag cause line line.latest result new
 
 -- ---- the lines of all phones
+
+-- the latest push to this phone
+abbrev pub latest_at : List LineValue → ℕ → Option Push
+latest_at [] r = None
+latest_at (line ∷ lines) zero = line.latest
+latest_at (line ∷ lines) (suc r) = latest_at lines r
 
 -- the line of this phone became another one in this way, and the others stay
 pub record ChangesLine (phone : ℕ) (old new : List LineValue)

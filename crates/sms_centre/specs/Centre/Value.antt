@@ -34,8 +34,8 @@ key_eq = (derived.ghosts).eq
 pub record HeldValue : Type 0 where
   -- of the held messages, the earliest first
   pub endings : List Ending
-  -- the key of each, in the same order
-  pub keys : List HeldKey
+  -- each ending with the key of its message, in the same order
+  pub messages : List (Ending × HeldKey)
   -- for each of their keys the greatest end of those that have it
   pub last : List (HeldKey × ℕ)
 

@@ -5,6 +5,7 @@ ghost use Rattle.sms_field.specs.Times.{end_of_2099};
 ghost use Rattle.sms_relay.specs.declared.side.Side.TheVariants.{ToPhone};
 ghost use Rattle.sms_message.specs.Message.Answers.{answers, submit_error_of, submit_ack_of};
 ghost use Rattle.sms_message.specs.Does.{Puts};
+ghost use Rattle.sms_message.specs.Few.{FewPackets};
 ghost use Rattle.sms_message.specs.declared.outcome.Outcome.TheVariants.{Held, Refused};
 
 use crate::centre::stamping::stamp_of;
@@ -25,8 +26,9 @@ pub(crate) fn refusal(
     requires value { tag.value < 7 }
     requires moment { now < end_of_2099 }
     requires cause { cause < 128 }
-    ensures { Puts (Refused cause (Some failure))
+    ensures puts { Puts (Refused cause (Some failure))
         (answers ToPhone tag (Some cause) (Some (submit_error_of failure now))) result }
+    ensures few { FewPackets result }
 {
     let report = SubmitError {
         has_header: false,
@@ -57,7 +59,8 @@ pub(crate) fn refusal(
 pub(crate) fn approval(alloc: Global, tag: Tag, stamp: u64) -> Result<Step, Dropped>
     requires value { tag.value < 7 }
     requires moment { stamp < end_of_2099 }
-    ensures { Puts Held (answers ToPhone tag None (Some (submit_ack_of stamp))) result }
+    ensures puts { Puts Held (answers ToPhone tag None (Some (submit_ack_of stamp))) result }
+    ensures few { FewPackets result }
 {
     let report = SubmitAck {
         has_header: false,

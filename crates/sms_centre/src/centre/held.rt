@@ -1,8 +1,9 @@
 //! The messages that the centre holds.
 
 ghost use Rattle.std.specs.Prelude.{◌≡◌, ◌≢◌, [], length, All, OnOk, OnErr};
-ghost use Rattle.sms_centre.specs.Centre.Kept.{is_kept, HoldsAlso, KeepsAfter};
-ghost use Rattle.sms_centre.specs.Centre.Kept.{IsLeftLater, ForgetsFirst};
+ghost use Rattle.indexmap.specs.IndexMap.{IsUnique};
+ghost use Rattle.sms_centre.specs.Centre.Value.{key_eq};
+ghost use Rattle.sms_centre.specs.Centre.Kept.{is_kept, HoldsAlso, ForgetsEnded, ForgetsFirst};
 
 use indexmap::IndexMap;
 use std::alloc::{AllocError, Global};
@@ -43,24 +44,47 @@ pub(crate) struct HeldMessages {
 
 impl Model for HeldMessages {
     ghost use Rattle.indexmap.specs.IndexMap.{IsUnique};
-    ghost use Rattle.std.specs.Map.{keys_of, values_of};
+    ghost use Rattle.std.specs.Map.{keys_of};
     ghost use Rattle.sms_centre.specs.Centre.Value.{HeldValue, key_eq};
+    ghost use Rattle.sms_centre.specs.Centre.Kept.{AreOfMessages};
 
     ghost Value = { HeldValue };
 
     ghost view = { λ h. record {
       endings = keys_of h.endings.entries;
-      keys = values_of h.endings.entries;
+      messages = h.endings.entries;
       last = h.last.entries;
     } };
 
-    ghost invariant = { λ h. IsUnique key_eq h.last };
+    ghost invariant = { λ h.
+        IsUnique key_eq h.last × AreOfMessages h.endings.entries h.last.entries };
+}
+
+/// Whether a message with this key ends after a moment.
+fn is_kept(last: &IndexMap<HeldKey, u64>, key: HeldKey, now: u64) -> bool
+    ensures { result ≡ is_kept last.now.entries key now }
+{
+    match last.get(&key) {
+        Some(end) => *end > now,
+        None => false,
+    }
+}
+
+/// Forgets a key, if the last message with it has ended.
+fn forget_key(last: &mut IndexMap<HeldKey, u64>, key: HeldKey, now: u64)
+    requires { IsUnique key_eq last.old }
+    ensures ended { ForgetsEnded now key last.old.entries last.new.entries }
+    ensures unique { IsUnique key_eq last.new }
+{
+    if !is_kept(last, key, now) {
+        last.swap_remove(&key);
+    }
 }
 
 impl HeldMessages {
     /// None.
     pub(crate) fn new(alloc: Global) -> HeldMessages
-        ensures { result ≡ record { endings = []; keys = []; last = [] } }
+        ensures { result ≡ record { endings = []; messages = []; last = [] } }
     {
         HeldMessages {
             endings: BTreeMap::new(alloc),
@@ -79,10 +103,7 @@ impl HeldMessages {
     pub(crate) fn is_held(&self, key: HeldKey, now: u64) -> bool
         ensures { result ≡ is_kept self.now.last key now }
     {
-        match self.last.get(&key) {
-            Some(end) => *end > now,
-            None => false,
-        }
+        is_kept(&self.last, key, now)
     }
 
     /// Forgets the one that ends first, if it has ended. A key goes when the last message with it
@@ -95,20 +116,8 @@ impl HeldMessages {
             return None;
         }
         let (ending, key) = self.endings.pop_first()?;
-        self.forget_key(key, now);
+        forget_key(&mut self.last, key, now);
         Some(ending)
-    }
-
-    /// Forgets a key, if the last message with it has ended.
-    fn forget_key(&mut self, key: HeldKey, now: u64)
-        ensures endings { self.new.endings ≡ self.old.endings }
-        ensures keys { self.new.keys ≡ self.old.keys }
-        ensures kept { KeepsAfter now self.old self.new }
-        ensures gone { IsLeftLater now key self.new }
-    {
-        if !self.is_held(key, now) {
-            self.last.swap_remove(&key);
-        }
     }
 
     /// Holds one more, with this key and ending. If memory runs out, nothing has changed.

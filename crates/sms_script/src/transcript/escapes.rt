@@ -1,6 +1,6 @@
 //! Texts in one line.
 
-ghost use Rattle.std.specs.Prelude.{◌≡◌, ◌++◌, OnOk};
+ghost use Rattle.std.specs.Prelude.{◌≡◌, ◌↔◌, [], ◌∷◌, ◌++◌, IsTrue, OnOk};
 ghost use Rattle.sms_script.specs.Transcript.Escapes.{escape, escape_as, escaped};
 
 use std::alloc::AllocError;
@@ -30,6 +30,13 @@ impl Escape {
             0..=31 | 127 => Escape::Digits,
             _ => Escape::Plain,
         }
+    }
+
+    /// Whether an octet of a text in UTF-8 stands in one line as it is. It is told without a branch.
+    pub fn is_plain(octet: u8) -> bool
+        ensures { IsTrue result ↔ (escape octet ≡ octet ∷ []) }
+    {
+        (octet >= b' ') & (octet != b'\\') & (octet != 127)
     }
 }
 

@@ -1,6 +1,9 @@
-use Rattle.std.proofs.Common.{List, ◌∙◌, sym, ap, subst}
+use Rattle.std.proofs.Common.{List, length, ◌∙◌, refl, sym, ap, subst, arith}
+use Rattle.sms_centre.specs.declared.centre.held.Ending.{Ending}
+use Rattle.sms_centre.specs.Centre.Kept.{IsLater}
 use Rattle.sms_centre.specs.Centre.Value.{LineValue, CentreValue, addresses, phones_of}
 use Rattle.sms_centre.specs.Centre.Standing.{StandsFor}
+use Rattle.sms_centre.proofs.Holdings.{fewer_left}
 use Rattle.sms_centre.proofs.Keeping.{stands_later, addresses_later}
 use Rattle.sms_centre.proofs.centre.Centre.advance.Goals as goal
 
@@ -13,3 +16,13 @@ returns-clause-stands c = λ limit phones clock s le stands.
 
 pub returns-clause-phones : goal.returns-clause-phones
 returns-clause-phones c = ap addresses c.forget.ensures.lines ∙ (addresses_later c.self.inside.holdings.lines c.args.now ∙ ap phones_of c.self.view_is)
+
+pub invariant_of-self : goal.invariant_of-self
+invariant_of-self c =
+    let left = fewer_left c.args.now c.self.inside.holdings.held.endings in
+    omega (arith, left, ap (λ (l : List Ending). length l) c.forget.ensures.held.endings, c.self.invariant)
+
+pub returns-clause-later : goal.returns-clause-later
+returns-clause-later c =
+    subst (λ (v : CentreValue). IsLater c.args.now v (record { limit = c.self.inside.limit; held = c.forget.new.self.held; lines = c.forget.new.self.lines })) c.self.view_is
+    (record { limit = refl; held = c.forget.ensures.held; lines = c.forget.ensures.lines })

@@ -16,7 +16,7 @@ pub returns-in-Refuse-clause-steps : goal.returns-in-Refuse-clause-steps
 unfolding checked
 returns-in-Refuse-clause-steps c = λ h limit phones s origin stands.
     subst (λ (k : Check). CentreAnswers limit phones c.args.now s (checked s c.args.now c.args.phone c.args.tag c.args.submission origin k) c.refusal.result c.args.self.now) (sym c.in-Refuse.is)
-    (puts_answer limit phones c.args.now c.args.self.now s _ _ c.refusal.result stands c.refusal.ensures)
+    (puts_answer limit phones c.args.now c.args.self.now s _ _ c.refusal.result stands c.refusal.ensures.puts)
 
 pub returns-in_ok-hold-in-Accept-clause-steps : goal.returns-in_ok-hold-in-Accept-clause-steps
 unfolding checked
@@ -24,7 +24,7 @@ returns-in_ok-hold-in-Accept-clause-steps c = λ h limit phones s origin stands.
     let v : CentreValue = record { limit = c.self.inside.limit; held = c.self.inside.holdings.held; lines = c.self.inside.holdings.lines } in
     let a : Acceptance = record { phone = c.args.phone; submission = c.args.submission; recipient = c.in-Accept.recipient; stamp = c.in-Accept.stamp; ends = c.in-Accept.ends; origin = origin } in
     let known = subst (λ (k : Check). IsCheckIn c.args.now c.args.phone c.args.submission k c.args.self.now) c.in-Accept.is h in
-    let p = c.in_ok-step-in-Accept.ensures in
+    let p = c.in_ok-step-in-Accept.ensures.puts in
     let back = sym c.self.view_is in
     let reference = ap (λ (x : Submission). x.reference) c.submission.view_is in
     let held = c.in_ok-hold-in-Accept.ensures.line in

@@ -18,4 +18,4 @@ returns-else-flag-clause-steps c = λ limit phones s origin stands.
     (c.take_request.ensures.steps limit phones s origin stands)
 
 pub returns-in_default-clause-steps : goal.returns-in_default-clause-steps
-returns-in_default-clause-steps c = c.pass-step.ensures
+returns-in_default-clause-steps c = c.pass-step.ensures.steps

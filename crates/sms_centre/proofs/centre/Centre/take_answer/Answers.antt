@@ -9,7 +9,7 @@ use Rattle.sms_centre.specs.Centre.Value.{LineValue, HeldValue, CentreValue, pho
 use Rattle.sms_centre.specs.Centre.Standing.{StandsFor}
 use Rattle.sms_centre.specs.Centre.Calls.{CentreAnswers}
 use Rattle.sms_centre.proofs.Taking.{nothing_comes}
-use Rattle.sms_centre.proofs.Hearing.{hear_steps, heard_phones}
+use Rattle.sms_centre.proofs.Hearing.{hear_steps, heard_phones, heard_few}
 use Rattle.sms_centre.proofs.centre.Centre.take_answer.Goals as goal
 
 pub returns-in-FromPhone-clause-steps : goal.returns-in-FromPhone-clause-steps
@@ -50,3 +50,6 @@ unfolding centre_answered
 returns-in-Unreadable-clause-steps c = λ limit phones s origin stands.
     subst (λ (r : Relay). CentreAnswers limit phones c.args.now s (centre_answered s c.args.now c.args.phone c.args.tag r) (Err Unmatched) c.args.self.now) (sym (c.in-Unreadable.is))
     (nothing_comes limit phones c.args.now c.args.self.now s stands)
+
+pub returns-in-FromPhone-clause-few : goal.returns-in-FromPhone-clause-few
+returns-in-FromPhone-clause-few c = let h = c.hear.ensures.line in heard_few c.args.now c.args.tag c.in-Answer.cause h.before h.after c.hear.result h.how

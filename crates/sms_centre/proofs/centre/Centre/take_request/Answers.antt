@@ -21,4 +21,4 @@ returns-in-ToPhone-clause-steps c = λ limit phones s origin stands.
     (nothing_comes limit phones c.args.now c.args.self.now s stands)
 
 pub returns-in_default-clause-steps : goal.returns-in_default-clause-steps
-returns-in_default-clause-steps c = c.refuse-step.ensures
+returns-in_default-clause-steps c = c.refuse-step.ensures.steps

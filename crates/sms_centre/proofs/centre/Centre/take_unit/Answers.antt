@@ -18,16 +18,16 @@ pub returns-in-Deliver-clause-steps : goal.returns-in-Deliver-clause-steps
 unfolding centre_takes
 returns-in-Deliver-clause-steps c = λ limit phones s origin stands.
     subst (λ (u : TransferUnit). CentreAnswers limit phones c.args.now s (centre_takes limit phones s c.args.now c.args.phone c.args.tag u origin) (c.refusal.result) c.args.self.now) (sym (c.in-Deliver.is))
-    (puts_answer limit phones c.args.now c.args.self.now s _ _ c.refusal.result stands c.refusal.ensures)
+    (puts_answer limit phones c.args.now c.args.self.now s _ _ c.refusal.result stands c.refusal.ensures.puts)
 
 pub returns-in-OtherUnit-clause-steps : goal.returns-in-OtherUnit-clause-steps
 unfolding centre_takes
 returns-in-OtherUnit-clause-steps c = λ limit phones s origin stands.
     subst (λ (u : TransferUnit). CentreAnswers limit phones c.args.now s (centre_takes limit phones s c.args.now c.args.phone c.args.tag u origin) (c.refusal-in-OtherUnit.result) c.args.self.now) (sym (c.in-OtherUnit.is))
-    (puts_answer limit phones c.args.now c.args.self.now s _ _ c.refusal-in-OtherUnit.result stands c.refusal-in-OtherUnit.ensures)
+    (puts_answer limit phones c.args.now c.args.self.now s _ _ c.refusal-in-OtherUnit.result stands c.refusal-in-OtherUnit.ensures.puts)
 
 pub returns-clause-steps : goal.returns-clause-steps
 unfolding centre_takes
 returns-clause-steps c = λ limit phones s origin stands.
     subst (λ (u : TransferUnit). CentreAnswers limit phones c.args.now s (centre_takes limit phones s c.args.now c.args.phone c.args.tag u origin) (c.refusal-in-BadUnit.result) c.args.self.now) (sym (c.in-BadUnit.is))
-    (puts_answer limit phones c.args.now c.args.self.now s _ _ c.refusal-in-BadUnit.result stands c.refusal-in-BadUnit.ensures)
+    (puts_answer limit phones c.args.now c.args.self.now s _ _ c.refusal-in-BadUnit.result stands c.refusal-in-BadUnit.ensures.puts)

@@ -29,5 +29,6 @@ returns-in-None c =
     subst (λ (v : HoldingsValue). ForgetsOne c.args.now v false (record { held = c.forget_first.new.self; lines = c.self.inside.lines })) c.self.view_is (
       ap (λ (h : HeldValue). record { held = h; lines = c.self.inside.lines }) f.1,
       f.0,
+      f.2,
       lines_stay c.args.now c.self.inside.held.endings c.self.inside.lines f.0 c.self.invariant,
     )

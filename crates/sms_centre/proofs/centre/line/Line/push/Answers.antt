@@ -1,11 +1,13 @@
-use Rattle.std.proofs.Common.{◌≡◌, ℕ, ◌+◌, ◌^◌, ◌-◌, ◌%◌, List, [], ◌∷◌, ◌++◌, Some, Ok, nat_lt, refl, sym, ap, ◌∙◌, subst, arith}
+use Rattle.std.proofs.Common.{◌≡◌, ℕ, ◌+◌, ◌^◌, ◌-◌, ◌%◌, List, [], ◌∷◌, ◌++◌, Some, Ok, Err, nat_lt, refl, sym, ap, ◌∙◌, subst, arith}
+use Rattle.std.proofs.lemmas.Result.{err_from_is_err_and}
 use Rattle.lru.specs.LruCache.{LruCache}
+use Rattle.sms_message.specs.declared.outcome.Dropped.TheVariants.{Memory}
 use Rattle.sms_message.specs.declared.outcome.Step.{Step}
 use Rattle.sms_message.specs.declared.outcome.Outcome.TheVariants.{Pushed}
 use Rattle.sms_centre.specs.Centre.Lines.{LinePushes}
 use Rattle.sms_centre.specs.Centre.Queue.{queue_of}
 use Rattle.sms_centre.specs.Centre.Value.{LineValue, WaitingValue}
-use Rattle.sms_centre.proofs.Pushing.{pushed_from}
+use Rattle.sms_centre.proofs.Pushing.{pushed_from, failed_from}
 use Rattle.sms_centre.proofs.Queues.{pushed_queue, others_of, is_pushed}
 use Rattle.sms_centre.proofs.centre.line.Line.push.Goals as goal
 
@@ -43,3 +45,12 @@ returns-clause-pushes c =
     (ap (λ (q : List WaitingValue). made q key end) turned
     ∙ (ap (λ (s : ℕ). made (others ++ m ∷ []) s end) h.own
     ∙ ap (λ (e : ℕ). made (others ++ m ∷ []) m.stamp e) end_is)))
+
+pub returns-in_err-packets-clause-pushes : goal.returns-in_err-packets-clause-pushes
+returns-in_err-packets-clause-pushes c =
+    let inside = c.self.inside in
+    let m : WaitingValue = c.in-Some.first.now in
+    let h = is_pushed inside.queue.entries inside.free (c.in-Some.stamp.now, m) c.self.invariant.2 (sym c.in-Some.ensures) in
+    let v : LineValue = record { address = inside.address; queue = queue_of inside.queue.entries; free = inside.free; value = inside.value; reference = inside.reference; latest = inside.latest } in
+    let p = err_from_is_err_and c.from_residual-in_err-packets.result c.from_residual-in_err-packets.ensures.1 in
+    rw (p.1, p.2) (subst (λ (l : LineValue). LinePushes l (Err Memory) l) c.self.view_is (failed_from v v v.queue m (others_of inside.queue.entries) h.before refl))

@@ -1,10 +1,11 @@
-use Rattle.std.proofs.Common.{◌<◌, List, length, refl, sym, ap, ◌∙◌, subst}
+use Rattle.std.proofs.Common.{◌≡◌, ◌<◌, List, length, OnErr, refl, sym, ap, ◌∙◌, subst}
 use Rattle.std.specs.List.{slice_get}
 use Rattle.std.proofs.Math.ListN.{set}
 use Rattle.std.proofs.lemmas.Option.{slice_get_read}
 use Rattle.sms_centre.specs.Centre.Value.{LineValue}
 use Rattle.sms_centre.proofs.Lines.{addresses_set}
-use Rattle.sms_centre.proofs.Pushing.{pushed_address}
+use Rattle.sms_centre.proofs.Pushing.{pushed_address, pushed_same}
+use Rattle.sms_centre.proofs.Lines.{same_lines}
 use Rattle.sms_centre.proofs.centre.lines.Lines.push.Goals as goal
 
 pub invariant_of-self : goal.invariant_of-self
@@ -26,3 +27,11 @@ returns-clause-line c =
       others_stay = ap (λ (l : List LineValue). set l c.args.phone c.push.new.self) c.self.view_is;
       how = c.push.ensures.pushes;
     }
+
+pub returns-clause-refused : goal.returns-clause-refused
+returns-clause-refused c =
+    let items = c.self.inside.lines.items in
+    let within = subst (λ (l : List LineValue). c.args.phone < length l) (sym c.self.view_is) c.requires in
+    let there = slice_get_read items (length items) c.args.phone c.index_mut-line.result.now refl within c.index_mut-line.ensures.value in
+    subst (λ (old : List LineValue). OnErr c.push.result (set items c.args.phone c.push.new.self ≡ old)) c.self.view_is
+    (same_lines items c.args.phone c.index_mut-line.result.now c.push.new.self c.push.result there (pushed_same c.index_mut-line.result.now c.push.new.self c.push.result c.push.ensures.pushes))
