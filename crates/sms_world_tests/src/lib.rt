@@ -10,8 +10,6 @@ mod growths;
 #[cfg(test)]
 mod hostile;
 #[cfg(test)]
-mod order;
-#[cfg(test)]
 mod segments;
 #[cfg(test)]
 mod two;
