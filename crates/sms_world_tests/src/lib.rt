@@ -10,6 +10,8 @@ mod growths;
 #[cfg(test)]
 mod hostile;
 #[cfg(test)]
+mod order;
+#[cfg(test)]
 mod segments;
 #[cfg(test)]
 mod two;
