@@ -17,7 +17,7 @@ ghost use Rattle.sms_c.specs.declared.status.Failure.TheVariants.{NoRoom};
 use crate::out::hand_out;
 use crate::status::{Failure, status_of};
 use sms_field::{AddressView, Alphabet, alphabet_of};
-use sms_text::{text_of_gsm, text_of_ucs2, units_of_octets, unpack};
+use sms_text::{text_of_packed, text_of_ucs2_octets};
 use sms_tpdu::{BodyView, Concat, HeaderView, UserDataView, UserSpans, Width};
 use std::alloc::Global;
 
@@ -202,6 +202,7 @@ fn count_in(user: &UserDataView) -> u8
 }
 
 /// User data that lie at these spans.
+#[inline(always)]
 pub fn user_seen(user: &UserDataView, dcs: u8, spans: UserSpans) -> UserSeen
     ensures { ShowsUser user.now dcs spans result }
 {
@@ -286,15 +287,13 @@ fn text_in(alloc: Global, octets: &[u8], user: &UserSeen) -> Result<String, Fail
             if user.fill > 6 {
                 return Err(Failure::OutOfRange);
             }
-            let Some(septets) = unpack(alloc, octets, user.fill, usize::from(user.count))? else {
+            let Some(text) = text_of_packed(alloc, octets, user.fill, usize::from(user.count))?
+            else {
                 return Err(Failure::OutOfRange);
             };
-            Ok(text_of_gsm(alloc, &septets)?)
+            Ok(text)
         }
-        2 => {
-            let units = units_of_octets(alloc, octets)?;
-            Ok(text_of_ucs2(alloc, &units)?)
-        }
+        2 => Ok(text_of_ucs2_octets(alloc, octets)?),
         _ => Err(Failure::NotThere),
     }
 }

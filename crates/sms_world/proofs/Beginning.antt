@@ -53,6 +53,12 @@ world_begins limits phones ps packets none stand =
     record {
       clock = omega arith;
       ways = subst (λ l. AllByRecursion (λ (p : PacketValue). p.phone < length ps.phones) l) (sym none) tt;
-      machine = start limits phones;
-      stands = stands_at_first limits phones ps packets none stand;
+      comes = record {
+        limits = limits;
+        phones = phones;
+        past = [];
+        machine = start limits phones;
+        runs = refl;
+        stands = stands_at_first limits phones ps packets none stand;
+      };
     }

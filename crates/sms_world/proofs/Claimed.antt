@@ -10,7 +10,7 @@ use Rattle.sms_party.specs.Sender.Value.{all_waiting, status_among}
 use Rattle.sms_party.specs.Sender.Ended.{IsTypedAt, EndedAreTyped}
 use Rattle.sms_party.specs.Sender.Texts.{size_of}
 use Rattle.sms_world.proofs.Called.{ended_typed}
-use Rattle.sms_world.specs.Accepted.{IsHonest, AcceptedIsAccepted}
+use Rattle.sms_world.specs.Accepted.{IsHonestAt, AcceptedIsAccepted}
 use Rattle.sms_world.specs.Accepted.Reject.{OnlyTimeIsLeft}
 use Rattle.sms_world.specs.Headline.Finished.{FinishedTexts}
 use Rattle.sms_world.specs.Headline.Once.{AcceptedAtMostOnce}
@@ -95,19 +95,19 @@ claims stand finished refused once accepted copies typed_first =
           let s = steps m h in
           (s.0, s.1, s.3, (s.4, s.5, s.6), refused limits phones past m run event orderly told s.0 s.1 s.2);
       once = λ world limits phones past m run h. once limits phones past m run;
-      accepted = λ world limits phones past m run h phone number within shown.
+      accepted = λ world limits phones past m phone run h number within shown.
           let ended = (m.senders.sender phone).ended in
           let same : status_among (ended_first (reverse ended) ++ all_waiting (m.senders.sender phone).pending) number ≡ Some Accepted =
           ap (λ l. status_among (l ++ all_waiting (m.senders.sender phone).pending) number) (sym (in_order ended)) ∙ (sym (statuses_stand world m phone number within h) ∙ shown) in
           let k = has_ended (reverse ended) (m.senders.sender phone).pending number same in
           let typed : IsTypedAt m.senders.texts phone number k.text =
-          subst (λ i. IsTypedAt m.senders.texts phone i k.text) (sym k.number_is) (ended_typed IsHonest typed_first limits phones past m run phone k.place k.text true k.is_there) in
+          subst (λ i. IsTypedAt m.senders.texts phone i k.text) (sym k.number_is) (ended_typed (IsHonestAt phone) typed_first limits phones past m run phone k.place k.text true k.is_there) in
           let place : k.place ≡ number - 1 = let e = k.number_is in omega (arith, e) in (
             k.text,
             record {
               typed = typed;
               ended = subst (λ i. slice_get (reverse ended) i ≡ Some (k.text, true)) place k.is_there;
-              accepted = λ s from most. accepted limits phones past m run phone k.text (reversed_contains ended (k.text, true) (there_contains (reverse ended) k.place (k.text, true) k.is_there)) s from
+              accepted = λ s from most. accepted limits phones past m phone run k.text (reversed_contains ended (k.text, true) (there_contains (reverse ended) k.place (k.text, true) k.is_there)) s from
                   (subst (λ i. s ≤ i) (sym (ap size_of typed.typed)) most);
             },
           );

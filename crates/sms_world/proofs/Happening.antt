@@ -32,7 +32,7 @@ use Rattle.sms_world.specs.Machine.Event.{Event, Compose, Carry, Timeout, Push, 
 use Rattle.sms_world.specs.Machine.Next.{Next, entered, stays, by_sender, by_receiver, by_centre, pushed, comes, comes_to_phone, packet, carries, ticked, phone_of, at_phone, next}
 use Rattle.sms_world.specs.Machine.Step.{takes_memory}
 use Rattle.sms_world.specs.World.Value.{PartiesValue, WorldValue}
-use Rattle.sms_world.specs.World.Standing.{ArePacketsOf, PartiesStand, StandsFor, IsWorld}
+use Rattle.sms_world.specs.World.Standing.{ArePacketsOf, PartiesStand, StandsFor, ComesOfRun, IsWorld}
 use Rattle.std.proofs.lemmas.Option.{slice_get_past}
 use Rattle.sms_world.proofs.AllOf.{all_and_all, one_of_all}
 use Rattle.sms_world.specs.World.Parties as parties
@@ -348,6 +348,12 @@ clock_ended v seconds beyond m h =
 
 -- ---- what is true of every world stays true
 
+-- one event more
+comes_of_more : (v new : WorldValue) (event : Event) (told : Told) → ComesOfRun v → Steps event v told new → ComesOfRun new
+comes_of_more v new event told c steps =
+    let s = steps c.machine c.stands in
+    record { limits = c.limits; phones = c.phones; past = (event, told) ∷ c.past; machine = s.1; runs = (c.machine, c.runs, tt, (s.0, s.2)); stands = s.3 }
+
 all_on_way : (up : Bool) (p n : ℕ) (packets : List (List ℕ)) → p < n → AllByRecursion (λ (q : PacketValue). q.phone < n) (on_way up p packets)
 all_on_way up p n [] h = tt
 all_on_way up p n (octets ∷ packets) h = (h, all_on_way up p n packets h)
@@ -360,28 +366,24 @@ module _ (v : WorldValue) (event : Event) (up : Bool) (p : ℕ) (ps : PartiesVal
   steps_failed why acting m h = failed v m event up p ps h why (acting m h)
 
   pub room : (step : PartyStep) → IsWorld v → ((m : Machine) → StandsFor v m → Acting m event up p (Ok step) ps) → length step.packets.items ≤ 2
-  room step w acting = subst (λ n. n ≤ 2) (length-map step.packets.items (λ packet. packet.items)) (acting w.machine w.stands).answers.1
+  room step w acting = subst (λ n. n ≤ 2) (length-map step.packets.items (λ packet. packet.items)) (acting w.comes.machine w.comes.stands).answers.1
 
   pub world_went : (step : PartyStep) → IsWorld v → ((m : Machine) → StandsFor v m → Acting m event up p (Ok step) ps) → length ps.phones ≡ length v.parties.phones → p < length v.parties.phones
       → IsWorld (with_packets v ps (on_way up p (packets_of step)))
   world_went step w acting many within =
-      let s = steps_went step acting w.machine w.stands in
       record {
         clock = w.clock;
         ways = subst (λ n. AllByRecursion (λ (q : PacketValue). q.phone < n) (v.packets ++ on_way up p (packets_of step))) (sym many)
             (all_and_all (λ (q : PacketValue). q.phone < length v.parties.phones) v.packets (on_way up p (packets_of step)) w.ways (all_on_way up p (length v.parties.phones) (packets_of step) within));
-        machine = s.1;
-        stands = s.3;
+        comes = comes_of_more v (with_packets v ps (on_way up p (packets_of step))) event (Ok step.outcome) w.comes (steps_went step acting);
       }
 
   pub world_failed : (why : Dropped) → IsWorld v → ((m : Machine) → StandsFor v m → Acting m event up p (Err why) ps) → length ps.phones ≡ length v.parties.phones → IsWorld (with_parties v ps)
   world_failed why w acting many =
-      let s = steps_failed why acting w.machine w.stands in
       record {
         clock = w.clock;
         ways = subst (λ n. AllByRecursion (λ (q : PacketValue). q.phone < n) v.packets) (sym many) w.ways;
-        machine = s.1;
-        stands = s.3;
+        comes = comes_of_more v (with_parties v ps) event (Err (Party why)) w.comes (steps_failed why acting);
       }
 
 -- the same for the value as it is seen
@@ -395,12 +397,10 @@ seen_still v old event told e h = subst (λ (w : WorldValue). Steps event w told
 pub world_moved : (v : WorldValue) (ps : PartiesValue) (seconds : ℕ) → IsWorld v → v.clock + seconds < end_of_2099 → parties.MovesTo (v.clock + seconds) v.parties ps → length ps.phones ≡ length v.parties.phones
     → IsWorld (record { limits = v.limits; clock = v.clock + seconds; parties = ps; packets = v.packets })
 world_moved v ps seconds w before moves many =
-    let s = clock_moved v ps seconds before moves w.machine w.stands in
     record {
       clock = before;
       ways = subst (λ n. AllByRecursion (λ (q : PacketValue). q.phone < n) v.packets) (sym many) w.ways;
-      machine = s.1;
-      stands = s.3;
+      comes = comes_of_more v (record { limits = v.limits; clock = v.clock + seconds; parties = ps; packets = v.packets }) (Tick seconds) (Ok Ticked) w.comes (clock_moved v ps seconds before moves);
     }
 
 -- ---- how a call ends

@@ -8,6 +8,7 @@ use Rattle.sms_script.specs.declared.meaning.event.Event as script
 use Rattle.sms_world.specs.Told.{Told}
 use Rattle.sms_world.specs.Machine.{start}
 use Rattle.sms_world.specs.Machine.Step.{Run}
+use Rattle.sms_world.specs.Watched.{WatchedValue, ComesOf, GoesOnWatched, RunsWatched, AllGoOnWatched}
 use Rattle.sms_world.specs.World.Value.{WorldValue}
 use Rattle.sms_world.specs.World.Steps.{event_of, Steps, told_past, Runs, GoesOn}
 
@@ -45,3 +46,21 @@ runs_on limits phones events n e told t old new there size steps r =
 
 pub goes_at_first : (events : List script.Event) (told : List Told) (world : WorldValue) → told ≡ [] → GoesOn (take 0 events) told world world
 goes_at_first events told world none = subst (λ t. GoesOn (take 0 events) t world world) (sym none) (λ limits phones stands. (refl, (start limits phones, refl, stands)))
+
+-- ---- in a watched world
+
+pub watched_on : (limits : Limits) (phones : List AddressValue) (events : List script.Event) (n : ℕ) (e : script.Event) (told : List Told) (t : Told) (old new : WatchedValue)
+    → slice_get events n ≡ Some e → length told ≡ n → GoesOnWatched (event_of e) old t new → RunsWatched limits phones (take n events) told old
+    → RunsWatched limits phones (take (n + 1) events) (told ++ t ∷ []) new
+watched_on limits phones events n e told t old new there size goes r =
+    let same : length told ≡ length (take n events) = size ∙ sym (length_taken events n e there) in
+    let next : suc n ≡ n + 1 = omega arith in
+    let taken : take n events ++ e ∷ [] ≡ take (n + 1) events = sym (take_next events n e there) ∙ ap (λ k. take k events) next in
+    let sizes : length (told ++ t ∷ []) ≡ length (take (n + 1) events) =
+    length_push told t ∙ ap (λ k. k + 1) same ∙ sym (length_push (take n events) e) ∙ ap length taken in
+    let past : (event_of e, t) ∷ told_past (take n events) told ≡ told_past (take (n + 1) events) (told ++ t ∷ []) =
+    sym (told_more (take n events) told e t same) ∙ ap (λ l. told_past l (told ++ t ∷ [])) taken in
+    (sizes, subst (λ p. ComesOf limits phones p new) past (goes limits phones (told_past (take n events) told) r.1))
+
+pub watched_at_first : (events : List script.Event) (told : List Told) (w : WatchedValue) → told ≡ [] → AllGoOnWatched (take 0 events) told w w
+watched_at_first events told w none = subst (λ t. AllGoOnWatched (take 0 events) t w w) (sym none) (λ limits phones c. (refl, c))

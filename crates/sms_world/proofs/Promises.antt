@@ -21,5 +21,5 @@ pub promised : ClaimsHold → RefusedOnlyWhereFull → (limits : Limits) (phones
 promised claims refused limits phones past world m stand = record {
   headline = λ run. record { stores = claims.whole world limits phones past m run stand; deliveries = receiving refused limits phones past m run };
   once = λ run. claims.once world limits phones past m run stand;
-  accepted = λ run. claims.accepted world limits phones past m run stand;
+  accepted = λ phone run. claims.accepted world limits phones past m phone run stand;
 }

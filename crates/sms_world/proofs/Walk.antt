@@ -1,6 +1,6 @@
 -- The conditions on events as the inductions over runs use them: those on submissions alone, or all, with the second asked
 -- of the keys of the taken deliveries. Lists have the newest entry first.
-use Rattle.std.specs.Prelude.{ℕ, ◌-◌, ◌==◌, Bool, true, false, not, ◌&&◌, ◌||◌, nat_lt, List, [], ◌∷◌, Option, Some, None}
+use Rattle.std.specs.Prelude.{◌≡◌, ℕ, ◌-◌, ◌==◌, Bool, true, false, not, ◌&&◌, ◌||◌, nat_lt, List, [], ◌∷◌, Option, Some, None}
 use Rattle.sms_field.specs.AddressValue.{AddressValue}
 use Rattle.sms_tpdu.specs.Submit.{Submission}
 use Rattle.sms_tpdu.specs.Deliver.{Delivery}
@@ -24,7 +24,7 @@ use Rattle.sms_world.proofs.Offered.{units_in_delivery}
 use Rattle.sms_party.specs.Receiver.Pieces.{piece_in}
 use Rattle.sms_world.specs.Machine.{Machine}
 use Rattle.sms_world.specs.Machine.Event.{Event, Compose, Carry, Timeout, Push, Tick, Inject}
-use Rattle.sms_world.specs.Machine.Next.{packet}
+use Rattle.sms_world.specs.Machine.Next.{packet, phone_of}
 use Rattle.sms_world.specs.Texts.{size_in}
 use Rattle.sms_world.specs.Texts.Keys.{is_from}
 use Rattle.sms_world.specs.OrderTests.{submission_in_order}
@@ -119,15 +119,16 @@ own_message m (Note flag value) to origin about = true
 own_message m (Tiny flag value) to origin about = true
 own_message m (Data flag tag relay) to origin about = own_relay m flag tag relay to origin about
 
-abbrev pub own_sent : Machine → Option Sent → Bool
-own_sent m None = true
-own_sent m (Some x) = own_message m x.message x.to x.origin x.about
+-- so it is of what goes to this phone or comes from it
+abbrev pub IsOwn : ℕ → Machine → Option Sent → Type 0
+IsOwn one m None = Unit {0}
+IsOwn one m (Some x) = phone_of x.to ≡ one → own_message m x.message x.to x.origin x.about ≡ true
 
--- nothing is injected, and answers and rejections are of what they seem to be of
-unfoldable pub is_honest : Machine → Event → Bool
-is_honest m (Compose phone target characters) = true
-is_honest m (Carry k) = own_sent m (packet m k)
-is_honest m (Timeout phone) = true
-is_honest m (Push phone) = true
-is_honest m (Tick seconds) = true
-is_honest m (Inject place octets) = false
+-- nothing is injected, and answers and rejections at this phone are of what they seem to be of
+abbrev pub IsHonestSeen : ℕ → Machine → Event → Type 0
+IsHonestSeen one m (Compose phone target characters) = Unit {0}
+IsHonestSeen one m (Carry k) = IsOwn one m (packet m k)
+IsHonestSeen one m (Timeout phone) = Unit {0}
+IsHonestSeen one m (Push phone) = Unit {0}
+IsHonestSeen one m (Tick seconds) = Unit {0}
+IsHonestSeen one m (Inject place octets) = ⊥

@@ -17,19 +17,20 @@ pub mod References
 pub mod Few
 pub mod Reject
 
--- Answers and rejections are of what they seem to be of, and nothing is injected.
-pub record IsHonest (m : Machine) (event : Event) : Type 0 where
-  pub answers : AnswersAnswerWhatTheyName m event
-  pub references : ReferencesAreNotUsedAgain m event
+-- Answers to this phone and rejections of what it puts out are of what they seem to be of, and
+-- nothing is injected.
+pub record IsHonestAt (phone : ℕ) (m : Machine) (event : Event) : Type 0 where
+  pub answers : AnswersAnswerWhatTheyName phone m event
+  pub references : ReferencesAreNotUsedAgain phone m event
   pub plain : NothingIsInjected event
 
--- After every run in which each event is so: where a text has ended at its phone as accepted, the
--- centre has accepted each of its segments.
+-- After every run in which each event is so for one phone, whatever the others do: where a text has
+-- ended at this phone as accepted, the centre has accepted each of its segments.
 abbrev pub AcceptedIsAccepted : Type 0
 AcceptedIsAccepted =
     (limits : Limits) (phones : List AddressValue) (past : List (Event × Told)) (m : Machine)
-    → RunWith IsHonest (start limits phones) past m
-    → (phone n : ℕ) → Contains (m.senders.sender phone).ended (n, true)
+    → (phone : ℕ) → RunWith (IsHonestAt phone) (start limits phones) past m
+    → (n : ℕ) → Contains (m.senders.sender phone).ended (n, true)
     → (s : ℕ) → 0 < s → s ≤ size_in m.senders.texts n
     → (a : Acceptance) × Contains m.centre.accepted a
     × (a.origin ≡ Some (record { text = n; segment = s }))

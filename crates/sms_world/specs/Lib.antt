@@ -10,6 +10,14 @@ pub mod Orderly
 pub mod OrderTests
 pub mod Headline
 pub mod Claims
+pub mod Ledger
+pub mod OrderTold
+pub mod Noted
+pub mod NotesValue
+pub mod Tables
+pub mod Breaches
+pub mod Followed
+pub mod Watched
 pub mod Accepted
 pub mod Understood
 pub mod Unread

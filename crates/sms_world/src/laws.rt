@@ -2,8 +2,9 @@
 
 ghost use Rattle.sms_world.specs.Accepted.{AcceptedIsAccepted};
 ghost use Rattle.sms_world.specs.Accepted.Reject.{AllReject, OnlyTimeIsLeft};
-ghost use Rattle.sms_world.specs.Accepted.Few.{FewPuttingsOut};
+ghost use Rattle.sms_world.specs.Accepted.Few.{FewPuttingsOut, FewAreHonest};
 ghost use Rattle.sms_world.specs.Below.{Below};
+ghost use Rattle.sms_world.specs.Breaches.{WatchingGoesOn};
 ghost use Rattle.sms_world.specs.Claims.Pieces.{EachMessageHasItsPiece};
 ghost use Rattle.sms_world.specs.Claims.RememberedKeys.{KeysAreOfFinished};
 ghost use Rattle.sms_world.specs.Claims.OpenSets.{OpenSetsAreOpenTexts};
@@ -12,8 +13,11 @@ ghost use Rattle.sms_world.specs.Headline.Once.{AcceptedAtMostOnce};
 ghost use Rattle.sms_world.specs.Headline.Finished.{FinishedTexts};
 ghost use Rattle.sms_world.specs.Headline.Refused.{RefusedOnlyWhereFull};
 ghost use Rattle.sms_world.specs.Headline.Stores.{StoresStand};
+ghost use Rattle.sms_world.specs.Noted.{NotesStayRight};
 ghost use Rattle.sms_world.specs.OrderTests.{OrderIsTested};
+ghost use Rattle.sms_world.specs.OrderTold.{OrderIsTold};
 ghost use Rattle.sms_world.specs.Understood.{IsOneAct};
+ghost use Rattle.sms_world.specs.World.Asked.{FactsAreTold};
 ghost use Rattle.sms_world.specs.World.Claims.{ClaimsHold};
 ghost use Rattle.sms_world.specs.Unread.{NothingSaidChangesNoParty, UnreadChangesNothing};
 
@@ -64,6 +68,34 @@ pub fn events_are_one_act()
 {
     laws_below();
 }
+
+/// Where the notes are right, their test of an event is the test of the four orderly conditions.
+pub fn order_is_told()
+    ensures { OrderIsTold }
+{
+    laws_below();
+}
+
+/// At each event that comes in order in an orderly run, right notes stay right.
+pub fn notes_stay_right()
+    ensures { NotesStayRight }
+{
+    laws_below();
+}
+
+/// At each event of a run what is noted stays right as long as the run is orderly, and the first
+/// event that comes out of order is told, with a condition that it breaks.
+pub fn watching_goes_on()
+    ensures { WatchingGoesOn }
+{
+    laws_below();
+}
+
+/// What a world answers of its latest pushes and newest texts is so in each state that it stands
+/// for.
+pub fn facts_are_told()
+    ensures { FactsAreTold }
+{}
 
 /// A run is determined by its first state, its events and its answers.
 pub fn runs_are_determined()
@@ -140,6 +172,12 @@ pub fn accepted_texts_were_accepted()
 /// the two numbers of its latest putting out is to that one.
 pub fn few_answers_are_told_apart()
     ensures { FewPuttingsOut }
+{}
+
+/// Where a phone has put out no more than 1,792 times by the end of a run, answers to it are of
+/// what they seem to be of, however often the others put out.
+pub fn few_puttings_out_are_honest()
+    ensures { FewAreHonest }
 {}
 
 /// Where duplicates are to be rejected from the first putting out on, each submission says so.

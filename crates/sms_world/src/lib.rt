@@ -4,8 +4,12 @@
 mod fault;
 mod laws;
 mod network;
+mod notes;
+mod order;
 mod playing;
 mod running;
+mod watched;
+mod watched_run;
 mod words;
 mod world;
 
@@ -13,11 +17,13 @@ pub use fault::WorldFault;
 pub use laws::{
     accepted_texts_were_accepted, claims_hold, copies_may_come_in_time,
     deliveries_are_refused_only_where_full, each_message_has_its_piece, events_are_one_act,
-    few_answers_are_told_apart, finished_texts_are_whole, keys_are_of_finished_texts,
-    open_sets_are_open_texts, order_is_tested, runs_are_determined, segments_are_accepted_once,
-    stores_stand, submissions_reject_duplicates, unread_octets_change_nothing,
-    unread_units_change_no_party,
+    facts_are_told, few_answers_are_told_apart, few_puttings_out_are_honest,
+    finished_texts_are_whole, keys_are_of_finished_texts, notes_stay_right,
+    open_sets_are_open_texts, order_is_tested, order_is_told, runs_are_determined,
+    segments_are_accepted_once, stores_stand, submissions_reject_duplicates,
+    unread_octets_change_nothing, unread_units_change_no_party, watching_goes_on,
 };
+pub use order::{Breach, Disorder, TextSegment};
 pub use playing::{play, told_stores_stand};
 pub use running::run;
 pub use sms_message::{Dropped, Outcome};
@@ -25,4 +31,6 @@ pub use sms_party::{Entry, Status};
 pub use sms_script::{
     DeviceFailed, Event, Limits, Octets, PlayFault, ScriptFault, Sink, Source, Text, Watched,
 };
+pub use watched::WatchedWorld;
+pub use watched_run::run_watched;
 pub use world::World;

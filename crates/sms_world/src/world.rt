@@ -1,12 +1,13 @@
 //! A world of phones, the centre, and all packets.
 
 mod parties;
-mod sent_packet;
+pub(crate) mod sent_packet;
 
-ghost use Rattle.std.specs.Prelude.{◌≡◌, ◌≢◌, ◌≤◌, ◌<◌, ◌-◌, ◌+◌, ◌++◌, IfOk, OnErr, length, slice_get};
+ghost use Rattle.std.specs.Prelude.{◌≡◌, ◌≢◌, ◌≤◌, ◌<◌, ◌-◌, ◌+◌, ◌++◌, IfOk, IfSome, OnErr, length, slice_get};
 ghost use Rattle.std.specs.Str.{chars};
 ghost use Rattle.std.specs.Vec.{vec_len, vec_capacity};
 ghost use Rattle.std.specs.Option.{option_map};
+ghost use Rattle.sms_field.specs.Times.{end_of_2099};
 ghost use Rattle.sms_message.specs.Does.{packets_of};
 ghost use Rattle.sms_party.specs.Sender.Value.{status_among};
 ghost use Rattle.sms_script.specs.Meaning.Known.{ArePhones};
@@ -16,9 +17,13 @@ ghost use Rattle.sms_script.specs.Transcript.Shown.{shown};
 ghost use Rattle.sms_world.specs.Headline.OfRun.{KeepsPromises};
 ghost use Rattle.sms_world.specs.Machine.{start};
 ghost use Rattle.sms_world.specs.Machine.Event.{Compose, Carry, Timeout, Push, Tick, Inject};
+ghost use Rattle.sms_centre.specs.Centre.Latest.{latest_at};
+ghost use Rattle.sms_centre.specs.Centre.Value.{phones_of};
+ghost use Rattle.sms_message.specs.Address.{phone_at};
+ghost use Rattle.sms_world.specs.World.Asked.{newest_at, way_at, way_at_phone, way_of_packet};
 ghost use Rattle.sms_world.specs.World.Parties.{place_at, on_way};
 ghost use Rattle.sms_world.specs.World.Phones.{store_in, statuses_at};
-ghost use Rattle.sms_world.specs.World.Standing.{StandsFor};
+ghost use Rattle.sms_world.specs.World.Standing.{StandsFor, ComesOfRun};
 ghost use Rattle.sms_world.specs.World.Claims.{StoresAreWhole, RefusesOnlyWhereFull};
 ghost use Rattle.sms_world.specs.World.Claims.{AcceptsOnce, AcceptedWereAccepted, CopiesMayComeInTime};
 ghost use Rattle.sms_world.specs.World.Steps.{event_of, PutsMore, Steps, IfNowhere};
@@ -27,7 +32,7 @@ ghost use Rattle.sms_world.specs.World.Steps.{GivesPacket, GivesStore, GivesStat
 use crate::fault::WorldFault;
 use crate::laws::{claims_hold, deliveries_are_refused_only_where_full, laws_below};
 use crate::world::parties::Parties;
-use crate::world::sent_packet::SentPacket;
+use crate::world::sent_packet::{SentPacket, Way};
 use sms_field::{Address, END_OF_2099};
 use sms_message::{Dropped, Outcome, Step};
 use sms_party::{Entry, Status};
@@ -84,6 +89,14 @@ impl World {
             parties: Parties::new(alloc, limits, phones)?,
             packets: Vec::new(alloc),
         })
+    }
+
+    /// Each world stands for a state that some run led to. The contract is this law; nothing is
+    /// done.
+    pub fn comes_of_a_run(&self)
+        ensures { ComesOfRun self.now }
+    {
+        let _limits = self.limits;
     }
 
     /// What happens at an event. If it answers a fault, the clock, the phones, the centre and the
@@ -287,6 +300,86 @@ impl World {
         ensures { result ≡ length (statuses_at self.now.parties.phones phone) }
     {
         self.parties.typed(phone)
+    }
+
+    /// The limits, and the settings of the phones.
+    pub(crate) fn limits(&self) -> Limits
+        ensures { result ≡ self.now.limits }
+    {
+        self.limits
+    }
+
+    /// The way of an event that is for a phone or a packet that there is: up to the centre or down
+    /// to a phone, and the phone that it is for. A tick has none, nor has an injection.
+    pub(crate) fn way_of(&self, event: &Event) -> Option<Way>
+        ensures way { result ≡ way_at self.now (event_of event.now) }
+        ensures within { IfSome result (λ w. w.phone < length self.now.parties.phones) }
+    {
+        match event {
+            Event::Compose { phone, .. } | Event::Timeout(phone) | Event::Push(phone) => {
+                self.way_at_phone(*phone)
+            }
+            Event::Carry(number) => self.way_of_packet(*number),
+            Event::Tick(_) | Event::Inject { .. } => None,
+        }
+    }
+
+    /// The way of what happens at a phone, if there is one of this number.
+    fn way_at_phone(&self, phone: usize) -> Option<Way>
+        ensures way { result ≡ way_at_phone self.now phone }
+        ensures within { IfSome result (λ w. w.phone < length self.now.parties.phones) }
+    {
+        if phone >= self.parties.count() {
+            return None;
+        }
+        Some(Way { up: true, phone })
+    }
+
+    /// The way of the packet of this number, if as many were put out.
+    fn way_of_packet(&self, number: u64) -> Option<Way>
+        ensures way { result ≡ way_of_packet self.now number }
+        ensures within { IfSome result (λ w. w.phone < length self.now.parties.phones) }
+    {
+        if number == 0 || number > self.packets.len() as u64 {
+            return None;
+        }
+        let packet = &self.packets[number as usize - 1];
+        Some(Way {
+            up: packet.up,
+            phone: packet.phone,
+        })
+    }
+
+    /// Seconds since the beginning of 2000.
+    pub(crate) fn clock(&self) -> u64
+        ensures clock { result ≡ self.now.clock }
+        ensures within { result < end_of_2099 }
+    {
+        self.clock
+    }
+
+    /// Of the text that was typed last at a phone, if one waits: how many segments it has, and its
+    /// concatenation reference.
+    pub(crate) fn newest(&self, phone: usize) -> Option<(usize, u16)>
+        requires { phone < length self.now.parties.phones }
+        ensures { result ≡ newest_at self.now.parties.phones phone }
+    {
+        self.parties.newest(phone)
+    }
+
+    /// The stamp of the latest push to a phone, until it is answered.
+    pub(crate) fn latest_stamp(&self, phone: usize) -> Option<u64>
+        requires { phone < length self.now.parties.phones }
+        ensures { result ≡ latest_at self.now.parties.centre.lines phone }
+    {
+        self.parties.latest_stamp(phone)
+    }
+
+    /// The phone with this address.
+    pub(crate) fn recipient_of(&self, target: &Address) -> Option<usize>
+        ensures { result ≡ phone_at (phones_of self.now.parties.centre) target.now }
+    {
+        self.parties.recipient_of(target)
     }
 
     /// How the text of this number of a phone stands; the first typed text has number 1. The phone

@@ -5,14 +5,10 @@ use Rattle.sms_world.specs.Machine.{Machine}
 use Rattle.sms_world.specs.Machine.Event.{Event}
 use Rattle.sms_world.specs.Orderly.Brought.{BringsAnswer}
 
--- An RP-ACK or RP-ERROR that comes to a phone with the transaction value and the RP reference of
+-- An RP-ACK or RP-ERROR that comes to this phone with the transaction value and the RP reference of
 -- the last submission that it put out answers that putting out, and no earlier one with the same
 -- two numbers.
-abbrev pub AnswersOfPhone : Machine → Event → ℕ → Type 0
-AnswersOfPhone m event phone =
+abbrev pub AnswersAnswerWhatTheyName : ℕ → Machine → Event → Type 0
+AnswersAnswerWhatTheyName phone m event =
     (last : ℕ) (about : Option ℕ) → (m.senders.sender phone).outs ≡ suc last
     → BringsAnswer m event phone (tag_of last) about → about ≡ Some last
-
--- so it is at every phone
-abbrev pub AnswersAnswerWhatTheyName : Machine → Event → Type 0
-AnswersAnswerWhatTheyName m event = (phone : ℕ) → AnswersOfPhone m event phone

@@ -8,13 +8,13 @@ use Rattle.sms_world.specs.Machine.{Machine}
 use Rattle.sms_world.specs.Machine.Event.{Event}
 use Rattle.sms_world.specs.Orderly.Brought.{BringsSubmission}
 
--- Where an SMS-SUBMIT that asks for the rejection of duplicates (TP-RD is 1; 3GPP TS 23.040,
--- 9.2.3.25) comes to the centre, and an accepted one from the same phone with the same message
+-- Where an SMS-SUBMIT of this phone that asks for the rejection of duplicates (TP-RD is 1; 3GPP TS
+-- 23.040, 9.2.3.25) comes to the centre, and an accepted one from the phone with the same message
 -- reference (TP-MR) and the same destination address (TP-DA) has not ended, that one is of the same
 -- segment of the same text.
-abbrev pub ReferencesAreNotUsedAgain : Machine → Event → Type 0
-ReferencesAreNotUsedAgain m event =
-    (phone : ℕ) (s : Submission) (o : Origin) → BringsSubmission m event phone s (Some o)
+abbrev pub ReferencesAreNotUsedAgain : ℕ → Machine → Event → Type 0
+ReferencesAreNotUsedAgain phone m event =
+    (s : Submission) (o : Origin) → BringsSubmission m event phone s (Some o)
     → s.reject ≡ true
     → (a : Acceptance) → Contains m.centre.accepted a → m.clock < a.ends → a.phone ≡ phone
     → a.submission.reference ≡ s.reference → a.submission.target ≡ s.target

@@ -5,7 +5,7 @@ use Rattle.sms_field.specs.AddressValue.{AddressValue}
 use Rattle.sms_party.specs.Sent.{Sent}
 use Rattle.sms_script.specs.declared.script.limits.Limits.{Limits}
 use Rattle.sms_world.specs.Told.{Told}
-use Rattle.sms_world.specs.Accepted.{IsHonest}
+use Rattle.sms_world.specs.Accepted.{IsHonestAt}
 use Rattle.sms_world.specs.Headline.Refused.{IsReceived}
 use Rattle.sms_world.specs.Machine.{Machine, start}
 use Rattle.sms_world.specs.Machine.Event.{Event}
@@ -32,13 +32,15 @@ pub record Headline (limits : Limits) (phones : List AddressValue) (past : List 
   pub deliveries : ReceivingRun (start limits phones) past m
 
 -- Where the run is orderly, the headline; where repeats ask for rejection in time and nothing is
--- injected, no segment was accepted twice; where answers and rejections are of what they seem to be
--- of and nothing is injected, what is shown as accepted was accepted.
+-- injected, no segment was accepted twice; where answers to a phone and rejections of what it puts
+-- out are of what they seem to be of and nothing is injected, what is shown there as accepted was
+-- accepted.
 pub record RunPromises (limits : Limits) (phones : List AddressValue) (past : List (Event × Told))
     (m : Machine) (world : WorldValue) : Type 0 where
   pub headline : OrderlyRun (start limits phones) past m → Headline limits phones past m world
   pub once : RunWith SubmissionsAreOrderly (start limits phones) past m → AcceptedOnce m
-  pub accepted : RunWith IsHonest (start limits phones) past m → ShownWereAccepted world m
+  pub accepted : (phone : ℕ) → RunWith (IsHonestAt phone) (start limits phones) past m
+      → ShownWereAccepted world m phone
 
 -- so it is of every state to which these events, with these answers, lead
 abbrev pub Promised : Limits → List AddressValue → List (Event × Told) → WorldValue → Type 0

@@ -1,5 +1,5 @@
 -- What is claimed of a world, whatever events led to it.
-use Rattle.std.specs.Prelude.{◌≡◌, ◌≢◌, ℕ, ◌<◌, ◌≤◌, ◌-◌, true, List, ◌∷◌, ◌++◌, length, reverse, Option, Some, slice_get}
+use Rattle.std.specs.Prelude.{◌≡◌, ◌≢◌, ℕ, ◌<◌, ◌≤◌, ◌-◌, true, List, ◌∷◌, ◌++◌, length, reverse, Some, slice_get}
 use Rattle.std.specs.List.{Contains}
 use Rattle.sms_field.specs.AddressValue.{AddressValue}
 use Rattle.sms_message.specs.Message.{Origin}
@@ -14,7 +14,7 @@ use Rattle.sms_world.specs.Told.{Told}
 use Rattle.sms_world.specs.Machine.{Machine, start}
 use Rattle.sms_world.specs.Machine.Event.{Event}
 use Rattle.sms_world.specs.Machine.Step.{RunWith, Run}
-use Rattle.sms_world.specs.Accepted.{IsHonest}
+use Rattle.sms_world.specs.Accepted.{IsHonestAt}
 use Rattle.sms_world.specs.Accepted.Reject.{RepeatsComeInTime}
 use Rattle.sms_world.specs.Headline.Finished.{FinishedAre}
 use Rattle.sms_world.specs.Headline.Refused.{IsReceived}
@@ -82,19 +82,19 @@ pub record WasAccepted (m : Machine) (phone number n : ℕ) : Type 0 where
       × (a.origin ≡ Some (record { text = n; segment = s }))
 
 -- Each text of the phone that the world shows as accepted was.
-abbrev pub ShownWereAccepted : WorldValue → Machine → Type 0
-ShownWereAccepted world m =
-    (phone number : ℕ) → phone < length world.parties.phones
+abbrev pub ShownWereAccepted : WorldValue → Machine → ℕ → Type 0
+ShownWereAccepted world m phone =
+    (number : ℕ) → phone < length world.parties.phones
     → status_among (statuses_at world.parties.phones phone) number ≡ Some Accepted
     → (n : ℕ) × WasAccepted m phone number n
 
--- So it is after every run in which answers and rejections are of what they seem to be of, and
--- nothing is injected.
+-- So it is after every run in which answers to the phone and rejections of what it puts out are of
+-- what they seem to be of, and nothing is injected.
 abbrev pub AcceptedWereAccepted : WorldValue → Type 0
 AcceptedWereAccepted world =
     (limits : Limits) (phones : List AddressValue) (past : List (Event × Told)) (m : Machine)
-    → RunWith IsHonest (start limits phones) past m → StandsFor world m
-    → ShownWereAccepted world m
+    → (phone : ℕ) → RunWith (IsHonestAt phone) (start limits phones) past m → StandsFor world m
+    → ShownWereAccepted world m phone
 
 -- Where the limits ask for rejection from the first putting out on, any copy of a submission may
 -- come as long as the accepted one has not ended: every event then asks for rejection in time. So

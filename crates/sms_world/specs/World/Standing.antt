@@ -1,6 +1,7 @@
 -- The states of the machine for which the code of the whole stands.
 use Rattle.std.specs.Prelude.{◌≡◌, ℕ, ◌<◌, if◌then◌else◌, List, [], ◌∷◌, length, reverse, Some, slice_get}
 use Rattle.std.specs.List.{AllByRecursion}
+use Rattle.sms_field.specs.AddressValue.{AddressValue}
 use Rattle.sms_field.specs.Times.{end_of_2099}
 use Rattle.sms_party.specs.Sent.{Place, Centre, Phone, Sent}
 use Rattle.sms_message.specs.Message.Carrying.{Carries}
@@ -9,8 +10,12 @@ use Rattle.sms_party.specs.Sender.Stands.{SenderStands}
 use Rattle.sms_party.specs.Receiver.Standing as receiver
 use Rattle.sms_party.specs.Phone.{PhoneValue}
 use Rattle.sms_script.specs.Transcript.Lines.{PacketValue}
-use Rattle.sms_world.specs.Machine.{Machine}
+use Rattle.sms_script.specs.declared.script.limits.Limits.{Limits}
+use Rattle.sms_world.specs.Told.{Told}
+use Rattle.sms_world.specs.Machine.{Machine, start}
+use Rattle.sms_world.specs.Machine.Event.{Event}
 use Rattle.sms_world.specs.Machine.Next.{receiver_limits}
+use Rattle.sms_world.specs.Machine.Step.{Run}
 use Rattle.sms_world.specs.World.Value.{PartiesValue, WorldValue}
 
 -- where a packet goes
@@ -45,10 +50,19 @@ pub record StandsFor (v : WorldValue) (m : Machine) : Type 0 where
   pub parties_stand : PartiesStand v.parties m
   pub packets_are : ArePacketsOf v.packets (reverse m.sent)
 
+-- A run of these events, each with its answer, led from the first state of these limits and phones
+-- to a state that the world stands for.
+pub record ComesOfRun (v : WorldValue) : Type 0 where
+  pub limits : Limits
+  pub phones : List AddressValue
+  pub past : List (Event × Told)
+  pub machine : Machine
+  pub runs : Run (start limits phones) past machine
+  pub stands : StandsFor v machine
+
 -- What is true of every world: its clock stands before the end of 2099, each packet is of one of
--- its phones, and there is a state of the machine for which it stands.
+-- its phones, and a run led to a state for which it stands.
 pub record IsWorld (v : WorldValue) : Type 0 where
   pub clock : v.clock < end_of_2099
   pub ways : AllByRecursion (λ p. p.phone < length v.parties.phones) v.packets
-  pub machine : Machine
-  pub stands : StandsFor v machine
+  pub comes : ComesOfRun v

@@ -19,3 +19,10 @@ impl Model for SentPacket {
 
     ghost view = { λ p. record { is_up = p.up; phone = p.phone; octets = p.octets.items } };
 }
+
+/// A way: up to the centre, and not down to the phone; and the phone that it comes from or goes to.
+#[derive(Clone, Copy, Debug)]
+pub(crate) struct Way {
+    pub up: bool,
+    pub phone: usize,
+}
