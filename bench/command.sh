@@ -11,24 +11,30 @@ mkdir -p "$room"
 awk -v LINES="$count" -f "$here/units.awk" > "$room/units.txt"
 head -n "$few" "$room/units.txt" > "$room/few.txt"
 
-# timed NAME COUNT INPUT CMD..: the time, the units a second, and the most memory of a run
+# timed NAME COUNT INPUT CMD..: the processor time, the units a second of it, the time that passed, and the most memory
 timed() {
 	name=$1 units=$2 input=$3
 	shift 3
 	taskset -c 0 /usr/bin/env python3 - "$name" "$units" "$input" "$@" <<'PY'
-import resource, subprocess, sys, time
+import re, resource, subprocess, sys, time
 name, units, source, *words = sys.argv[1:]
-best = None
+best, passed, most = None, None, 0
 for turn in range(3):
-    begin = time.monotonic()
+    begin, before = time.monotonic(), resource.getrusage(resource.RUSAGE_CHILDREN)
     with open(source, "rb") as given:
-        status = subprocess.run(words, stdin=given, stdout=subprocess.DEVNULL).returncode
-    took = time.monotonic() - begin
-    best = took if best is None else min(best, took)
+        child = subprocess.Popen(words, stdin=given, stdout=subprocess.DEVNULL)
+    while child.poll() is None:
+        with open(f"/proc/{child.pid}/status") as told:
+            most = max([most, *map(int, re.findall(r"VmHWM:\s*(\d+)", told.read()))])
+        time.sleep(0.02)
+    took, after = time.monotonic() - begin, resource.getrusage(resource.RUSAGE_CHILDREN)
+    used = after.ru_utime + after.ru_stime - before.ru_utime - before.ru_stime
+    best = used if best is None else min(best, used)
+    passed = took if passed is None else min(passed, took)
     if took > 20:
         break
-most = resource.getrusage(resource.RUSAGE_CHILDREN).ru_maxrss
-print(f"{name}: {best:.2f} s, {int(int(units) / best):,} units a second, {most:,} KB, status {status}")
+print(f"{name}: {best:.2f} s of the processor, {int(int(units) / best):,} units a second; {passed:.2f} s passed; "
+      f"{most:,} KB, status {child.returncode}")
 PY
 }
 

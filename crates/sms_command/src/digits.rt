@@ -31,16 +31,26 @@ impl Spot {
 }
 
 /// What an octet is that is no hexadecimal digit.
-const NO_DIGIT: u8 = 255;
+const NO: u8 = 255;
+
+/// The number that each octet is as a hexadecimal digit of either case.
+static NUMBERS: [u8; 256] = [
+    NO, NO, NO, NO, NO, NO, NO, NO, NO, NO, NO, NO, NO, NO, NO, NO, NO, NO, NO, NO, NO, NO, NO, NO,
+    NO, NO, NO, NO, NO, NO, NO, NO, NO, NO, NO, NO, NO, NO, NO, NO, NO, NO, NO, NO, NO, NO, NO, NO,
+    0, 1, 2, 3, 4, 5, 6, 7, 8, 9, NO, NO, NO, NO, NO, NO, NO, 10, 11, 12, 13, 14, 15, NO, NO, NO,
+    NO, NO, NO, NO, NO, NO, NO, NO, NO, NO, NO, NO, NO, NO, NO, NO, NO, NO, NO, NO, NO, NO, NO, 10,
+    11, 12, 13, 14, 15, NO, NO, NO, NO, NO, NO, NO, NO, NO, NO, NO, NO, NO, NO, NO, NO, NO, NO, NO,
+    NO, NO, NO, NO, NO, NO, NO, NO, NO, NO, NO, NO, NO, NO, NO, NO, NO, NO, NO, NO, NO, NO, NO, NO,
+    NO, NO, NO, NO, NO, NO, NO, NO, NO, NO, NO, NO, NO, NO, NO, NO, NO, NO, NO, NO, NO, NO, NO, NO,
+    NO, NO, NO, NO, NO, NO, NO, NO, NO, NO, NO, NO, NO, NO, NO, NO, NO, NO, NO, NO, NO, NO, NO, NO,
+    NO, NO, NO, NO, NO, NO, NO, NO, NO, NO, NO, NO, NO, NO, NO, NO, NO, NO, NO, NO, NO, NO, NO, NO,
+    NO, NO, NO, NO, NO, NO, NO, NO, NO, NO, NO, NO, NO, NO, NO, NO, NO, NO, NO, NO, NO, NO, NO, NO,
+    NO, NO, NO, NO, NO, NO, NO, NO, NO, NO, NO, NO, NO, NO,
+];
 
 /// The number that an octet is as a hexadecimal digit of either case.
 fn number_of(octet: u8) -> u8 {
-    match octet {
-        b'0'..=b'9' => octet - b'0',
-        b'a'..=b'f' => octet - b'a' + 10,
-        b'A'..=b'F' => octet - b'A' + 10,
-        _ => NO_DIGIT,
-    }
+    NUMBERS[usize::from(octet)]
 }
 
 /// Puts the octets of digits in pairs, and says whether all are digits.
@@ -51,7 +61,7 @@ fn put_pairs(octets: &mut [u8], pairs: &[[u8; 2]]) -> bool {
         seen |= high | low;
         *octet = (high << 4) | low;
     }
-    seen != NO_DIGIT
+    seen != NO
 }
 
 /// Adds the octets of digits in pairs, and says whether all are.
@@ -86,21 +96,21 @@ fn is_blank(octet: u8) -> bool {
 /// Adds the octets of digits one by one, which blanks may part where they are allowed, and finds
 /// the first that is wrong.
 fn add_one_by_one(octets: &mut Vec<u8>, digits: &[u8], has_blanks: bool) -> Result<(), Fault> {
-    let mut high = NO_DIGIT;
+    let mut high = NO;
     for (place, octet) in digits.iter().enumerate() {
         let number = number_of(*octet);
-        if number == NO_DIGIT {
-            if high != NO_DIGIT || !has_blanks || !is_blank(*octet) {
+        if number == NO {
+            if high != NO || !has_blanks || !is_blank(*octet) {
                 return Err(fault_at(digits, place));
             }
-        } else if high == NO_DIGIT {
+        } else if high == NO {
             high = number;
         } else {
             octets.push((high << 4) | number)?;
-            high = NO_DIGIT;
+            high = NO;
         }
     }
-    if high != NO_DIGIT {
+    if high != NO {
         return Err(fault_at(digits, digits.len()));
     }
     Ok(())
