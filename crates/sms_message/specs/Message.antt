@@ -2,6 +2,7 @@
 -- src/message.)
 pub mod Carrying
 pub mod Reading
+pub mod Request
 pub mod Glance
 pub mod Answers
 pub mod Tests

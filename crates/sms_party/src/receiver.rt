@@ -10,11 +10,11 @@ ghost use Rattle.sms_join.specs.Finishing.{would_finish};
 ghost use Rattle.sms_message.specs.Few.{FewPackets};
 ghost use Rattle.sms_message.specs.Memory.{MemoryOnlyFor};
 ghost use Rattle.sms_message.specs.Message.Glance.{glance_of};
-ghost use Rattle.sms_message.specs.Message.Tests.{is_transfer};
+ghost use Rattle.sms_message.specs.Message.Request.{HasCause};
 ghost use Rattle.sms_message.specs.Message.Reading.{HasTag};
 ghost use Rattle.sms_party.specs.Receiver.State.{limits_of};
 ghost use Rattle.sms_party.specs.Receiver.Pieces.{units_in};
-ghost use Rattle.sms_party.specs.Receiver.Offers.{offers_units, receiver_offers};
+ghost use Rattle.sms_party.specs.Receiver.Offers.{turned_away, offers_units, receiver_offers};
 ghost use Rattle.sms_party.specs.Receiver.{receiver_takes, receiver_opened, receiver_receives};
 ghost use Rattle.sms_party.specs.Receiver.Standing.{IsNew, AgesTo, Steps, ReceivesAs};
 ghost use Rattle.sms_party.specs.Receiver.Waits.{takes_up};
@@ -29,8 +29,9 @@ use sms_join::laws::{agings_keep_same, answer_finishes, answers_alike, same_is_e
 use sms_join::{Joiner, Offer, OfferFault, Ucs2Units, Units};
 use sms_message::packets::relay_refusal;
 use sms_message::{
-    Dropped, Glance, Message, Outcome, Relay, RelayGlance, Step, Tag, TransferUnit, failure_cause,
-    glance_at, octets_are_read_as_a_message, read_message, rp_cause,
+    Dropped, Glance, Message, NotTaken, Outcome, Relay, RelayGlance, Step, Tag, TransferUnit,
+    delivery_from, failure_cause, glance_at, octets_are_read_as_a_message, read_message, rp_cause,
+    unit_from,
 };
 use sms_relay::Side;
 use sms_text::units_of_octets;
@@ -236,44 +237,24 @@ impl Receiver {
             self.old result self.new }
         ensures refused { OnErr result (self.new ≡ self.old) }
     {
-        match relay {
-            Relay::Transfer { side, unit } => match side {
-                Side::FromPhone => {
-                    drop(unit);
-                    Err(Dropped::Unmatched)
-                }
-                Side::ToPhone => self.take_unit(now, tag, unit),
-            },
-            other => {
-                let step = self.refuse(now, tag, &other);
-                drop(other);
-                step
-            }
+        match unit_from(Side::ToPhone, relay) {
+            Ok(unit) => self.take_unit(now, tag, unit),
+            Err(why) => self.turn_away(tag, why),
         }
     }
 
-    /// Refuses what is no transfer.
-    fn refuse(&self, now: u64, tag: Tag, relay: &Relay) -> Result<Step, Dropped>
+    /// Drops what is not taken, or refuses it.
+    fn turn_away(&self, tag: Tag, why: NotTaken) -> Result<Step, Dropped>
         requires tag { tag.value < 7 }
-        requires other { is_transfer relay.now ≡ false }
-        ensures { Steps (λ limits s origin. receiver_opened limits s now tag relay.now origin)
-            self.now result self.now }
+        requires cause { HasCause why }
+        ensures { Steps (λ limits s origin. turned_away s tag why) self.now result self.now }
     {
-        match relay {
-            Relay::UnknownType => relay_refusal(
-                self.alloc,
-                Side::FromPhone,
-                tag,
-                rp_cause::MESSAGE_TYPE_NON_EXISTENT,
-            ),
-            Relay::Unreadable => relay_refusal(
-                self.alloc,
-                Side::FromPhone,
-                tag,
-                rp_cause::INVALID_MANDATORY_INFORMATION,
-            ),
-            Relay::Answer { .. } => Err(Dropped::Unmatched),
-            Relay::Transfer { .. } => Err(Dropped::Unmatched),
+        match why {
+            NotTaken::Unmatched => Err(Dropped::Unmatched),
+            NotTaken::Refused { cause, failure } => match failure {
+                None => relay_refusal(self.alloc, Side::FromPhone, tag, cause),
+                Some(failure) => refusal(self.alloc, tag, cause, failure),
+            },
         }
     }
 
@@ -284,26 +265,9 @@ impl Receiver {
             self.old result self.new }
         ensures refused { OnErr result (self.new ≡ self.old) }
     {
-        match unit {
-            TransferUnit::Deliver(delivery) => self.take_delivery(now, tag, delivery),
-            TransferUnit::Submit(_) => refusal(
-                self.alloc,
-                tag,
-                rp_cause::PROTOCOL_ERROR,
-                failure_cause::UNIT_NOT_SUPPORTED,
-            ),
-            TransferUnit::OtherUnit => refusal(
-                self.alloc,
-                tag,
-                rp_cause::PROTOCOL_ERROR,
-                failure_cause::UNIT_NOT_SUPPORTED,
-            ),
-            TransferUnit::BadUnit => refusal(
-                self.alloc,
-                tag,
-                rp_cause::PROTOCOL_ERROR,
-                failure_cause::UNSPECIFIED,
-            ),
+        match delivery_from(rp_cause::PROTOCOL_ERROR, unit) {
+            Ok(delivery) => self.take_delivery(now, tag, delivery),
+            Err(why) => self.turn_away(tag, why),
         }
     }
 
