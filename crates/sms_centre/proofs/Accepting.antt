@@ -86,8 +86,7 @@ module _ (limit : ℕ) (phones : List AddressValue) (now : ℕ) (v : CentreValue
             (λ r l at apart. let x = s.lines_stand r l at in record {
               queue = x.queue;
               free = λ later. same_stamps a c.accepted r later apart ∙ x.free later;
-              value = x.value;
-              reference = x.reference;
+              next = x.next;
               latest = x.latest;
             })
             (subst (λ (l : LineValue). LineStands phones now (a ∷ c.accepted) a.recipient l (after_acceptance (c.line a.recipient) a)) (sym is) (record {
@@ -95,8 +94,7 @@ module _ (limit : ℕ) (phones : List AddressValue) (now : ℕ) (v : CentreValue
                   ∙ (ap (λ (x : WaitingValue). waiting_in phones (unended (c.line a.recipient).queue now) ++ x ∷ []) whom
                   ∙ sym (ap (waiting_in phones) (unended_more (c.line a.recipient).queue a now e) ∙ waiting_end phones (unended (c.line a.recipient).queue now) a));
               free = λ later. next_stamps a c.accepted later ∙ (ap (λ n. max (suc a.stamp) n) (ls.free later) ∙ (greater a.stamp line.free now later free ∙ ap (λ n. max n later) (stamp_free w a (address_of (addresses v.lines) a.phone) waits)));
-              value = ls.value;
-              reference = ls.reference;
+              next = ls.next;
               latest = ls.latest;
             }));
       }

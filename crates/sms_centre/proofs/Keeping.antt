@@ -43,8 +43,7 @@ line_later : (phones : List AddressValue) (clock now : ℕ) (accepted : List Acc
 line_later phones clock now accepted r v l le s = record {
   queue = ap (waiting_at now) s.queue ∙ waiting_later phones l.queue clock now le;
   free = s.free;
-  value = s.value;
-  reference = s.reference;
+  next = s.next;
   latest = s.latest;
 }
 

@@ -18,6 +18,7 @@ ghost use Rattle.sms_party.specs.Receiver.Offers.{turned_away, offers_units, rec
 ghost use Rattle.sms_party.specs.Receiver.{receiver_takes, receiver_opened, receiver_receives};
 ghost use Rattle.sms_party.specs.Receiver.Standing.{IsNew, AgesTo, Steps, ReceivesAs};
 ghost use Rattle.sms_party.specs.Receiver.Waits.{takes_up};
+ghost use Rattle.sms_party.specs.Receiver.JoinerLaws.{JoinerLaws};
 ghost use Rattle.sms_message.specs.declared.outcome.Dropped.TheVariants.{Memory};
 ghost use Rattle.sms_message.specs.declared.message.Message.{Message as MessageValue};
 
@@ -79,6 +80,16 @@ impl Model for Receiver {
     ghost invariant = { λ r. length r.store.items ≤ r.limit };
 }
 
+/// The laws of the joiner on which the others stand. It does nothing.
+fn laws_of_joiners()
+    ensures { JoinerLaws }
+{
+    agings_keep_same();
+    answers_alike();
+    answer_finishes();
+    same_is_equivalence();
+}
+
 /// The place of a segment that the header tells, if there is one and it tells one.
 fn concat_of(header: &Option<Header>) -> Option<Concat>
     ensures is { result ≡ concat_of_header header.now }
@@ -138,7 +149,7 @@ impl Receiver {
         requires keys { 0 < remembered }
         ensures { IfOk result (λ receiver. IsNew (limits_of open_max remembered store) receiver) }
     {
-        same_is_equivalence();
+        laws_of_joiners();
         Ok(Receiver {
             alloc,
             limit: store,
@@ -160,8 +171,7 @@ impl Receiver {
     pub fn age(&mut self, now: u64)
         ensures { AgesTo now self.old self.new }
     {
-        agings_keep_same();
-        same_is_equivalence();
+        laws_of_joiners();
         self.joiner.age(now);
     }
 
@@ -177,7 +187,7 @@ impl Receiver {
         ensures refused { OnErr result (self.new ≡ self.old) }
     {
         octets_are_read_as_a_message();
-        same_is_equivalence();
+        laws_of_joiners();
         let seen = glance_at(octets);
         if !takes_up(seen) {
             return self.pass(now, seen);
@@ -323,9 +333,7 @@ impl Receiver {
         ensures refused { OnErr result (self.new ≡ self.old) }
     {
         if self.is_full_for(&origin, stamp, concat) {
-            answers_alike();
-            answer_finishes();
-            same_is_equivalence();
+            laws_of_joiners();
             return no_room(self.alloc, tag);
         }
         self.offer(now, tag, origin, stamp, concat, units)
@@ -352,9 +360,7 @@ impl Receiver {
             self.old result self.new }
         ensures refused { OnErr result (self.new ≡ self.old) }
     {
-        answers_alike();
-        answer_finishes();
-        same_is_equivalence();
+        laws_of_joiners();
         make_room(
             &mut self.store,
             self.joiner.would_finish(&origin, stamp, concat),

@@ -1,11 +1,12 @@
 -- What the calls do at one recipient.
-use Rattle.std.specs.Prelude.{◌≡◌, ℕ, zero, suc, ◌+◌, ◌%◌, slice_get, Bool, true, false, not, ◌&&◌, ◌||◌, ◌==◌, nat_lt, if◌then◌else◌, List, [], ◌∷◌, ◌++◌, Option, Some, None, Result, Ok, Err}
+use Rattle.std.specs.Prelude.{◌≡◌, ℕ, zero, suc, ◌+◌, slice_get, Bool, true, false, not, ◌&&◌, ◌||◌, ◌==◌, nat_lt, if◌then◌else◌, List, [], ◌∷◌, ◌++◌, Option, Some, None, Result, Ok, Err}
 use Rattle.std.specs.List.{filter}
 use Rattle.std.proofs.Math.ListN.{set}
 use Rattle.sms_field.specs.AddressValue.{AddressValue}
 use Rattle.sms_tpdu.specs.Deliver.{Delivery}
 use Rattle.sms_relay.specs.declared.side.Side.TheVariants.{ToPhone}
 use Rattle.sms_field.specs.Times.{stamp_octets}
+use Rattle.sms_message.specs.Message.{tag_of, following, same_tag}
 use Rattle.sms_message.specs.Does.{packets_of, CarriesEach}
 use Rattle.sms_message.specs.More.{is_more}
 use Rattle.sms_centre.specs.Centre.Verdicts.{stays, verdict}
@@ -37,25 +38,16 @@ delivery_of m more =
 
 abbrev pub new_line : AddressValue → LineValue
 new_line address =
-    record { address = address; queue = []; free = 0; value = 0; reference = 0; latest = None }
+    record { address = address; queue = []; free = 0; next = tag_of 0; latest = None }
 
 -- ---- a push, at one line
-
-abbrev pub tag_in : LineValue → Tag
-tag_in line = record { value = line.value; reference = line.reference }
 
 abbrev pub pushed_line : LineValue → WaitingValue → List WaitingValue → LineValue
 pushed_line line m others =
     record line {
       queue = others ++ m ∷ [];
-      value = (line.value + 1) % 7;
-      reference = (line.reference + 1) % 256;
-      latest = Some (record {
-        value = line.value;
-        reference = line.reference;
-        stamp = m.stamp;
-        ends = m.ends;
-      });
+      next = following line.next;
+      latest = Some (record { tag = line.next; stamp = m.stamp; ends = m.ends });
     }
 
 abbrev pub PushesFrom : LineValue → List WaitingValue → Result Step Dropped → LineValue → Type 0
@@ -66,7 +58,7 @@ PushesFrom line (m ∷ others) (Err why) new = (why ≡ dropped.Memory) × (new 
 PushesFrom line (m ∷ others) (Ok step) new =
     (step.outcome ≡ Pushed)
     × CarriesEach (packets_of step)
-    (Data false (tag_in line) (Transfer ToPhone (Deliver (delivery_of m (is_more others))))
+    (Data false line.next (Transfer ToPhone (Deliver (delivery_of m (is_more others))))
     ∷ [])
     × (new ≡ pushed_line line m others)
 
@@ -80,7 +72,7 @@ left_waiting queue stamp cause =
     if stays cause then queue else filter (λ m. not (m.stamp == stamp)) queue
 
 abbrev pub is_awaited : ℕ → Tag → Push → Bool
-is_awaited now tag p = (tag.value == p.value && tag.reference == p.reference) && nat_lt now p.ends
+is_awaited now tag p = same_tag tag p.tag && nat_lt now p.ends
 
 abbrev pub awaits_in : ℕ → Tag → Option Push → Bool
 awaits_in now tag None = false

@@ -10,7 +10,7 @@ use crate::answer::{is_answer, none_differs};
 use crate::centre::rows::{
     BETWEEN, Call, DELIVERED, DUPLICATES, ENDED, FULL, GONE, REFUSALS, Row, STAMPS, TURNS, TWO_ENDS,
 };
-use sms_centre::Centre;
+use sms_centre::{Centre, HELD_MAX};
 use sms_field::{Address, Digits, Symbols};
 use sms_message::{Dropped, Outcome, Step};
 use std::alloc::{AllocError, Global};
@@ -41,7 +41,7 @@ struct Fixture {
 #[tactic(auto, unfolding(sms_field::specs::SameAddress::same_address))]
 fn new_fixture(alloc: Global, held: usize) -> Result<Fixture, Fail>
     requires some { 0 < held }
-    requires most { held ≤ 1000 }
+    requires most { held ≤ HELD_MAX }
 {
     let phones = [phone(1), phone(2), phone(3)];
     let centre = Centre::new(alloc, held, &phones)?;
@@ -103,7 +103,7 @@ fn differs(alloc: Global, fixture: &mut Fixture, rows: &[Row]) -> Option<&'stati
 /// The rows are answered as they say, on a new centre.
 fn plays(rt: &impl Abort, alloc: Global, held: usize, rows: &[Row]) -> Result<(), Fail>
     requires some { 0 < held }
-    requires most { held ≤ 1000 }
+    requires most { held ≤ HELD_MAX }
 {
     let mut fixture = new_fixture(alloc, held)?;
     none_differs(rt, differs(alloc, &mut fixture, rows));
