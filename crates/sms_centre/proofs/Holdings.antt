@@ -1,5 +1,5 @@
 -- Each message that waits is held: what the calls of the centre make of it.
-use Rattle.std.proofs.Common.{◌≡◌, ◌≢◌, ℕ, zero, suc, ◌+◌, ◌<◌, ◌≤◌, Bool, true, false, not, cond, ◌||◌, nat_lt, List, [], ◌∷◌, ◌++◌, map, get_or, length, Contains, ◌⊎◌, inl, inr, Option, Some, None, Result, Ok, Err, refl, sym, ap, ◌∙◌, subst, arith}
+use Rattle.std.proofs.Common.{◌≡◌, ◌≢◌, ℕ, zero, suc, ◌+◌, ◌<◌, ◌≤◌, Bool, true, false, not, cond, ◌||◌, nat_lt, List, [], ◌∷◌, ◌++◌, map, get_or, length, Contains, ◌⊎◌, inl, inr, Option, Some, None, Result, Ok, Err, OnErr, refl, sym, ap, ◌∙◌, subst, arith}
 use Rattle.std.specs.Prelude.{All, ◌==◌}
 use Rattle.std.specs.List.{filter, slice_get}
 use Rattle.std.proofs.Math.ListN.{set}
@@ -224,6 +224,13 @@ pub heard_held : (endings : List Ending) (now : ℕ) (tag : Tag) (cause : Option
     → ChangesLine phone lines new (λ line after. LineHears now tag cause line result after) → AreHeld endings lines → AreHeld endings new
 heard_held endings now tag cause phone lines new result h held =
     fewer_held endings lines new phone h.before h.after h.is_there h.others_stay (λ P all. heard_by P now tag cause h.before h.after h.before.latest result all h.how) held
+
+-- where a call fails and the lines are as they were, so is all
+pub same_holdings : {T E : Type 0} (held : HeldValue) (lines new : List LineValue) (r : Result T E) → OnErr r (new ≡ lines) → OnErr r (◌≡◌ {A = HoldingsValue} (record { held = held; lines = new }) (record { held = held; lines = lines }))
+same_holdings held lines new (Ok v) e = tt
+same_holdings held lines new (Err why) e =
+    let made : List LineValue → HoldingsValue = λ l. record { held = held; lines = l } in
+    ap made e
 
 -- ---- an acceptance
 

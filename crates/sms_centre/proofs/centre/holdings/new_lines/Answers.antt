@@ -1,6 +1,6 @@
 use Rattle.std.proofs.Common.{◌∙◌}
 use Rattle.sms_centre.proofs.SameAddresses.{line_added}
-use Rattle.sms_centre.proofs.centre.lines.new_lines.Goals as goal
+use Rattle.sms_centre.proofs.centre.holdings.new_lines.Goals as goal
 
 pub loop-address-preserved : goal.loop-address-preserved
 loop-address-preserved c =

@@ -1,6 +1,6 @@
 use Rattle.std.proofs.Common.{◌∙◌}
 use Rattle.sms_centre.proofs.SameAddresses.{added}
-use Rattle.sms_centre.proofs.centre.lines.set_of.Goals as goal
+use Rattle.sms_centre.proofs.centre.holdings.set_of.Goals as goal
 
 pub loop-address-preserved : goal.loop-address-preserved
 loop-address-preserved c =
