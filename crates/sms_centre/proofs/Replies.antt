@@ -1,7 +1,6 @@
 -- What a wrapped answer with a report carries.
 use Rattle.std.proofs.Common.{◌≡◌, ℕ, true, false, List, Option, Some, None, subst}
-use Rattle.sms_tpdu.specs.Report.SubmitAck.{SubmitAckValue, SpellsSubmitAck}
-use Rattle.sms_tpdu.specs.Report.SubmitError.{SubmitErrorValue, SpellsSubmitError}
+use Rattle.sms_tpdu.specs.Report.{SubmitAckValue, SpellsSubmitAck, SubmitErrorValue, SpellsSubmitError}
 use Rattle.sms_relay.specs.Carried as carried
 use Rattle.sms_relay.specs.declared.side.Side.TheVariants.{ToPhone}
 use Rattle.sms_message.specs.declared.message.Tag.{Tag}
@@ -21,7 +20,7 @@ error_spelled cause r None s = s
 error_spelled cause r (Some octets) s = s
 
 abbrev ack_at : List ℕ → SubmitAckValue
-ack_at stamp = record { has_header = false; stamp = stamp; pid = None; dcs = None; user = None }
+ack_at stamp = record { has_header = false; cause = tt; stamp = stamp; pid = None; dcs = None; user = None }
 
 abbrev error_at : ℕ → List ℕ → SubmitErrorValue
 error_at failure stamp = record { has_header = false; cause = failure; stamp = stamp; pid = None; dcs = None; user = None }

@@ -7,14 +7,8 @@ use Rattle.sms_tpdu.specs.Submit.{submit}
 use Rattle.sms_tpdu.specs.Submit.Laws.{submit_laws}
 use Rattle.sms_tpdu.specs.Deliver.{deliver}
 use Rattle.sms_tpdu.specs.Deliver.Laws.{deliver_laws}
-use Rattle.sms_tpdu.specs.Report.SubmitAck.{submit_ack}
-use Rattle.sms_tpdu.specs.Report.SubmitAckLaws.{submit_ack_laws}
-use Rattle.sms_tpdu.specs.Report.SubmitError.{submit_error}
-use Rattle.sms_tpdu.specs.Report.SubmitErrorLaws.{submit_error_laws}
-use Rattle.sms_tpdu.specs.Report.DeliverAck.{deliver_ack}
-use Rattle.sms_tpdu.specs.Report.DeliverAckLaws.{deliver_ack_laws}
-use Rattle.sms_tpdu.specs.Report.DeliverError.{deliver_error}
-use Rattle.sms_tpdu.specs.Report.DeliverErrorLaws.{deliver_error_laws}
+use Rattle.sms_tpdu.specs.Report.{submit_ack, submit_error, deliver_ack, deliver_error}
+use Rattle.sms_tpdu.specs.Report.Laws.{submit_ack_laws, submit_error_laws, deliver_ack_laws, deliver_error_laws}
 use Rattle.sms_relay.specs.RpValue.{RpValue}
 use Rattle.sms_text.specs.Octets.{IsOctets}
 use Rattle.sms_relay.specs.Rp.{SpellsRp}

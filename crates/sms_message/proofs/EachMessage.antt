@@ -8,14 +8,8 @@ use Rattle.sms_tpdu.specs.Submit.Laws.{submit_lawful}
 use Rattle.sms_tpdu.specs.Deliver.{deliver}
 use Rattle.sms_tpdu.specs.Deliver.Flags.{deliver_flags}
 use Rattle.sms_tpdu.specs.Deliver.Laws.{deliver_lawful}
-use Rattle.sms_tpdu.specs.Report.SubmitAck.{submit_ack}
-use Rattle.sms_tpdu.specs.Report.SubmitAckLaws.{submit_ack_lawful}
-use Rattle.sms_tpdu.specs.Report.SubmitError.{submit_error}
-use Rattle.sms_tpdu.specs.Report.SubmitErrorLaws.{submit_error_lawful}
-use Rattle.sms_tpdu.specs.Report.DeliverAck.{deliver_ack}
-use Rattle.sms_tpdu.specs.Report.DeliverAckLaws.{deliver_ack_lawful}
-use Rattle.sms_tpdu.specs.Report.DeliverError.{deliver_error}
-use Rattle.sms_tpdu.specs.Report.DeliverErrorLaws.{deliver_error_lawful}
+use Rattle.sms_tpdu.specs.Report.{submit_ack, submit_error, deliver_ack, deliver_error}
+use Rattle.sms_tpdu.specs.Report.Laws.{submit_ack_lawful, submit_error_lawful, deliver_ack_lawful, deliver_error_lawful}
 use Rattle.sms_tpdu.specs.declared.fault.UnitFault.{UnitFault}
 use Rattle.sms_tpdu.specs.declared.fault.UnitFault.TheVariants as unit
 use Rattle.sms_relay.specs.Cp.{cp_message}

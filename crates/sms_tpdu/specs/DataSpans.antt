@@ -6,7 +6,7 @@ use Rattle.sms_field.specs.declared.span.Span.{Span}
 use Rattle.sms_field.specs.Lies.{octets_at}
 use Rattle.sms_tpdu.specs.UserData.Spans.{HeaderLies, span_of}
 use Rattle.sms_tpdu.specs.declared.data_spans.DataSpans.{DataSpans}
-use Rattle.sms_tpdu.specs.declared.report.ReportData.{ReportData}
+use Rattle.sms_tpdu.specs.declared.report.parts.ReportData.{ReportData}
 
 -- TP-UDH: where TP-UDHI says that there is one, as many octets as its length octet counts, if so
 -- many follow

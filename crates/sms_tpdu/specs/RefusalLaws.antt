@@ -18,13 +18,11 @@ use Rattle.sms_tpdu.specs.Submit.{submit}
 use Rattle.sms_tpdu.specs.Submit.Flags.{submit_flags}
 use Rattle.sms_tpdu.specs.Submit.ValidityPeriod.{validity}
 use Rattle.sms_tpdu.specs.UserData.{user_data, length_with_header, header_length}
-use Rattle.sms_tpdu.specs.Report.{report_length, report_data, report_alphabet, parts}
-use Rattle.sms_tpdu.specs.Report.Octet.{submit_report, deliver_report}
+use Rattle.sms_tpdu.specs.Report.AnnouncedParts.{report_length, report_data, report_alphabet, parts}
+use Rattle.sms_tpdu.specs.Report.Octet.{FirstOctet, submit_report, deliver_report, on_submission, on_delivery}
+use Rattle.sms_tpdu.specs.Report.Kind.{KindPart, no_part, failure_cause, centre_stamp}
 use Rattle.sms_tpdu.specs.Report.ParameterIndicator.{indicator}
-use Rattle.sms_tpdu.specs.Report.SubmitAck.{submit_ack}
-use Rattle.sms_tpdu.specs.Report.SubmitError.{submit_error}
-use Rattle.sms_tpdu.specs.Report.DeliverAck.{deliver_ack}
-use Rattle.sms_tpdu.specs.Report.DeliverError.{deliver_error}
+use Rattle.sms_tpdu.specs.Report.{report, deliver_ack, deliver_error, submit_ack, submit_error}
 use Rattle.sms_tpdu.specs.Report.Indicated.{indicated_parts, optional_parts}
 use Rattle.sms_tpdu.specs.Command.{command}
 use Rattle.sms_tpdu.specs.Command.Flags.{command_flags}
@@ -127,37 +125,26 @@ deliver_tells =
     never_chain _ _ _ (λ f o h. h) (λ stamp.
     never_chain _ _ _ (never_user flags.header (alphabet_at dcs)) (λ user. λ f o h. h))))))
 
-pub submit_ack_tells : TellsOtherTypes submit_ack submit_report
-unfolding submit_ack
-submit_ack_tells =
-    tells_by submit_report _ (λ header.
+report_tells : {C S : Type 0} (first : FirstOctet) (cause : KindPart C) (stamp : KindPart S) → Never WrongType cause.field → Never WrongType stamp.field → TellsOtherTypes (report first cause stamp) first.meaning
+unfolding report
+report_tells first cause stamp never_cause never_stamp =
+    tells_by first.meaning _ (λ header.
+    never_chain _ _ _ never_cause (λ why.
     never_chain _ _ _ never_indicator (λ there.
-    never_chain _ _ _ (λ f o h. h) (λ stamp.
-    never_chain _ _ _ (never_parts there) (λ those. λ f o h. h))))
-
-pub submit_error_tells : TellsOtherTypes submit_error submit_report
-unfolding submit_error
-submit_error_tells =
-    tells_by submit_report _ (λ header.
-    never_chain _ _ _ (λ f o h. h) (λ cause.
-    never_chain _ _ _ never_indicator (λ there.
-    never_chain _ _ _ (λ f o h. h) (λ stamp.
+    never_chain _ _ _ never_stamp (λ time.
     never_chain _ _ _ (never_parts there) (λ those. λ f o h. h)))))
 
+pub submit_ack_tells : TellsOtherTypes submit_ack submit_report
+submit_ack_tells = report_tells on_submission no_part centre_stamp (λ f o h. h) (λ f o h. h)
+
+pub submit_error_tells : TellsOtherTypes submit_error submit_report
+submit_error_tells = report_tells on_submission failure_cause centre_stamp (λ f o h. h) (λ f o h. h)
+
 pub deliver_ack_tells : TellsOtherTypes deliver_ack deliver_report
-unfolding deliver_ack
-deliver_ack_tells =
-    tells_by deliver_report _ (λ header.
-    never_chain _ _ _ never_indicator (λ there.
-    never_chain _ _ _ (never_parts there) (λ those. λ f o h. h)))
+deliver_ack_tells = report_tells on_delivery no_part no_part (λ f o h. h) (λ f o h. h)
 
 pub deliver_error_tells : TellsOtherTypes deliver_error deliver_report
-unfolding deliver_error
-deliver_error_tells =
-    tells_by deliver_report _ (λ header.
-    never_chain _ _ _ (λ f o h. h) (λ cause.
-    never_chain _ _ _ never_indicator (λ there.
-    never_chain _ _ _ (never_parts there) (λ those. λ f o h. h))))
+deliver_error_tells = report_tells on_delivery failure_cause no_part (λ f o h. h) (λ f o h. h)
 
 pub status_report_tells : TellsOtherTypes status_report status_report_flags
 unfolding status_report

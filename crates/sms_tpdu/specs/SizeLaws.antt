@@ -17,21 +17,16 @@ use Rattle.sms_tpdu.specs.UserData.{header_octets, BodyFits, FitsAlphabet, Spell
 use Rattle.sms_tpdu.specs.Submit.ValidityPeriod.{validity_octets, IsInRange}
 use Rattle.sms_tpdu.specs.Submit.{SpellsSubmit}
 use Rattle.sms_tpdu.specs.Deliver.{SpellsDeliver}
-use Rattle.sms_tpdu.specs.Report.{Parts, IsReportData, report_alphabet, indicator_of, AreParts, octet_if_some, data_if_some, parts_octets}
-use Rattle.sms_tpdu.specs.Report.SubmitAck.{SubmitAckValue, SpellsSubmitAck}
-use Rattle.sms_tpdu.specs.Report.SubmitAck as ack
-use Rattle.sms_tpdu.specs.Report.SubmitError.{SubmitErrorValue, SpellsSubmitError}
-use Rattle.sms_tpdu.specs.Report.SubmitError as error
-use Rattle.sms_tpdu.specs.Report.DeliverAck.{DeliverAckValue, SpellsDeliverAck}
-use Rattle.sms_tpdu.specs.Report.DeliverAck as delivery_ack
-use Rattle.sms_tpdu.specs.Report.DeliverError.{DeliverErrorValue, SpellsDeliverError}
-use Rattle.sms_tpdu.specs.Report.DeliverError as delivery_error
+use Rattle.sms_tpdu.specs.Report.AnnouncedParts.{Parts, IsReportData, report_alphabet, indicator_of, AreParts, octet_if_some, data_if_some, parts_octets}
+use Rattle.sms_tpdu.specs.Report.{parts_in, SpellsReport, SpellsSubmitAck, SpellsSubmitError, SpellsDeliverAck, SpellsDeliverError}
 use Rattle.sms_tpdu.specs.Report.Indicated.{is_any, optional_parts_octets}
+use Rattle.sms_tpdu.specs.Report.Octet.{FirstOctet, on_submission, on_delivery}
 use Rattle.sms_tpdu.specs.Report.ParameterIndicator.{indicator_octet}
+use Rattle.sms_tpdu.specs.Report.Kind.{KindPart, no_part, failure_cause, centre_stamp}
 use Rattle.sms_tpdu.specs.Command.{SpellsCommand}
 use Rattle.sms_tpdu.specs.StatusReport.{SpellsStatusReport}
 use Rattle.sms_tpdu.specs.StatusReport as status_report
-use Rattle.sms_tpdu.specs.declared.report.ReportData.{ReportData}
+use Rattle.sms_tpdu.specs.declared.report.parts.ReportData.{ReportData}
 use Rattle.sms_tpdu.specs.declared.user_data.body.Body.{Body}
 use Rattle.sms_tpdu.specs.declared.user_data.body.Body.TheVariants as body
 use Rattle.sms_tpdu.specs.declared.user_data.UserData.{UserData}
@@ -101,19 +96,32 @@ parts_within those fits =
       length-append (octet_if_some those.dcs) (data_if_some those.user),
     )
 
+-- both together have at most eight octets
+abbrev AreShort : {C S : Type 0} → KindPart C → KindPart S → Type 0
+AreShort {C} {S} cause stamp = (c : C) (s : S) → cause.is c → stamp.is s → length (cause.octets c) + length (stamp.octets s) ≤ 8
+
+report_within : {C S : Type 0} (first : FirstOctet) (cause : KindPart C) (stamp : KindPart S) → AreShort cause stamp → IsWithin greatest_size (SpellsReport first cause stamp)
+report_within first cause stamp short r octets p =
+    omega (
+      arith,
+      parts_within (parts_in r) p.0.parts,
+      short r.cause r.stamp p.0.cause p.0.stamp,
+      ap length p.1,
+      length-append (cause.octets r.cause) (indicator_octet (indicator_of (parts_in r)) ∷ (stamp.octets r.stamp ++ parts_octets (parts_in r))),
+      length-append (stamp.octets r.stamp) (parts_octets (parts_in r)),
+    )
+
 pub submit_ack_within : IsWithin greatest_size SpellsSubmitAck
-submit_ack_within r octets p =
-    omega (arith, parts_within (ack.parts_in r) p.0.parts, p.0.stamp.0, ap length p.1, length-append r.stamp (parts_octets (ack.parts_in r)))
+submit_ack_within = report_within on_submission no_part centre_stamp (λ c s is_cause is_stamp. omega (arith, is_stamp.0))
 
 pub submit_error_within : IsWithin greatest_size SpellsSubmitError
-submit_error_within r octets p =
-    omega (arith, parts_within (error.parts_in r) p.0.parts, p.0.stamp.0, ap length p.1, length-append r.stamp (parts_octets (error.parts_in r)))
+submit_error_within = report_within on_submission failure_cause centre_stamp (λ c s is_cause is_stamp. omega (arith, is_stamp.0))
 
 pub deliver_ack_within : IsWithin greatest_size SpellsDeliverAck
-deliver_ack_within r octets p = omega (arith, parts_within (delivery_ack.parts_in r) p.0.parts, ap length p.1)
+deliver_ack_within = report_within on_delivery no_part no_part (λ c s is_cause is_stamp. omega arith)
 
 pub deliver_error_within : IsWithin greatest_size SpellsDeliverError
-deliver_error_within r octets p = omega (arith, parts_within (delivery_error.parts_in r) p.0.parts, ap length p.1)
+deliver_error_within = report_within on_delivery failure_cause no_part (λ c s is_cause is_stamp. omega arith)
 
 optional_parts_within : (those : Parts) → AreParts those → length (optional_parts_octets those) ≤ 163
 optional_parts_within those fits = go (is_any (indicator_of those))

@@ -3,6 +3,7 @@ use Rattle.std.proofs.Common.{ℕ, List, ◌∷◌, ◌++◌, length, refl}
 use Rattle.sms_field.specs.Address.{address_octets}
 use Rattle.sms_field.specs.NameSpelling.{plain_octets, plain_octets_are, plainly_packed}
 use Rattle.sms_tpdu.specs.Sizes.{HasEachSpelling}
+use Rattle.sms_tpdu.specs.UnitLaws.{IsSpelling}
 use Rattle.sms_tpdu.specs.UserData.Lengths.{fill_bits}
 use Rattle.sms_tpdu.specs.UserData.{header_octets, data_length, SpellsBody, SpellsUserData}
 use Rattle.sms_tpdu.specs.UserData.Header.{IsHeader, SpellsHeader}
@@ -13,10 +14,7 @@ use Rattle.sms_tpdu.specs.Submit as submission
 use Rattle.sms_tpdu.specs.Deliver.Flags.{deliver_octet}
 use Rattle.sms_tpdu.specs.Deliver.{IsDeliverable, SpellsDeliver}
 use Rattle.sms_tpdu.specs.Deliver as delivery
-use Rattle.sms_tpdu.specs.Report.SubmitAck.{IsSubmitAck, submit_ack_octets, SpellsSubmitAck}
-use Rattle.sms_tpdu.specs.Report.SubmitError.{IsSubmitError, submit_error_octets, SpellsSubmitError}
-use Rattle.sms_tpdu.specs.Report.DeliverAck.{IsDeliverAck, deliver_ack_octets, SpellsDeliverAck}
-use Rattle.sms_tpdu.specs.Report.DeliverError.{IsDeliverError, deliver_error_octets, SpellsDeliverError}
+use Rattle.sms_tpdu.specs.Report.{IsSubmitAck, IsSubmitError, IsDeliverAck, IsDeliverError, SpellsSubmitAck, SpellsSubmitError, SpellsDeliverAck, SpellsDeliverError}
 use Rattle.sms_tpdu.specs.Command.{IsCommand, command_octets, SpellsCommand}
 use Rattle.sms_tpdu.specs.StatusReport.{IsStatusReport, status_report_octets, SpellsStatusReport}
 use Rattle.sms_tpdu.specs.declared.user_data.body.Body.{Body}
@@ -42,23 +40,27 @@ deliver_spelled d is =
     let u = user_data_spelled d.user in
     (deliver_octet (delivery.flags_in d) ∷ (address_octets d.origin ++ (d.pid ∷ d.dcs ∷ (d.stamp ++ u.0))), record { deliverable = is; written = u.0; user = u.1; parts = refl })
 
+-- each value that is one has the spelling that is computed
+spelled_by : {V : Type 0} (is : V → Type 0) (octets_of : V → List ℕ) → HasEachSpelling is (IsSpelling is octets_of)
+spelled_by is octets_of v h = (octets_of v, (h, refl))
+
 pub submit_ack_spelled : HasEachSpelling IsSubmitAck SpellsSubmitAck
-submit_ack_spelled r is = (submit_ack_octets r, (is, refl))
+submit_ack_spelled = spelled_by _ _
 
 pub submit_error_spelled : HasEachSpelling IsSubmitError SpellsSubmitError
-submit_error_spelled r is = (submit_error_octets r, (is, refl))
+submit_error_spelled = spelled_by _ _
 
 pub deliver_ack_spelled : HasEachSpelling IsDeliverAck SpellsDeliverAck
-deliver_ack_spelled r is = (deliver_ack_octets r, (is, refl))
+deliver_ack_spelled = spelled_by _ _
 
 pub deliver_error_spelled : HasEachSpelling IsDeliverError SpellsDeliverError
-deliver_error_spelled r is = (deliver_error_octets r, (is, refl))
+deliver_error_spelled = spelled_by _ _
 
 pub status_report_spelled : HasEachSpelling IsStatusReport SpellsStatusReport
-status_report_spelled r is = (status_report_octets r, (is, refl))
+status_report_spelled = spelled_by IsStatusReport status_report_octets
 
 pub command_spelled : HasEachSpelling IsCommand SpellsCommand
-command_spelled c is = (command_octets c, (is, refl))
+command_spelled = spelled_by IsCommand command_octets
 
 pub header_spelled : HasEachSpelling IsHeader SpellsHeader
 header_spelled value is = (length value ∷ value, (is, refl))

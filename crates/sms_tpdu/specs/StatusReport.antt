@@ -11,10 +11,10 @@ use Rattle.sms_field.specs.AddressValue.{AddressValue, HasSpelling}
 use Rattle.sms_field.specs.Stamp.{IsStamp}
 use Rattle.sms_field.specs.Stamp as time
 use Rattle.sms_tpdu.specs.Fault.{unit_fault}
-use Rattle.sms_tpdu.specs.Report.{Parts, AreParts}
+use Rattle.sms_tpdu.specs.Report.AnnouncedParts.{Parts, AreParts}
 use Rattle.sms_tpdu.specs.Report.Indicated.{optional_parts, optional_parts_octets, MayFollowParts}
 use Rattle.sms_tpdu.specs.StatusReport.Flags.{status_report_flags, status_report_octet}
-use Rattle.sms_tpdu.specs.declared.report.ReportData.{ReportData}
+use Rattle.sms_tpdu.specs.declared.report.parts.ReportData.{ReportData}
 use Rattle.sms_tpdu.specs.declared.status_report.flags.StatusReportFlags.{StatusReportFlags}
 use Rattle.sms_tpdu.specs.declared.fault.UnitFault.{UnitFault}
 use Rattle.sms_tpdu.specs.declared.fault.UnitFault.TheVariants.{Short}

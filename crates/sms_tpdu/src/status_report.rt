@@ -12,7 +12,8 @@ pub mod view;
 
 use crate::fault::UnitFault;
 use crate::report::optional::put_optional_parts;
-use crate::report::{ReportData, room_for_parts};
+use crate::report::parts::ReportData;
+use crate::report::writing::room_for_parts;
 use crate::status_report::flags::StatusReportFlags;
 use crate::status_report::view::StatusReportView;
 use crate::unit::Unit;

@@ -64,6 +64,7 @@ pub(crate) fn approval(alloc: Global, tag: Tag, stamp: u64) -> Result<Step, Drop
 {
     let report = SubmitAck {
         has_header: false,
+        cause: (),
         stamp: stamp_of(stamp),
         pid: None,
         dcs: None,

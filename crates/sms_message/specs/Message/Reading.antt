@@ -8,10 +8,7 @@ use Rattle.sms_tpdu.specs.Submit.{submit}
 use Rattle.sms_tpdu.specs.Submit.Flags.{submit_flags}
 use Rattle.sms_tpdu.specs.Deliver.{deliver}
 use Rattle.sms_tpdu.specs.Deliver.Flags.{deliver_flags}
-use Rattle.sms_tpdu.specs.Report.SubmitAck.{submit_ack}
-use Rattle.sms_tpdu.specs.Report.SubmitError.{submit_error}
-use Rattle.sms_tpdu.specs.Report.DeliverAck.{deliver_ack}
-use Rattle.sms_tpdu.specs.Report.DeliverError.{deliver_error}
+use Rattle.sms_tpdu.specs.Report.{submit_ack, submit_error, deliver_ack, deliver_error}
 use Rattle.sms_tpdu.specs.declared.fault.UnitFault.TheVariants.{WrongType}
 use Rattle.sms_relay.specs.Cp.{cp_message}
 use Rattle.sms_relay.specs.RpKind.{rp_type}

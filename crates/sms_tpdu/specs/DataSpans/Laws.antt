@@ -5,7 +5,7 @@ use Rattle.std.proofs.lemmas.List.{take-append-drop, length-take-le}
 use Rattle.sms_field.specs.Lies.{octets_at, part_at}
 use Rattle.sms_tpdu.specs.UserData.Spans.{HeaderLies, span_of}
 use Rattle.sms_tpdu.specs.DataSpans.{header_in, DataLie, DataLieIf, header_before, data_before, data_before_if}
-use Rattle.sms_tpdu.specs.declared.report.ReportData.{ReportData}
+use Rattle.sms_tpdu.specs.declared.report.parts.ReportData.{ReportData}
 
 -- the octets end with a part
 abbrev pub EndsWith : List ℕ → List ℕ → Type 0

@@ -8,10 +8,10 @@ use Rattle.sms_field.specs.ChainReading.{chained}
 use Rattle.sms_tpdu.specs.IfMoreLaws.{if_more_lawful}
 use Rattle.sms_tpdu.specs.Report.ParameterIndicator.{indicator, indicator_octet}
 use Rattle.sms_tpdu.specs.Report.ParameterIndicatorLaws.{indicator_self, indicator_lawful, indicator_is, indicator_again}
-use Rattle.sms_tpdu.specs.Report.{Parts, indicator_of, AreParts, parts_octets}
-use Rattle.sms_tpdu.specs.Report.Laws.{parts_lawful, parts_again, parts_are_octets}
+use Rattle.sms_tpdu.specs.Report.AnnouncedParts.{Parts, indicator_of, AreParts, parts_octets}
+use Rattle.sms_tpdu.specs.Report.AnnouncedPartsLaws.{parts_lawful, parts_again, parts_are_octets}
 use Rattle.sms_tpdu.specs.Report.Indicated.{indicated_parts, no_parts, optional_parts, is_any, optional_parts_octets, MayFollowParts}
-use Rattle.sms_tpdu.specs.declared.report.ReportData.{ReportData}
+use Rattle.sms_tpdu.specs.declared.report.parts.ReportData.{ReportData}
 use Rattle.sms_tpdu.specs.declared.fault.UnitFault.TheVariants.{Short}
 
 indicated_lawful : IsLawful Short indicated_parts
