@@ -14,6 +14,7 @@ pub mod OpenTexts
 pub mod Completion
 pub mod OpenSet
 pub mod UnitsOfText
+pub mod BodyUnits
 pub mod Cut
 pub mod Reading
 pub mod Segments
