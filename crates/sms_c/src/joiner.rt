@@ -4,10 +4,10 @@ ghost use Rattle.std.specs.Prelude.{◌≡◌, ◌≤◌, ◌<◌, ℕ, length, 
 ghost use Rattle.std.specs.String.{string_bytes};
 ghost use Rattle.sms_field.specs.Reading.{Reads};
 ghost use Rattle.sms_tpdu.specs.Deliver.{deliver};
-ghost use Rattle.sms_join.specs.Aging.{aged};
+ghost use Rattle.sms_join.specs.Joiner.Aging.{aged};
 ghost use Rattle.sms_join.specs.Joiner.{new_joiner};
-ghost use Rattle.sms_join.specs.JoinerValue.{SameLimits};
-ghost use Rattle.sms_join.specs.Same.{IsSame};
+ghost use Rattle.sms_join.specs.Joiner.Value.{SameLimits};
+ghost use Rattle.sms_join.specs.Joiner.Same.{IsSame};
 ghost use Rattle.sms_c.specs.Offers.{Offers, OnOkIs, RefusesUnit, WouldFinish, units_in};
 ghost use Rattle.sms_c.specs.HandedOut.{ArePut, LackRoom};
 ghost use Rattle.sms_c.specs.Kept.{count};

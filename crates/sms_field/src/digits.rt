@@ -4,9 +4,9 @@ ghost use Rattle.std.specs.Prelude.{◌≡◌, ℕ, ◌+◌, ◌*◌, ◌/◌, �
 ghost use Rattle.std.specs.List.{AllByRecursion};
 ghost use Rattle.std.specs.Str.{chars};
 ghost use Rattle.std.specs.String.{string_bytes};
-ghost use Rattle.sms_field.specs.Digits.{AreDigits};
-ghost use Rattle.sms_field.specs.DigitText.{digit_characters, digit_of_character, character_of_digit, digits_of_text, text_of_digits};
-ghost use Rattle.sms_field.specs.DigitOctets.{low_digit, both_digits, digit_octets};
+ghost use Rattle.sms_field.specs.Address.DigitValues.{AreDigits};
+ghost use Rattle.sms_field.specs.Address.DigitText.{digit_characters, digit_of_character, character_of_digit, digits_of_text, text_of_digits};
+ghost use Rattle.sms_field.specs.Address.DigitOctets.{low_digit, both_digits, digit_octets};
 ghost use Rattle.std.specs.Prelude.{nat_eq};
 ghost use Rattle.std.specs.Cmp.Lexicographic.{pointwise};
 ghost use Rattle.std.specs.Cmp.Rules.{comparing, hashing};
@@ -33,7 +33,7 @@ impl Model for Digits {
 
     ghost Value = { List ℕ };
 
-    ghost use Rattle.sms_field.specs.Digits.{AreDigits};
+    ghost use Rattle.sms_field.specs.Address.DigitValues.{AreDigits};
 
     ghost view = { λ d. d.values.items };
 

@@ -1,9 +1,9 @@
 //! The cause of an RP-ERROR.
 
 ghost use Rattle.std.specs.Prelude.{◌≡◌, ◌++◌, IfOk, OnOk};
-ghost use Rattle.sms_field.specs.Answer.{SeesAs};
-ghost use Rattle.sms_relay.specs.RpCause as formats;
-ghost use Rattle.sms_relay.specs.RpCause.{rp_cause, cause_octets, IsCause};
+ghost use Rattle.sms_field.specs.Reading.Answer.{SeesAs};
+ghost use Rattle.sms_relay.specs.Rp.Cause as formats;
+ghost use Rattle.sms_relay.specs.Rp.Cause.{rp_cause, cause_octets, IsCause};
 
 use crate::fault::RelayFault;
 use sms_field::{Cursor, Fault};

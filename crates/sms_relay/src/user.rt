@@ -3,8 +3,8 @@
 ghost use Rattle.std.specs.Prelude.{◌≡◌, ◌≤◌, ◌++◌, length, IfOk, OnOk};
 ghost use Rattle.sms_text.specs.Octets.{IsOctets};
 ghost use Rattle.sms_field.specs.Field.{octets_of};
-ghost use Rattle.sms_field.specs.Answer.{Sees};
-ghost use Rattle.sms_relay.specs.RpUserData.{user_data, optional_user_data, user_octets, optional_user_octets, IsUserData, IsOptionalUserData};
+ghost use Rattle.sms_field.specs.Reading.Answer.{Sees};
+ghost use Rattle.sms_relay.specs.Rp.UserData.{user_data, optional_user_data, user_octets, optional_user_octets, IsUserData, IsOptionalUserData};
 ghost use Rattle.sms_relay.specs.declared.fault.RelayFault.TheVariants.{Short};
 
 use crate::fault::RelayFault;

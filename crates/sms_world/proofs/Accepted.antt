@@ -3,7 +3,7 @@ use Rattle.std.proofs.Common.{◌≡◌, ℕ, zero, suc, ◌+◌, ◌-◌, ◌<�
 use Rattle.std.specs.List.{AllByRecursion}
 use Rattle.sms_message.specs.Message.Answers.{answers}
 use Rattle.std.proofs.lemmas.Bool.{cond_both, and_parts, and_from, eqb-true, eq-eqb, ltb-true, ltb-false, eqb-false}
-use Rattle.sms_field.specs.AddressValue.{AddressValue}
+use Rattle.sms_field.specs.Address.Value.{AddressValue}
 use Rattle.sms_field.specs.declared.validity.ValidityFault.{ValidityFault}
 use Rattle.sms_field.specs.declared.validity.ValidityFault.TheVariants.{EnhancedValidity, NoMoment}
 use Rattle.sms_tpdu.specs.Submit.{Submission}
@@ -21,10 +21,10 @@ use Rattle.sms_message.specs.declared.message.Tag.{Tag}
 use Rattle.sms_message.specs.Message.{tag_of, same_tag, Origin}
 use Rattle.sms_centre.specs.declared.centre.check.Check.{Check}
 use Rattle.sms_centre.specs.declared.centre.check.Check.TheVariants.{Refuse, Accept}
-use Rattle.sms_field.specs.Times.{end_of, end_of_2099}
+use Rattle.sms_field.specs.Time.Computed.{end_of, end_of_2099}
 use Rattle.sms_message.specs.Address.{phone_at, address_of}
-use Rattle.sms_field.specs.SameAddress.{same_address}
-use Rattle.sms_field.specs.SameAddressLaws.{same_address_true}
+use Rattle.sms_field.specs.Address.Same.{same_address}
+use Rattle.sms_field.specs.Inside.SameAddressLaws.{same_address_true}
 use Rattle.std.proofs.lemmas.List.Quantifiers.{position-Some}
 use Rattle.sms_relay.specs.declared.side.Side.{Side}
 use Rattle.sms_world.proofs.Entries.{contains_here, contains_more, each_at}

@@ -18,7 +18,7 @@ use Rattle.sms_world.specs.Machine.{Machine}
 use Rattle.sms_world.specs.Machine.Event.{Event, Compose, Carry, Timeout, Push, Tick, Inject, Act, Composes, Carries, TimesOut, Pushes, Ticks, Injects, Is}
 use Rattle.sms_world.specs.Machine.Next.{Next, next, stays, entered, carries, packet}
 use Rattle.sms_world.specs.Machine.Step.{Acts, Step}
-use Rattle.sms_world.specs.World.Asked.{packet_of, way_at, way_at_phone, way_of_packet}
+use Rattle.sms_world.specs.Inside.Asked.{packet_of, way_at, way_at_phone, way_of_packet}
 use Rattle.sms_world.specs.World.Standing.{StandsFor}
 use Rattle.sms_world.specs.World.Value.{WorldValue}
 use Rattle.sms_world.proofs.Packets.{packet_not_there, no_packet_0}

@@ -2,17 +2,17 @@
 use Rattle.std.proofs.Common.{◌≡◌, ℕ, ◌+◌, ◌≤◌, ◌<◌, Bool, true, false, not, ◌&&◌, leb, ltb, List, [], ◌∷◌, length, refl, subst, arith, Some, None, Option, inl, inr}
 use Rattle.sms_message.specs.Does.{Does}
 use Rattle.std.proofs.lemmas.Bool.{cond_both, leb-false}
-use Rattle.sms_field.specs.AddressValue.{AddressValue}
+use Rattle.sms_field.specs.Address.Value.{AddressValue}
 use Rattle.sms_tpdu.specs.Deliver.{Delivery}
 use Rattle.sms_join.specs.declared.units.Units.{Units}
 use Rattle.sms_join.specs.Piece.{Piece}
-use Rattle.sms_join.specs.Sets.{open_sets, units_upto}
+use Rattle.sms_join.specs.Joiner.Sets.{open_sets, units_upto}
 use Rattle.sms_join.specs.Joiner.{new_joiner, answer, answered, decided, is_repeat, is_whole, has_room, offered}
 use Rattle.sms_message.specs.declared.message.Relay.{Relay}
 use Rattle.sms_message.specs.declared.message.Message.{Message}
 use Rattle.sms_message.specs.declared.message.Message.TheVariants.{NotCp, Note, Tiny, Data}
 use Rattle.sms_message.specs.declared.message.Tag.{Tag}
-use Rattle.sms_field.specs.Times.{end_of_2099}
+use Rattle.sms_field.specs.Time.Computed.{end_of_2099}
 use Rattle.sms_message.specs.Message.{Origin}
 use Rattle.sms_party.specs.Sent.{nth, Place, Centre, Phone, Sent}
 use Rattle.sms_world.specs.Told.{Told}
@@ -24,7 +24,7 @@ use Rattle.sms_party.specs.Receiver.Pieces.{piece_in}
 use Rattle.sms_party.specs.Receiver.{receiver_opened}
 use Rattle.sms_party.specs.Receiver.Aging.{ages}
 use Rattle.sms_party.specs.Sender.Texts.{size_of}
-use Rattle.sms_join.specs.Aging.{SetsStayFew}
+use Rattle.sms_join.specs.Joiner.Aging.{SetsStayFew}
 use Rattle.sms_world.specs.Machine.Next.{of_centre, Next, next, stays, by_sender, by_centre, by_receiver, comes, comes_to_phone, carries, packet, ticked, pushed, phone_of, receiver_limits}
 use Rattle.sms_world.specs.Machine.{Machine, start}
 use Rattle.sms_world.specs.Machine.Event.{Event, Act, Composes, Carries, TimesOut, Pushes, Ticks, Injects}

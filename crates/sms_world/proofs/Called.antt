@@ -3,8 +3,8 @@ use Rattle.std.proofs.Common.{◌≡◌, ℕ, zero, suc, ◌+◌, ◌-◌, Bool,
 use Rattle.std.specs.List.{slice_get}
 use Rattle.std.proofs.lemmas.Bool.{cond_both}
 use Rattle.std.proofs.lemmas.List.{reverse-append, length-reverse}
-use Rattle.sms_field.specs.AddressValue.{AddressValue}
-use Rattle.sms_field.specs.Times.{end_of_2099}
+use Rattle.sms_field.specs.Address.Value.{AddressValue}
+use Rattle.sms_field.specs.Time.Computed.{end_of_2099}
 use Rattle.sms_message.specs.Message.{Origin}
 use Rattle.sms_message.specs.declared.message.Message.{Message}
 use Rattle.sms_message.specs.declared.message.Message.TheVariants.{NotCp, Note, Tiny, Data}

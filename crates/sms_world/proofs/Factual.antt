@@ -4,7 +4,7 @@ use Rattle.std.specs.List.{slice_get}
 use Rattle.std.specs.Option.{option_map, unwrap_or}
 use Rattle.std.proofs.lemmas.Bool.{cond_both, ltb-true}
 use Rattle.std.proofs.lemmas.List.{length-map}
-use Rattle.sms_field.specs.AddressValue.{AddressValue}
+use Rattle.sms_field.specs.Address.Value.{AddressValue}
 use Rattle.sms_join.specs.declared.units.Units.{Units}
 use Rattle.sms_message.specs.declared.outcome.Outcome.{Outcome}
 use Rattle.sms_message.specs.declared.outcome.Outcome.TheVariants as outcome
@@ -28,7 +28,8 @@ use Rattle.sms_world.specs.Machine.{Machine}
 use Rattle.sms_world.specs.Machine.Event.{Event, Compose, Carry, Timeout, Push, Tick, Inject, Act, Composes}
 use Rattle.sms_world.specs.Machine.Next.{Next, next, stays, by_sender, packet}
 use Rattle.sms_world.specs.Machine.Step.{Acts, Step}
-use Rattle.sms_world.specs.World.Asked.{newest_at, text_typed, text_after, facts_after, packet_of, way_at, way_at_phone, way_of_packet, FactsAreTold}
+use Rattle.sms_world.specs.World.Asked.{newest_at, FactsAreTold}
+use Rattle.sms_world.specs.Inside.Asked.{text_typed, text_after, facts_after, packet_of, way_at, way_at_phone, way_of_packet}
 use Rattle.sms_world.specs.World.Parties.{place_at}
 use Rattle.sms_world.specs.World.Standing.{place_of, ArePacketsOf, StandsFor}
 use Rattle.sms_world.specs.World.Value.{WorldValue}

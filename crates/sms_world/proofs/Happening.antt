@@ -5,8 +5,8 @@ use Rattle.std.specs.Result.{IsErrAnd}
 use Rattle.std.proofs.lemmas.List.{append-nil, length-map}
 use Rattle.std.proofs.lemmas.Bool.Decides.{nat_tests}
 use Rattle.sms_text.specs.Octets.{IsOctets}
-use Rattle.sms_field.specs.AddressValue.{AddressValue}
-use Rattle.sms_field.specs.Times.{end_of_2099}
+use Rattle.sms_field.specs.Address.Value.{AddressValue}
+use Rattle.sms_field.specs.Time.Computed.{end_of_2099}
 use Rattle.sms_join.specs.UnitsOfText.{IsText}
 use Rattle.sms_message.specs.Does.{packets_of}
 use Rattle.sms_message.specs.Message.{Origin}
@@ -25,7 +25,7 @@ use Rattle.sms_message.specs.declared.outcome.Dropped.TheVariants as dropped
 use Rattle.sms_script.specs.Transcript.Lines.{PacketValue}
 use Rattle.sms_world.specs.declared.fault.WorldFault.{WorldFault}
 use Rattle.sms_world.specs.declared.fault.WorldFault.TheVariants.{NoSuchPacket, NoSuchPhone, ClockEnd, Party}
-use Rattle.sms_world.specs.Below.{Below}
+use Rattle.sms_world.specs.Inside.Below.{Below}
 use Rattle.sms_world.specs.Told.{Told}
 use Rattle.sms_world.specs.Machine.{Machine}
 use Rattle.sms_world.specs.Machine.Event.{Event, Compose, Carry, Timeout, Push, Tick, Inject, Act, Composes, Carries, TimesOut, Pushes, Ticks, Injects, Is}
@@ -36,7 +36,8 @@ use Rattle.sms_world.specs.World.Standing.{ArePacketsOf, PartiesStand, StandsFor
 use Rattle.std.proofs.lemmas.Option.{slice_get_past}
 use Rattle.sms_world.proofs.AllOf.{all_and_all, one_of_all}
 use Rattle.sms_world.specs.World.Parties as parties
-use Rattle.sms_world.specs.World.Parties.{on_way, place_at, Answers}
+use Rattle.sms_world.specs.Inside.Parties.{on_way, Answers}
+use Rattle.sms_world.specs.World.Parties.{place_at}
 use Rattle.sms_world.specs.World.Steps.{PutsMore, StepsFrom, Steps}
 use Rattle.sms_world.proofs.Packets.{reverse_entered, packets_and_more, packet_there, packet_not_there, no_packet_0}
 

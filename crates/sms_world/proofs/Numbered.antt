@@ -2,7 +2,7 @@
 use Rattle.std.proofs.Common.{◌≡◌, ℕ, ◌+◌, ◌-◌, ◌%◌, ◌<◌, ◌≤◌, Bool, true, false, ltb, leb, eqb, ◌&&◌, List, [], ◌∷◌, length, refl, sym, ap, ◌∙◌, subst, arith, Some, None, Option, inl, inr}
 use Rattle.std.specs.List.{AllByRecursion}
 use Rattle.std.proofs.lemmas.Bool.{cond_both, eq-eqb}
-use Rattle.sms_field.specs.AddressValue.{AddressValue}
+use Rattle.sms_field.specs.Address.Value.{AddressValue}
 use Rattle.sms_tpdu.specs.Submit.{Submission}
 use Rattle.sms_relay.specs.declared.side.Side.TheVariants.{FromPhone, ToPhone}
 use Rattle.sms_join.specs.declared.units.Units.{Units}
@@ -21,7 +21,7 @@ use Rattle.sms_centre.specs.declared.centre.check.Check.TheVariants.{Refuse, Acc
 use Rattle.sms_message.specs.declared.outcome.Outcome.{Outcome}
 use Rattle.sms_message.specs.declared.outcome.Outcome.TheVariants.{Typed}
 use Rattle.sms_message.specs.declared.outcome.Dropped.{Dropped}
-use Rattle.sms_field.specs.Times.{end_of_2099}
+use Rattle.sms_field.specs.Time.Computed.{end_of_2099}
 use Rattle.sms_message.specs.Does.{Does}
 use Rattle.sms_centre.specs.Centre.{centre_opened, centre_answered, centre_receives}
 use Rattle.sms_centre.specs.Centre.State.{CentreState, Acceptance, Pushing}

@@ -1,17 +1,17 @@
 -- A delivery is refused only where a table is full or a growth is refused.
 use Rattle.std.proofs.Common.{◌≡◌, ◌≢◌, ℕ, ◌<◌, ◌≤◌, Bool, true, false, not, ◌&&◌, ◌||◌, leb, ltb, eqb, List, [], ◌∷◌, length, refl, sym, ap, ◌∙◌, subst, arith, Some, None, Option, Ok, ◌⊎◌, inl, inr}
-use Rattle.sms_world.specs.Below.{Below}
+use Rattle.sms_world.specs.Inside.Below.{Below}
 use Rattle.sms_world.proofs.Arrived.{each_piece}
 use Rattle.sms_message.specs.Does.{Does}
 use Rattle.std.proofs.lemmas.Bool.{cond_both, and_parts, and_from, leb-true, eq-eqb, ne_eqb, ltb-true, ltb-false}
 use Rattle.std.proofs.lemmas.List.{length-map}
 use Rattle.sms_tpdu.specs.Deliver.{Delivery}
 use Rattle.sms_join.specs.declared.units.Units.{Units}
-use Rattle.sms_join.specs.Sets.{open_sets}
+use Rattle.sms_join.specs.Joiner.Sets.{open_sets}
 use Rattle.sms_join.specs.Joiner as join
 use Rattle.sms_join.specs.Joiner.{answer, is_repeat, is_whole}
 use Rattle.sms_join.specs.Arrivals.{Arrival, Texts, has_piece, has_pieces, is_done, completed, is_listed, has_text, open_texts}
-use Rattle.sms_join.specs.Joining.{is_clear, is_recent}
+use Rattle.sms_join.specs.Arrivals.Joining.{is_clear, is_recent}
 use Rattle.sms_relay.specs.declared.side.Side.TheVariants.{ToPhone}
 use Rattle.sms_message.specs.declared.message.TransferUnit.TheVariants.{Deliver}
 use Rattle.sms_message.specs.declared.message.Relay.TheVariants.{Transfer}

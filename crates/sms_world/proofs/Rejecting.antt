@@ -4,7 +4,7 @@ use Rattle.std.specs.List.{AllByRecursion}
 use Rattle.sms_message.specs.Message.Answers.{answers}
 use Rattle.sms_message.specs.Does.{Does}
 use Rattle.std.proofs.lemmas.Bool.{cond_both}
-use Rattle.sms_field.specs.AddressValue.{AddressValue}
+use Rattle.sms_field.specs.Address.Value.{AddressValue}
 use Rattle.sms_tpdu.specs.Submit.{Submission}
 use Rattle.sms_relay.specs.declared.side.Side.TheVariants.{FromPhone, ToPhone}
 use Rattle.sms_join.specs.declared.units.Units.{Units}
@@ -19,7 +19,7 @@ use Rattle.sms_message.specs.declared.message.Tag.{Tag}
 use Rattle.sms_message.specs.Message.{tag_of, same_tag, Origin}
 use Rattle.sms_centre.specs.declared.centre.check.Check.{Check}
 use Rattle.sms_centre.specs.declared.centre.check.Check.TheVariants.{Refuse, Accept}
-use Rattle.sms_field.specs.Times.{end_of_2099}
+use Rattle.sms_field.specs.Time.Computed.{end_of_2099}
 use Rattle.sms_centre.specs.Centre.State.{CentreState, Acceptance, Pushing}
 use Rattle.sms_centre.specs.Centre.Submissions.{checked, centre_takes}
 use Rattle.sms_centre.specs.Centre.Checks.{checked_by, books_of}

@@ -3,16 +3,16 @@ use Rattle.std.proofs.Common.{◌≡◌, ℕ, true, false, List, [], ◌∷◌, 
 use Rattle.sms_text.specs.Utf16.{units_high_first, octets_high_first}
 use Rattle.sms_text.specs.TextOfSeptets.{text_of_septets}
 use Rattle.sms_text.specs.Tables.{code_of, character_of}
-use Rattle.sms_field.specs.AddressValue.{AddressValue}
+use Rattle.sms_field.specs.Address.Value.{AddressValue}
 use Rattle.sms_field.specs.Coding.{alphabet_at}
 use Rattle.sms_field.specs.declared.symbols.Symbols.TheVariants.{Digits}
 use Rattle.sms_join.specs.declared.units.Units.TheVariants.{Gsm}
 use Rattle.sms_join.specs.Key.{same_key, same_width}
 use Rattle.sms_join.specs.Joiner.{new_joiner, is_repeat, is_whole, has_room, decided, answer, answered, offered}
-use Rattle.sms_join.specs.Joining.{is_recent}
+use Rattle.sms_join.specs.Arrivals.Joining.{is_recent}
 use Rattle.sms_join.specs.Reading.{text_of_segments}
-use Rattle.sms_field.specs.Times.{stamp_octets}
-use Rattle.sms_field.specs.SameAddress.{same_address}
+use Rattle.sms_field.specs.Time.Computed.{stamp_octets}
+use Rattle.sms_field.specs.Address.Same.{same_address}
 use Rattle.sms_centre.specs.Centre.{centre_opened, centre_answered, centre_receives}
 use Rattle.sms_centre.specs.Centre.State.{new_centre}
 use Rattle.sms_centre.specs.Centre.Checks.{checked_by}
@@ -32,7 +32,7 @@ use Rattle.sms_party.specs.Receiver.Aging.{ages}
 use Rattle.sms_message.specs.declared.outcome.Outcome.TheVariants.{Typed, Segment, Accepted, Repeated, Held, Refused, Pushed, Delivered, Finished, Kept, Repeat, Ticked}
 use Rattle.sms_message.specs.declared.outcome.Dropped.TheVariants.{Unmatched}
 use Rattle.sms_world.specs.declared.fault.WorldFault.TheVariants.{Party}
-use Rattle.sms_join.specs.Aging
+use Rattle.sms_join.specs.Joiner.Aging
 use Rattle.sms_world.specs.Machine.{Machine, start}
 use Rattle.sms_world.specs.Machine
 use Rattle.sms_world.specs.Machine.Event.{Event, Compose, Carry, Push, Act, Composes, Carries, TimesOut, Pushes, Ticks}
@@ -47,7 +47,7 @@ use Rattle.sms_join.specs.UnitsOfText.{IsText}
 use Rattle.sms_join.specs.Cut.{IsCut}
 use Rattle.sms_world.specs.Told.{Told}
 use Rattle.sms_world.specs.Machine.Step.{Run}
-use Rattle.sms_world.specs.Rows.{last_after, answers_after, all_orderly, AreActs, told_after, acts_of}
+use Rattle.sms_world.specs.Inside.Rows.{last_after, answers_after, all_orderly, AreActs, told_after, acts_of}
 
 -- what has to compute
 abbrev opened : ℕ

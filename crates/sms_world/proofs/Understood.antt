@@ -1,6 +1,6 @@
 -- Each event is one act.
 use Rattle.std.proofs.Common.{refl, ap, ◌∙◌}
-use Rattle.sms_world.specs.Below.{Below}
+use Rattle.sms_world.specs.Inside.Below.{Below}
 use Rattle.sms_world.specs.Machine.Event.{Compose, Carry, Timeout, Push, Tick, Inject, Composes, Carries, TimesOut, Pushes, Ticks, Injects}
 use Rattle.sms_world.specs.Understood.{IsOneAct}
 

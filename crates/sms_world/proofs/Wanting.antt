@@ -4,13 +4,13 @@ use Rattle.sms_join.specs.UnitsOfText.{IsText}
 use Rattle.sms_party.specs.Sender.Texts.{width_of}
 use Rattle.sms_party.specs.Sent.{Sent}
 use Rattle.sms_world.specs.declared.world.sent_packet.Way.{Way}
-use Rattle.sms_world.specs.Below.{Below}
+use Rattle.sms_world.specs.Inside.Below.{Below}
 use Rattle.sms_world.specs.Machine.{Machine}
 use Rattle.sms_world.specs.Machine.Event.{Event, Compose, Carry, Timeout, Push, Tick, Inject, Composes, Carries, TimesOut, Pushes}
 use Rattle.sms_world.specs.Machine.Next.{packet}
 use Rattle.sms_world.specs.Machine.Step.{Step, no_memory, takes_memory}
-use Rattle.sms_world.specs.NotesValue.{IsOfText}
-use Rattle.sms_world.specs.World.Asked.{way_at, way_at_phone, way_of_packet}
+use Rattle.sms_world.specs.Inside.NotesValue.{IsOfText}
+use Rattle.sms_world.specs.Inside.Asked.{way_at, way_at_phone, way_of_packet}
 use Rattle.sms_world.specs.World.Standing.{StandsFor}
 use Rattle.sms_world.specs.World.Value.{WorldValue}
 use Rattle.sms_world.proofs.Factual.{phone_there, goes_so}

@@ -1,6 +1,6 @@
 -- The first event of a run that comes out of order, and a condition that it breaks.
 use Rattle.std.specs.Prelude.{◌≡◌, ◌⊎◌, ℕ, min, ◌^◌, ◌-◌, Bool, true, nat_lt, List, [], ◌∷◌, ◌++◌, length, if◌then◌else◌, suc, Option, Some, None}
-use Rattle.sms_field.specs.AddressValue.{AddressValue}
+use Rattle.sms_field.specs.Address.Value.{AddressValue}
 use Rattle.sms_message.specs.Address.{are_distinct}
 use Rattle.sms_party.specs.Sent.{nth, Sent}
 use Rattle.sms_script.specs.declared.script.limits.Limits.{Limits}

@@ -1,7 +1,7 @@
 -- What can happen to the machine.
 use Rattle.std.specs.Prelude.{◌≡◌, ℕ, List}
 use Rattle.sms_text.specs.Octets.{IsOctets}
-use Rattle.sms_field.specs.AddressValue.{AddressValue}
+use Rattle.sms_field.specs.Address.Value.{AddressValue}
 use Rattle.sms_tpdu.specs.declared.user_data.concat.Width.{Width}
 use Rattle.sms_join.specs.declared.units.Units.{Units}
 use Rattle.sms_join.specs.UnitsOfText.{IsText}

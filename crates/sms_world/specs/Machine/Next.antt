@@ -8,7 +8,7 @@ use Rattle.sms_message.specs.declared.message.Message.{Message}
 use Rattle.sms_message.specs.declared.message.Message.TheVariants.{NotCp, Note, Tiny, Data}
 use Rattle.sms_message.specs.declared.outcome.Outcome.TheVariants.{Noted, Ticked}
 use Rattle.sms_message.specs.declared.outcome.Dropped.TheVariants as dropped
-use Rattle.sms_field.specs.Times.{end_of_2099}
+use Rattle.sms_field.specs.Time.Computed.{end_of_2099}
 use Rattle.sms_party.specs.Sent.{nth, Place, Centre, Phone, Sent, Sends, bare}
 use Rattle.sms_message.specs.Does.{Does}
 use Rattle.sms_party.specs.Sender.Texts.{size_of, SenderState}

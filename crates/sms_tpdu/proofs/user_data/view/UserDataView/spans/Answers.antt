@@ -5,7 +5,7 @@ use Rattle.sms_tpdu.specs.declared.user_data.UserData.{UserData}
 use Rattle.sms_tpdu.specs.UserData.Spans.{fill_of, spans_before}
 use Rattle.sms_tpdu.specs.UserData.Lengths.{fill_bits}
 use Rattle.sms_tpdu.specs.declared.user_data.UserData.{UserData}
-use Rattle.sms_tpdu.specs.UserData.SpansLaws.{spans_are, fill_of_septets, fill_of_other}
+use Rattle.sms_tpdu.specs.Inside.SpansLaws.{spans_are, fill_of_septets, fill_of_other}
 use Rattle.sms_tpdu.proofs.user_data.view.UserDataView.spans.Goals as goal
 use Rattle.sms_tpdu.proofs.user_data.view.UserDataView.spans.Goals.{in-Gsm7, in_default}
 
