@@ -118,7 +118,7 @@ impl Address {
     }
 
     /// The text of the address: its name, or its digits, after a `+` where the type of number is 1.
-    #[tactic(auto, unfolding(crate::specs::AddressText::address_text))]
+    #[tactic(auto, unfolding(crate::specs::Address::Text::address_text))]
     pub fn to_text(&self, alloc: Global) -> Result<String, AllocError>
         ensures { IfOk result (λ text. chars (string_bytes text) ≡ address_text self.now) }
     {

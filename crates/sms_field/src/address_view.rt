@@ -59,7 +59,7 @@ fn digits_seen_at<'a>(input: &mut Cursor<'a>, count: u8) -> Result<&'a [u8], Fau
 }
 
 /// The octets of semi-octets, as many as are counted: of a name or of digits.
-#[tactic(auto, unfolding(crate::specs::Address::symbols_by, crate::specs::Name::name))]
+#[tactic(auto, unfolding(crate::specs::Address::symbols_by, crate::specs::Address::NameOctets::name))]
 fn symbols_seen_at<'a>(
     input: &mut Cursor<'a>,
     type_of_number: u8,

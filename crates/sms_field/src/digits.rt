@@ -174,7 +174,7 @@ fn place_of(c: char) -> Option<usize>
 }
 
 /// The digit that a character stands for.
-#[tactic(auto, unfolding(crate::specs::DigitText::digit_of_character))]
+#[tactic(auto, unfolding(crate::specs::Address::DigitText::digit_of_character))]
 fn digit_of(c: char) -> Option<u8>
     ensures { result ≡ digit_of_character c }
 {
@@ -183,7 +183,7 @@ fn digit_of(c: char) -> Option<u8>
 }
 
 /// The character of a digit.
-#[tactic(auto, unfolding(crate::specs::DigitText::character_of_digit))]
+#[tactic(auto, unfolding(crate::specs::Address::DigitText::character_of_digit))]
 fn character_of(digit: u8) -> char
     requires { digit < 15 }
     ensures { result ≡ character_of_digit digit }

@@ -9,7 +9,6 @@ ghost use Rattle.sms_field.specs.RelayAddress.{relay_address};
 ghost use Rattle.sms_field.specs.RelayAddress.Value.{HasOptionalSpelling};
 ghost use Rattle.sms_field.specs.declared.fault.FieldFault.TheVariants.{Short};
 ghost use Rattle.sms_field.specs.Reading.Readable.{HasOneReading, IsDecided, IsUnread};
-ghost use Rattle.sms_field.specs.Reading.{Reads};
 ghost use Rattle.sms_field.specs.Reading.Values.{Has, ChainHas};
 ghost use Rattle.sms_field.specs.Reading.Reasons.{ChainNever};
 ghost use Rattle.sms_field.specs.Address.Same.{SameIsEqual, SameIsReflexive, SameIsSymmetric, SameIsTransitive};
@@ -40,7 +39,7 @@ pub trait Known<A, B, W>: Chain<A, B, W> {
 pub fn law_of_readings<V, W, F: Lawful<V, W>>()
     ensures one { HasOneReading F.field }
     ensures decided { IsDecided F.field }
-    ensures unread { IsUnread (Reads F.field) F.field.reason F.short }
+    ensures unread { IsUnread F.field F.short }
 {}
 
 /// What neither of two fields is refused for, their chain is not.
@@ -55,8 +54,8 @@ pub fn law_of_values<A, B, W, K: Known<A, B, W>>()
 
 /// An input is refused as an address at one place and for one reason.
 pub fn addresses_are_refused_once()
-    ensures transfer { HasOneRefusal (Reads address) address.reason Short }
-    ensures relay { HasOneRefusal (Reads relay_address) relay_address.reason Short }
+    ensures transfer { HasOneRefusal address Short }
+    ensures relay { HasOneRefusal relay_address Short }
 {}
 
 /// What is read of octets as an address has a spelling.

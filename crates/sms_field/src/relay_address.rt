@@ -12,8 +12,8 @@ ghost use Rattle.sms_field.specs.RelayAddress.Text.{relay_address_text, relay_te
 ghost use Rattle.sms_field.specs.Reading.Written.{AreAtMost, AreOctetsOf, AreReadBack};
 ghost use Rattle.sms_field.specs.declared.fault.FieldFault.TheVariants.{Short};
 ghost use Rattle.sms_field.specs.Address.Faults.{Gives};
-ghost use Rattle.sms_field.specs.Reading.{Reads};
-ghost use Rattle.sms_field.specs.Reading.WholeAnswer.{IsRefusedBy, ReadsExactly};
+ghost use Rattle.sms_field.specs.Reading.{Reads, IsRefused};
+ghost use Rattle.sms_field.specs.Reading.WholeAnswer.{ReadsExactly};
 ghost use Rattle.std.specs.Prelude.{nat_eq, ◌&&◌};
 ghost use Rattle.std.specs.Cmp.Lexicographic.{pointwise};
 ghost use Rattle.std.specs.Cmp.Rules.{comparing, hashing};
@@ -127,7 +127,7 @@ impl RpAddress {
     }
 
     /// The text of the address: its digits, after a `+` where the type of number is 1.
-    #[tactic(auto, unfolding(crate::specs::RelayAddressText::relay_address_text))]
+    #[tactic(auto, unfolding(crate::specs::RelayAddress::Text::relay_address_text))]
     pub fn to_text(&self, alloc: Global) -> Result<String, AllocError>
         ensures { IfOk result (λ text. chars (string_bytes text) ≡ relay_address_text self.now) }
     {
@@ -176,7 +176,7 @@ impl RpAddress {
         input: &[u8],
     ) -> Result<(Option<RpAddress>, usize), Refusal<FieldFault>>
         ensures found { IfOk result (λ x. Reads relay_address x.0 input.now x.1) }
-        ensures refused { IfErr result (IsRefusedBy relay_address Short input.now) }
+        ensures refused { IfErr result (IsRefused relay_address Short input.now) }
         ensures exact { ReadsExactly relay_address input.now result }
     {
         let (view, used) = RpAddressView::read(input)?;

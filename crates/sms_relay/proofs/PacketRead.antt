@@ -42,7 +42,7 @@ inner_is m octets Empty s h = absurd h
 inner_is m octets (Relay n) s h = ap Relay (one_reading rp_message Short rp_laws.lawful m n octets (length octets) h.0 (rp_laws.octets m octets s) (read_alone m octets s) h.1).0
 inner_is m octets (Bad place why) s h =
     let refusal : Refusal RelayFault = At place why in
-    let e : refusal ≡ Memory = only_memory (Reads rp_message) rp_message.reason Short octets octets m (length octets) (rp_laws.octets m octets s) refl (read_alone m octets s) (At place why) h in
+    let e : refusal ≡ Memory = only_memory rp_message Short octets octets m (length octets) (rp_laws.octets m octets s) refl (read_alone m octets s) (At place why) h in
     absurd cc
 
 pub unwrapped : (flag : Bool) (value : ℕ) (m : Option RpValue) (packet : List ℕ) (outer : CpValue) (used : ℕ) (inner : Inner) → CarriesRelay flag value m packet → Reads cp_message outer packet used → Holds outer.body inner → IsUnwrapped flag value m outer inner

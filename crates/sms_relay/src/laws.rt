@@ -18,7 +18,7 @@ ghost use Rattle.sms_relay.specs.Rp.Types.{TellsUnknownTypes, ReferenceIsSecond}
 ghost use Rattle.sms_relay.specs.declared.fault.RelayFault.TheVariants.{Short};
 
 /// A packet carries at most one message.
-#[tactic(auto, using(crate::specs::CarriedLaws::one_message))]
+#[tactic(auto, using(crate::specs::Inside::CarriedLaws::one_message))]
 pub fn packets_carry_one_message()
     ensures { OneMessageIsCarried }
 {}

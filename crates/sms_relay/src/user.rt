@@ -29,7 +29,7 @@ pub fn octets_at<'a>(input: &mut Cursor<'a>, count: u8) -> Result<OctetsView<'a>
 }
 
 /// User data.
-#[tactic(auto, unfolding(crate::specs::RpUserData::user_data))]
+#[tactic(auto, unfolding(crate::specs::Rp::UserData::user_data))]
 pub fn user_data_at<'a>(input: &mut Cursor<'a>) -> Result<OctetsView<'a>, Fault<RelayFault>>
     ensures fits { IfOk result IsUserData }
     ensures read { Sees user_data input.old result input.new }

@@ -1,5 +1,5 @@
 -- A reader may pass this by: contracts of private functions, and proofs, alone cite it.
-use Rattle.std.specs.Prelude.{◌≡◌, ℕ, ◌<◌, ◌≤◌, max, not, ◌&&◌, ◌||◌, if◌then◌else◌, nat_lt, length, zero, suc, List, ◌∷◌, ◌++◌, All, Contains, Option, Some, None}
+use Rattle.std.specs.Prelude.{◌≡◌, ℕ, ◌<◌, ◌≤◌, max, not, ◌&&◌, ◌||◌, if◌then◌else◌, nat_lt, length, zero, suc, List, [], ◌∷◌, ◌++◌, All, Contains, Option, Some, None}
 use Rattle.std.specs.Map.{lookup}
 use Rattle.sms_field.specs.Time.Computed.{end_of_2099}
 use Rattle.sms_tpdu.specs.Submit.{Submission}

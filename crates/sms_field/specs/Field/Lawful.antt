@@ -41,7 +41,7 @@ pub record IsReading {V W : Type 0} (f : Field V W) (at : ℕ) (input : List ℕ
   pub only : (other : V) (others left : List ℕ) → input ≡ others ++ left → f.reads other others left
       → (other ≡ value) × (others ≡ octets)
 
--- no reading yet, and one further on
+-- octets are missing at the end: no reading yet, and one further on
 pub record IsShort {V W : Type 0} (short : W) (f : Field V W) (at : ℕ) (input : List ℕ) (place : ℕ)
     (why : W) : Type 0 where
   pub why_is : why ≡ short

@@ -1,5 +1,5 @@
 -- A reader may pass this by: lemmas, for the proofs of this crate and of those above it.
-use Rattle.std.proofs.Common.{◌≡◌, ℕ, List, ◌++◌, length, take, sym, ap, ◌∙◌}
+use Rattle.std.proofs.Common.{◌≡◌, ℕ, List, [], ◌++◌, length, take, sym, ap, ◌∙◌}
 use Rattle.std.proofs.lemmas.List.{append-nil, take_at, drop_at}
 use Rattle.sms_field.specs.Field.{Field, IsSelfContained}
 use Rattle.sms_field.specs.declared.span.Span.{Span}

@@ -1,17 +1,16 @@
 -- A reader may pass this by: lemmas, for the proofs of this crate and of those above it.
 --
 -- Fields with one reason for an octet have one refusal of an input.
-use Rattle.std.proofs.Common.{◌≡◌, ◌⊎◌, inl, inr, ⊎_elim, ℕ, zero, suc, ◌+◌, ◌-◌, ◌/◌, ◌%◌, ◌<◌, Bool, true, false, List, [], ◌∷◌, ◌++◌, length, take, drop, Result, Ok, Err, refl, sym, ap, ◌∙◌, subst, append_assoc, arith}
-use Rattle.std.specs.Prelude.{◌==◌, slice_index}
+use Rattle.std.proofs.Common.{◌≡◌, ◌⊎◌, inl, inr, ⊎_elim, ℕ, zero, suc, ◌+◌, ◌-◌, ◌/◌, ◌%◌, ◌<◌, Bool, true, false, List, [], ◌∷◌, ◌++◌, length, take, Result, Ok, Err, refl, sym, ap, ◌∙◌, subst, append_assoc, arith}
+use Rattle.std.specs.Prelude.{◌==◌}
 use Rattle.std.proofs.lemmas.Bool.{cases_lt}
-use Rattle.std.proofs.lemmas.List.{take-append-drop, take-take, take_at}
+use Rattle.std.proofs.lemmas.List.{take_at}
 use Rattle.sms_text.specs.Octets.{IsOctets}
-use Rattle.sms_field.specs.Inside.OctetLists.{octets_back, octets_front}
-use Rattle.sms_field.specs.Field.{Field, ◌>>=◌, always, octet, octet_by, octets_of, map_reason, up_to}
+use Rattle.sms_field.specs.Inside.OctetLists.{octets-append, octets_back, octets_front}
+use Rattle.sms_field.specs.Field.{Field, HasReading, CanContinue, IsFault, ◌>>=◌, always, octet, octet_by, octets_of, map_reason, up_to}
 use Rattle.sms_field.specs.Inside.ChainLaws.{same_back}
 use Rattle.sms_field.specs.Field.Mapped.{mapped}
 use Rattle.sms_field.specs.Field.Optional.{part_if, tagged}
-use Rattle.sms_field.specs.Reading.{Reads, IsReadable, IsViable, BreaksAt}
 use Rattle.sms_field.specs.Reading.OneRefusal.{HasOneRefusal}
 use Rattle.sms_field.specs.Inside.OneReason.{HasOneReason, ReadsOneWay, IsKnown}
 use Rattle.sms_field.specs.Address.DigitOctets.{low_digit, both_digits, digits}
@@ -124,57 +123,71 @@ one_reason_part true part way one = one_reason_chain _ _ way one (λ value. λ f
 
 -- ---- one refusal
 
--- what can go on can do so from each of its fronts
-viable_front : {V : Type 0} (reads : V → List ℕ → ℕ → Type 0) (front more : List ℕ) → IsOctets more → IsViable reads (front ++ more) → IsViable reads front
-viable_front reads front more are v = record {
+-- what can continue can do so from each of its fronts
+continues_front : {V W : Type 0} (f : Field V W) (front more : List ℕ) → IsOctets more → CanContinue f (front ++ more) → CanContinue f front
+continues_front f front more are v = record {
   more = more ++ v.more;
-  are_octets = both more v.more are v.are_octets;
-  readable = subst (IsReadable reads) (append_assoc front more v.more) v.readable;
+  are_octets = octets-append more v.more are v.are_octets;
+  reading = subst (HasReading f) (append_assoc front more v.more) v.reading;
 }
-  where
-    both : (xs ys : List ℕ) → IsOctets xs → IsOctets ys → IsOctets (xs ++ ys)
-    both [] ys p q = q
-    both (x ∷ xs) ys p q = (p.0, both xs ys p.1 q)
 
-module _ {V W : Type 0} (reads : V → List ℕ → ℕ → Type 0) (reason : List ℕ → ℕ → W → Type 0) (input : List ℕ) (are : IsOctets input) where
-  viable_take : (n : ℕ) → IsViable reads input → IsViable reads (take n input)
-  viable_take n v =
-      let whole : take n input ++ drop n input ≡ input = take-append-drop n input in
-      viable_front reads (take n input) (drop n input) (octets_back (take n input) (drop n input) (subst IsOctets (sym whole) are)) (subst (IsViable reads) (sym whole) v)
+-- of two fronts of one list, each with the octet after it, the longer begins with the shorter
+longer_front : (xs : List ℕ) (x : ℕ) (ys zs : List ℕ) (z : ℕ) (ws : List ℕ) → xs ++ x ∷ ys ≡ zs ++ z ∷ ws → length xs < length zs → (d : List ℕ) × (zs ≡ xs ++ x ∷ d)
+longer_front xs x ys [] z ws e lt = absurd (omega (arith, lt))
+longer_front [] x ys (b ∷ zs) z ws e lt =
+    let same : x ≡ b = cc in
+    (zs, ap (λ (n : ℕ). n ∷ zs) (sym same))
+longer_front (a ∷ xs) x ys (b ∷ zs) z ws e lt =
+    let head : a ≡ b = cc in
+    let tail : xs ++ x ∷ ys ≡ zs ++ z ∷ ws = cc in
+    let r = longer_front xs x ys zs z ws tail (omega (arith, lt)) in
+    (r.0, ap (λ (n : ℕ). n ∷ zs) (sym head) ∙ ap (λ (l : List ℕ). a ∷ l) r.1)
 
-  not_before : (place other : ℕ) (why because : W) → BreaksAt reads reason input place why → BreaksAt reads reason input other because → place < other → ⊥
+-- and two of one length are the same, and so are the octets
+same_front : (xs : List ℕ) (x : ℕ) (ys zs : List ℕ) (z : ℕ) (ws : List ℕ) → xs ++ x ∷ ys ≡ zs ++ z ∷ ws → length xs ≡ length zs → (zs ≡ xs) × (z ≡ x)
+same_front [] x ys [] z ws e l = (refl, let same : z ≡ x = cc in same)
+same_front [] x ys (b ∷ zs) z ws e l = absurd (omega (arith, l))
+same_front (a ∷ xs) x ys [] z ws e l = absurd (omega (arith, l))
+same_front (a ∷ xs) x ys (b ∷ zs) z ws e l =
+    let head : b ≡ a = cc in
+    let tail : xs ++ x ∷ ys ≡ zs ++ z ∷ ws = cc in
+    let r = same_front xs x ys zs z ws tail (omega (arith, l)) in
+    (ap (λ (n : ℕ). n ∷ zs) head ∙ ap (λ (l : List ℕ). a ∷ l) r.0, r.1)
+
+module _ {V W : Type 0} (f : Field V W) (input : List ℕ) (are : IsOctets input) where
+  -- nothing continues past a fault
+  ends_at : (place : ℕ) (why : W) → IsFault f 0 input place why → ¬ CanContinue f input
+  ends_at place why b = λ v.
+      let whole : (b.front ++ b.octet ∷ []) ++ b.rest ≡ input = append_assoc b.front (b.octet ∷ []) b.rest ∙ sym b.parts in
+      b.none_after (continues_front f (b.front ++ b.octet ∷ []) b.rest (octets_back (b.front ++ b.octet ∷ []) b.rest (subst IsOctets (sym whole) are)) (subst (CanContinue f) (sym whole) v))
+
+  not_before : (place other : ℕ) (why because : W) → IsFault f 0 input place why → IsFault f 0 input other because → place < other → ⊥
   not_before place other why because p q lt =
-      let front : List ℕ = take other input in
-      let whole : take (place + 1) front ++ drop (place + 1) front ≡ front = take-append-drop (place + 1) front in
-      let shorter : take (place + 1) front ≡ take (place + 1) input = take-take (place + 1) other input (omega (arith, lt)) in
-      let all : take other input ++ drop other input ≡ input = take-append-drop other input in
-      let front_are : IsOctets front = octets_front front (drop other input) (subst IsOctets (sym all) are) in
-      let back_are : IsOctets (drop (place + 1) front) = octets_back (take (place + 1) front) (drop (place + 1) front) (subst IsOctets (sym whole) front_are) in
-      p.none_after (subst (IsViable reads) shorter (viable_front reads (take (place + 1) front) (drop (place + 1) front) back_are (subst (IsViable reads) (sym whole) q.before)))
+      let d = longer_front p.front p.octet p.rest q.front q.octet q.rest (sym p.parts ∙ q.parts) (omega (arith, lt, p.place_is, q.place_is)) in
+      let whole : q.front ≡ (p.front ++ p.octet ∷ []) ++ d.0 = d.1 ∙ sym (append_assoc p.front (p.octet ∷ []) d.0) in
+      let front_are : IsOctets ((p.front ++ p.octet ∷ []) ++ d.0) = subst IsOctets whole (octets_front q.front (q.octet ∷ q.rest) (subst IsOctets q.parts are)) in
+      p.none_after (continues_front f (p.front ++ p.octet ∷ []) d.0 (octets_back (p.front ++ p.octet ∷ []) d.0 front_are) (subst (CanContinue f) whole q.before))
 
-  same_place : (place other : ℕ) (why because : W) → BreaksAt reads reason input place why → BreaksAt reads reason input other because → other ≡ place
+  same_place : (place other : ℕ) (why because : W) → IsFault f 0 input place why → IsFault f 0 input other because → other ≡ place
   same_place place other why because p q =
       ⊎_elim {C = other ≡ place} (λ lt. absurd (not_before place other why because p q lt))
       (λ le. ⊎_elim {C = other ≡ place} (λ lt. absurd (not_before other place because why q p lt)) (λ ge. omega (arith, le, ge)) (cases_lt other place))
       (cases_lt place other)
 
-  one_break : (one : (front : List ℕ) (octet : ℕ) (why because : W) → reason front octet why → reason front octet because → because ≡ why) → (place other : ℕ) (why because : W)
-      → BreaksAt reads reason input place why → BreaksAt reads reason input other because → (other ≡ place) × (because ≡ why)
-  one_break one place other why because p q =
+  one_fault : HasOneReason f → (place other : ℕ) (why because : W) → IsFault f 0 input place why → IsFault f 0 input other because → (other ≡ place) × (because ≡ why)
+  one_fault one place other why because p q =
       let same = same_place place other why because p q in
-      (same, one (take place input) (slice_index input place) why because p.because (subst (λ (n : ℕ). reason (take n input) (slice_index input n) because) same q.because))
+      let front = same_front p.front p.octet p.rest q.front q.octet q.rest (sym p.parts ∙ q.parts) (omega (arith, same, p.place_is, q.place_is)) in
+      (same, one p.front p.octet why because p.reason (subst (λ (o : ℕ). f.reason p.front o because) front.1 (subst (λ (l : List ℕ). f.reason l q.octet because) front.0 q.reason)))
 
-pub one_refusal : {V W : Type 0} (short : W) (f : Field V W) → IsKnown short → HasOneReason f → HasOneRefusal (Reads f) f.reason short
+pub one_refusal : {V W : Type 0} (short : W) (f : Field V W) → IsKnown short → HasOneReason f → HasOneRefusal f short
 one_refusal {V} {W} short f known one input place other why because are p q = go (known why) (known because)
   where
-    apart : (n : ℕ) (w : W) → IsViable (Reads f) input → BreaksAt (Reads f) f.reason input n w → ⊥
-    apart n w v b = b.none_after (viable_take (Reads f) f.reason input are (n + 1) v)
-
     go : (why ≡ short) ⊎ (why ≡ short → ⊥) → (because ≡ short) ⊎ (because ≡ short → ⊥) → (other ≡ place) × (because ≡ why)
     go (inl e) (inl g) = ((q.0 g).place_is ∙ sym (p.0 e).place_is, g ∙ sym e)
-    go (inl e) (inr g) = absurd (apart other because (p.0 e).viable (q.1 g))
-    go (inr e) (inl g) = absurd (apart place why (q.0 g).viable (p.1 e))
-    go (inr e) (inr g) = one_break (Reads f) f.reason input are one place other why because (p.1 e) (q.1 g)
+    go (inl e) (inr g) = absurd (ends_at f input are other because (q.1 g) (p.0 e).some)
+    go (inr e) (inl g) = absurd (ends_at f input are place why (p.1 e) (q.0 g).some)
+    go (inr e) (inr g) = one_fault f input are one place other why because (p.1 e) (q.1 g)
 
 -- ---- addresses
 
@@ -263,8 +276,8 @@ is_short : IsKnown Short
 is_short Short = inl refl
 is_short (Address why) = inr (λ e. cc)
 
-pub address_refused_once : HasOneRefusal (Reads address) address.reason Short
+pub address_refused_once : HasOneRefusal address Short
 address_refused_once = one_refusal Short address is_short one_reason_address
 
-pub relay_address_refused_once : HasOneRefusal (Reads relay_address) relay_address.reason Short
+pub relay_address_refused_once : HasOneRefusal relay_address Short
 relay_address_refused_once = one_refusal Short relay_address is_short one_reason_relay_address

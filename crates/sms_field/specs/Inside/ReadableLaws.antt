@@ -1,42 +1,39 @@
 -- A reader may pass this by: lemmas, for the proofs of this crate and of those above it.
 --
--- What is readable and what is not.
-use Rattle.std.proofs.Common.{◌≡◌, ◌⊎◌, inl, inr, ⊎_elim, ℕ, ◌+◌, List, [], ◌∷◌, ◌++◌, take, drop, refl, sym, ◌∙◌, subst}
-use Rattle.std.proofs.lemmas.List.{append_assoc, take-append-drop}
+-- What has a reading and what has none.
+use Rattle.std.proofs.Common.{◌≡◌, ◌⊎◌, inl, inr, ⊎_elim, ℕ, List, [], ◌∷◌, ◌++◌, length, refl, sym, ◌∙◌, subst}
+use Rattle.std.proofs.lemmas.List.{append_assoc}
 use Rattle.sms_text.specs.Octets.{IsOctets}
 use Rattle.sms_field.specs.Inside.OctetLists.{octets_back}
-use Rattle.sms_field.specs.Field.{Field, Outcome, found, refused, IsAnswer, IsLawful}
-use Rattle.sms_field.specs.Reading.{Reads, IsReadable, IsViable}
+use Rattle.sms_field.specs.Field.{Field, Outcome, found, refused, HasReading, IsFault, IsAnswer, IsLawful}
+use Rattle.sms_field.specs.Reading.{Reads}
 use Rattle.sms_field.specs.Reading.Readable.{IsDecided, IsUnread}
 
-by_answer : {V W : Type 0} (short : W) (f : Field V W) (input : List ℕ) → IsOctets input → (o : Outcome V W) → IsAnswer short f 0 input o → IsReadable (Reads f) input ⊎ ¬ IsReadable (Reads f) input
-by_answer short f input are (found value after rest) h = inl (record { value = value; used = _; read = record { octets = h.octets; rest = rest; parts = h.parts; used_is = refl; read = h.read } })
-by_answer short f input are (refused place why) h =
-    inr (λ r. ⊎_elim {C = ⊥}
-    (λ s. s.none (record { value = r.value; octets = r.read.octets; rest = r.read.rest; parts = r.read.parts; read = r.read.read }))
-    (λ b.
+-- what is read is a reading
+pub reading_of : {V W : Type 0} (f : Field V W) (input : List ℕ) (v : V) (used : ℕ) → Reads f v input used → HasReading f input
+reading_of f input v used r = record { value = v; octets = r.octets; rest = r.rest; parts = r.parts; read = r.read }
+
+pub read_as : {V W : Type 0} (f : Field V W) (input : List ℕ) (r : HasReading f input) → Reads f r.value input (length r.octets)
+read_as f input r = record { octets = r.octets; rest = r.rest; parts = r.parts; used_is = refl; read = r.read }
+
+-- an input with a fault has no reading
+pub fault_unread : {V W : Type 0} (f : Field V W) (at : ℕ) (input : List ℕ) (place : ℕ) (why : W) → IsOctets input → IsFault f at input place why → ¬ HasReading f input
+fault_unread f at input place why are b = λ r.
     let whole : (b.front ++ b.octet ∷ []) ++ b.rest ≡ input = append_assoc b.front (b.octet ∷ []) b.rest ∙ sym b.parts in
     b.none_after (record {
       more = b.rest;
       are_octets = octets_back (b.front ++ b.octet ∷ []) b.rest (subst IsOctets (sym whole) are);
-      reading = record { value = r.value; octets = r.read.octets; rest = r.read.rest; parts = whole ∙ r.read.parts; read = r.read.read };
-    }))
-    h)
+      reading = record { value = r.value; octets = r.octets; rest = r.rest; parts = whole ∙ r.parts; read = r.read };
+    })
+
+by_answer : {V W : Type 0} (short : W) (f : Field V W) (input : List ℕ) → IsOctets input → (o : Outcome V W) → IsAnswer short f 0 input o → HasReading f input ⊎ ¬ HasReading f input
+by_answer short f input are (found value after rest) h = inl (record { value = value; octets = h.octets; rest = rest; parts = h.parts; read = h.read })
+by_answer short f input are (refused place why) h = inr (λ r. ⊎_elim {C = ⊥} (λ s. s.none r) (λ b. fault_unread f 0 input place why are b r) h)
 
 pub decided : {V W : Type 0} (short : W) (f : Field V W) → IsLawful short f → IsDecided f
 decided short f lawful input are = by_answer short f input are (f.read 0 input) (lawful.answers 0 input are)
 
--- what can be read can go on from each of its fronts
-viable_before : {V : Type 0} (reads : V → List ℕ → ℕ → Type 0) (input : List ℕ) (place : ℕ) → IsOctets input → IsReadable reads input → IsViable reads (take place input)
-viable_before reads input place are r =
-    let back : take place input ++ drop place input ≡ input = take-append-drop place input in
-    record {
-      more = drop place input;
-      are_octets = octets_back (take place input) (drop place input) (subst IsOctets (sym back) are);
-      readable = record { value = r.value; used = r.used; read = subst (λ (l : List ℕ). reads r.value l r.used) (sym back) r.read };
-    }
-
-pub unread : {V W : Type 0} (reads : V → List ℕ → ℕ → Type 0) (reason : List ℕ → ℕ → W → Type 0) (short : W) → IsUnread reads reason short
-unread reads reason short input place why are h = λ r.
-    let named : why ≡ short → ⊥ = λ is. (h.0 is).unread r in
-    (h.1 named).none_after (viable_before reads input (place + 1) are r)
+pub unread : {V W : Type 0} (f : Field V W) (short : W) → IsUnread f short
+unread f short input place why are h = λ r.
+    let named : why ≡ short → ⊥ = λ is. (h.0 is).none r in
+    fault_unread f 0 input place why are (h.1 named) r

@@ -1,12 +1,12 @@
 -- A reader may pass this by: lemmas, for the proofs of this crate and of those above it.
 --
 -- Reasons that a chain never has; and where a reason of the first octet alone is given.
-use Rattle.std.proofs.Common.{◌≡◌, ⊎_elim, ℕ, zero, suc, Bool, true, false, cond, List, [], ◌∷◌, ◌++◌, take, Result, Ok, Err, refl, sym, ap, ◌∙◌, arith}
+use Rattle.std.proofs.Common.{◌≡◌, ⊎_elim, ℕ, Bool, true, false, cond, List, [], ◌∷◌, ◌++◌, Result, Ok, Err, refl, sym, ap, subst, ◌∙◌}
 use Rattle.std.specs.Prelude.{nat_le}
-use Rattle.sms_field.specs.Field.{Field, ◌>>=◌, always, octet, octet_by, octets_of, map_reason, up_to}
+use Rattle.sms_field.specs.Field.{Field, HasReading, CanContinue, ◌>>=◌, always, octet, octet_by, octets_of, map_reason, up_to}
 use Rattle.sms_field.specs.Field.Mapped.{mapped}
 use Rattle.sms_field.specs.Field.Optional.{part_if, tagged}
-use Rattle.sms_field.specs.Reading.{Reads, IsReadable, IsViable, BreaksAt, IsRefused}
+use Rattle.sms_field.specs.Reading.{IsRefused}
 use Rattle.sms_field.specs.Reading.Reasons.{Never, StartsAs}
 use Rattle.sms_field.specs.declared.refusal.Refusal.TheVariants.{At}
 
@@ -59,57 +59,63 @@ record IsMeant {A W : Type 0} (meaning : ℕ → Result A W) (octet : ℕ) : Typ
   is : meaning octet ≡ Ok choice
 
 -- what is read has a first octet with a meaning
-first_meant : {A B W : Type 0} (short : W) (meaning : ℕ → Result A W) (second : A → Field B W) (value : B) (octet : ℕ) (input : List ℕ) (used : ℕ)
-    → Reads (octet_by short meaning >>= second) value (octet ∷ input) used → IsMeant meaning octet
-first_meant short meaning second value octet input used r =
+first_meant : {A B W : Type 0} (short : W) (meaning : ℕ → Result A W) (second : A → Field B W) (octet : ℕ) (input : List ℕ)
+    → HasReading (octet_by short meaning >>= second) (octet ∷ input) → IsMeant meaning octet
+first_meant short meaning second octet input r =
     let b = r.read in
     let e : octet ∷ input ≡ b.of_first.0 ∷ (b.back ++ r.rest) = r.parts ∙ ap (λ (l : List ℕ). l ++ r.rest) (b.parts ∙ ap (λ (l : List ℕ). l ++ b.back) b.of_first.1) in
     let same : octet ≡ b.of_first.0 = cc in
     record { choice = b.choice; is = ap meaning same ∙ b.of_first.2 }
 
 -- a first octet that is refused is not read
-pub starts_apart : {A B W : Type 0} (short why : W) (meaning : ℕ → Result A W) (second : A → Field B W) (input : List ℕ) → StartsAs meaning why input → ¬ IsReadable (Reads (octet_by short meaning >>= second)) input
+pub starts_apart : {A B W : Type 0} (short why : W) (meaning : ℕ → Result A W) (second : A → Field B W) (input : List ℕ) → StartsAs meaning why input → ¬ HasReading (octet_by short meaning >>= second) input
 starts_apart short why meaning second [] s = λ r. s
 starts_apart short why meaning second (o ∷ input) s = λ r.
-    let m = first_meant short meaning second r.value o input r.used r.read in
+    let m = first_meant short meaning second o input r in
     let e : Err why ≡ Ok m.choice = sym s ∙ m.is in
     absurd cc
 
-viable_meant : {A B W : Type 0} (short : W) (meaning : ℕ → Result A W) (second : A → Field B W) (octet : ℕ) (input : List ℕ) → IsViable (Reads (octet_by short meaning >>= second)) (octet ∷ input) → IsMeant meaning octet
-viable_meant short meaning second octet input v = first_meant short meaning second v.readable.value octet (input ++ v.more) v.readable.used v.readable.read
+continued_meant : {A B W : Type 0} (short : W) (meaning : ℕ → Result A W) (second : A → Field B W) (octet : ℕ) (input : List ℕ) → CanContinue (octet_by short meaning >>= second) (octet ∷ input) → IsMeant meaning octet
+continued_meant short meaning second octet input v = first_meant short meaning second octet (input ++ v.more) v.reading
+
+none_continues : {A B W : Type 0} (short why : W) (meaning : ℕ → Result A W) (second : A → Field B W) (input : List ℕ) → StartsAs meaning why input → ¬ CanContinue (octet_by short meaning >>= second) input
+none_continues short why meaning second [] s = λ v. s
+none_continues short why meaning second (o ∷ input) s = λ v.
+    let m = continued_meant short meaning second o input v in
+    let e : Err why ≡ Ok m.choice = sym s ∙ m.is in
+    absurd cc
 
 -- a reason that only the first octet has
-starts_at : {A B W : Type 0} (short why : W) (meaning : ℕ → Result A W) (second : A → Field B W) (input : List ℕ) (place : ℕ) → ((a : A) → Never why (second a))
-    → BreaksAt (Reads (octet_by short meaning >>= second)) (octet_by short meaning >>= second).reason input place why → StartsAs meaning why input
-starts_at short why meaning second [] place never b = absurd (omega (arith, b.inside))
-starts_at {A} {B} {W} short why meaning second (o ∷ input) zero never b =
-    ⊎_elim {C = StartsAs meaning why (o ∷ input)} (λ r. r.reason) (λ r. absurd (never r.reading.value r.reading.rest o r.reason)) b.because
-starts_at short why meaning second (o ∷ input) (suc place) never b =
-    let m = viable_meant short meaning second o (take place input) b.before in
-    ⊎_elim {C = StartsAs meaning why (o ∷ input)}
-    (λ r. absurd (r.none (record { value = m.choice; octets = o ∷ []; rest = take place input; parts = refl; read = (o, refl, m.is) })))
-    (λ r. absurd (never r.reading.value r.reading.rest _ r.reason)) b.because
+starts_at : {A B W : Type 0} (short why : W) (meaning : ℕ → Result A W) (second : A → Field B W) (front : List ℕ) (octet : ℕ) (rest : List ℕ) → ((a : A) → Never why (second a))
+    → CanContinue (octet_by short meaning >>= second) front → (octet_by short meaning >>= second).reason front octet why → StartsAs meaning why (front ++ octet ∷ rest)
+starts_at short why meaning second [] octet rest never before because =
+    ⊎_elim {C = StartsAs meaning why (octet ∷ rest)} (λ r. r.reason) (λ r. absurd (never r.reading.value r.reading.rest octet r.reason)) because
+starts_at short why meaning second (o ∷ front) octet rest never before because =
+    let m = continued_meant short meaning second o front before in
+    ⊎_elim {C = StartsAs meaning why (o ∷ (front ++ octet ∷ rest))}
+    (λ r. absurd (r.none (record { value = m.choice; octets = o ∷ []; rest = front; parts = refl; read = (o, refl, m.is) })))
+    (λ r. absurd (never r.reading.value r.reading.rest octet r.reason)) because
 
 pub starts_as : {A B W : Type 0} (short why : W) (meaning : ℕ → Result A W) (second : A → Field B W) (input : List ℕ) (place : ℕ) → (why ≡ short → ⊥) → ((a : A) → Never why (second a))
-    → IsRefused (Reads (octet_by short meaning >>= second)) (octet_by short meaning >>= second).reason short input (At place why) → StartsAs meaning why input
-starts_as short why meaning second input place apart never h = starts_at short why meaning second input place never (h.1 apart)
+    → IsRefused (octet_by short meaning >>= second) short input (At place why) → StartsAs meaning why input
+starts_as short why meaning second input place apart never h =
+    let b = h.1 apart in
+    subst (StartsAs meaning why) (sym b.parts) (starts_at short why meaning second b.front b.octet b.rest never b.before b.reason)
 
 -- where the first octet has no meaning, that is the reason
-no_other_at : {A B W : Type 0} (short why other : W) (meaning : ℕ → Result A W) (second : A → Field B W) (o : ℕ) (input : List ℕ) (place : ℕ) → meaning o ≡ Err why → (other ≡ why → ⊥)
-    → BreaksAt (Reads (octet_by short meaning >>= second)) (octet_by short meaning >>= second).reason (o ∷ input) place other → ⊥
-no_other_at short why other meaning second o input zero s n b =
+no_other_at : {A B W : Type 0} (short why other : W) (meaning : ℕ → Result A W) (second : A → Field B W) (front : List ℕ) (octet : ℕ) (rest : List ℕ) → StartsAs meaning why (front ++ octet ∷ rest) → (other ≡ why → ⊥)
+    → CanContinue (octet_by short meaning >>= second) front → (octet_by short meaning >>= second).reason front octet other → ⊥
+no_other_at short why other meaning second [] octet rest s n before because =
     ⊎_elim {C = ⊥} (λ r. n (let e : Err other ≡ Err why = sym r.reason ∙ s in cc))
-    (λ r. let h = r.reading in let e : [] ≡ h.read.0 ∷ h.rest = h.parts ∙ ap (λ (l : List ℕ). l ++ h.rest) h.read.1 in absurd cc) b.because
-no_other_at short why other meaning second o input (suc place) s n b =
-    let m = viable_meant short meaning second o (take place input) b.before in
+    (λ r. let h = r.reading in let e : [] ≡ h.read.0 ∷ h.rest = h.parts ∙ ap (λ (l : List ℕ). l ++ h.rest) h.read.1 in absurd cc) because
+no_other_at short why other meaning second (o ∷ front) octet rest s n before because =
+    let m = continued_meant short meaning second o front before in
     let e : Err why ≡ Ok m.choice = sym s ∙ m.is in
     absurd cc
 
 pub no_other : {A B W : Type 0} (short why other : W) (meaning : ℕ → Result A W) (second : A → Field B W) (input : List ℕ) (place : ℕ) → (other ≡ why → ⊥)
-    → IsRefused (Reads (octet_by short meaning >>= second)) (octet_by short meaning >>= second).reason short input (At place other) → ¬ StartsAs meaning why input
-no_other short why other meaning second [] place n h = λ s. s
-no_other {A} {B} {W} short why other meaning second (o ∷ input) place n h = λ s.
-    let named : other ≡ short → ⊥ = λ is.
-    (let m = viable_meant short meaning second o input (h.0 is).viable in
-    let e : Err why ≡ Ok m.choice = sym s ∙ m.is in absurd cc) in
-    no_other_at short why other meaning second o input place s n (h.1 named)
+    → IsRefused (octet_by short meaning >>= second) short input (At place other) → ¬ StartsAs meaning why input
+no_other short why other meaning second input place n h = λ s.
+    let named : other ≡ short → ⊥ = λ is. none_continues short why meaning second input s (h.0 is).some in
+    let b = h.1 named in
+    no_other_at short why other meaning second b.front b.octet b.rest (subst (StartsAs meaning why) b.parts s) n b.before b.reason

@@ -6,10 +6,6 @@ use Rattle.sms_field.specs.declared.refusal.Refusal.TheVariants.{Memory, At}
 use Rattle.sms_field.specs.Field.{Field}
 use Rattle.sms_field.specs.Reading.{Reads, IsRefused}
 
--- refused as the field says, or for want of memory
-abbrev pub IsRefusedBy : {V W : Type 0} → Field V W → W → List ℕ → Refusal W → Type 0
-IsRefusedBy field short input refusal = IsRefused (Reads field) field.reason short input refusal
-
 -- an input that has a reading is read as it, or refused for want of memory
 abbrev pub ReadsExactly : {V W : Type 0} → Field V W → List ℕ → Result (V × ℕ) (Refusal W) → Type 0
 ReadsExactly {V} field input result =
@@ -20,8 +16,7 @@ ReadsExactly {V} field input result =
 
 -- refused as the field says
 abbrev pub IsFaultOf : {V W : Type 0} → Field V W → W → List ℕ → Fault W → Type 0
-IsFaultOf field short input fault =
-    IsRefused (Reads field) field.reason short input (At fault.place fault.why)
+IsFaultOf field short input fault = IsRefused field short input (At fault.place fault.why)
 
 -- an input that has a reading is read as it
 abbrev pub SeesExactly : {X V W : Type 0} → (X → V) → Field V W → List ℕ → Result (X × ℕ) (Fault W)

@@ -1,5 +1,5 @@
 -- A reader may pass this by: contracts of private functions, and proofs, alone cite it.
-use Rattle.std.specs.Prelude.{◌≡◌, ℕ, zero, suc, ◌+◌, ◌≤◌, List, ◌∷◌, length, slice_range}
+use Rattle.std.specs.Prelude.{◌≡◌, ℕ, zero, suc, ◌+◌, ◌≤◌, List, [], ◌∷◌, length, slice_range}
 use Rattle.sms_join.specs.declared.units.Units.{Units}
 use Rattle.sms_join.specs.declared.segment.Segment.{Segment}
 use Rattle.sms_join.specs.UnitsOfText.{numbers, alphabet_in, units_in}

@@ -1,5 +1,5 @@
 -- A reader may pass this by: contracts of private functions, and proofs, alone cite it.
-use Rattle.std.specs.Prelude.{◌≡◌, ℕ, ◌+◌, ◌%◌, Bool, true, false, if◌then◌else◌, ◌==◌, nat_lt, List, ◌∷◌, ◌++◌, length, map, drop, Option, option_to_list, Some, None, unwrap_or, Result, Ok, Err, slice_get}
+use Rattle.std.specs.Prelude.{◌≡◌, ℕ, ◌+◌, ◌%◌, Bool, true, false, if◌then◌else◌, ◌==◌, nat_lt, List, [], ◌∷◌, ◌++◌, length, map, drop, Option, option_to_list, Some, None, unwrap_or, Result, Ok, Err, slice_get}
 use Rattle.std.specs.Global.{Global}
 use Rattle.std.proofs.Common.{Vec}
 use Rattle.sms_field.specs.Address.Value.{AddressValue}

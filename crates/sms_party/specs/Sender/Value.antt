@@ -1,5 +1,5 @@
 -- What the code of a sender holds, and what a call makes of it.
-use Rattle.std.specs.Prelude.{ℕ, Bool, List, ◌∷◌, ◌++◌, zero, suc, Option, Some, None}
+use Rattle.std.specs.Prelude.{ℕ, Bool, List, [], ◌∷◌, ◌++◌, zero, suc, Option, Some, None}
 use Rattle.sms_field.specs.Address.Value.{AddressValue}
 use Rattle.sms_tpdu.specs.declared.user_data.concat.Width.{Width}
 use Rattle.sms_join.specs.declared.segment.Segment.{Segment}

@@ -22,7 +22,7 @@ abbrev pub IsReadAs : List ℕ → Inner → Type 0
 IsReadAs octets Empty = ⊥
 IsReadAs octets (Relay message) = (used : ℕ) × Reads rp_message message octets used
 IsReadAs octets (Bad place why) =
-    IsRefused (Reads rp_message) rp_message.reason Short octets (At place why)
+    IsRefused rp_message Short octets (At place why)
 
 -- CP-ACK and CP-ERROR hold nothing
 abbrev pub Holds : CpBody → Inner → Type 0

@@ -59,7 +59,7 @@ pub tells_unknown_types : TellsUnknownTypes
 unfolding rp_message
 tells_unknown_types = record {
   unknown = λ octets place h. starts_as Short UnknownType rp_type _ octets place (λ e. cc) (λ named. never_chain _ _ _ (λ f o h. h) (λ reference. never_body named.kind named.side)) h;
-  bad = λ octets place why are n h. (unread _ _ Short octets place why are h, no_other Short UnknownType why rp_type _ octets place n h);
+  bad = λ octets place why are n h. (unread _ Short octets place why are h, no_other Short UnknownType why rp_type _ octets place n h);
   unread = λ octets s. starts_apart Short UnknownType rp_type _ octets s;
 }
 

@@ -42,7 +42,7 @@ use Rattle.sms_tpdu.specs.declared.fault.UnitFault.TheVariants.{Short, WrongType
 tells_by : {F V : Type 0} (first : ℕ → Result F UnitFault) (second : F → Field V UnitFault) → ((flags : F) → Never WrongType (second flags)) → TellsOtherTypes (octet_by Short first >>= second) first
 tells_by first second never = record {
   other = λ octets place h. starts_as Short WrongType first second octets place (λ e. cc) never h;
-  bad = λ octets place why are n h. (unread _ _ Short octets place why are h, no_other Short WrongType why first second octets place n h);
+  bad = λ octets place why are n h. (unread _ Short octets place why are h, no_other Short WrongType why first second octets place n h);
   unread = λ octets s. starts_apart Short WrongType first second octets s;
 }
 

@@ -37,7 +37,7 @@ impl<'a> Model for HeaderView<'a> {
 
 impl<'a> HeaderView<'a> {
     /// The header of these octets, which are those after the length octet.
-    #[tactic(auto, using(sms_field::specs::OctetLists::octets_are))]
+    #[tactic(auto, using(sms_field::specs::Inside::OctetLists::octets_are))]
     pub fn new(octets: &'a [u8]) -> HeaderView<'a>
         requires { length octets.now ≤ 139 }
         ensures { result ≡ octets.now }
