@@ -27,7 +27,7 @@ use Rattle.sms_party.specs.Sender.Texts.{size_of}
 use Rattle.sms_join.specs.Joiner.Aging.{SetsStayFew}
 use Rattle.sms_world.specs.Machine.Next.{of_centre, Next, next, stays, by_sender, by_centre, by_receiver, comes, comes_to_phone, carries, packet, ticked, pushed, phone_of, receiver_limits}
 use Rattle.sms_world.specs.Machine.{Machine, start}
-use Rattle.sms_world.specs.Machine.Event.{Event, Act, Composes, Carries, TimesOut, Pushes, Ticks, Injects}
+use Rattle.sms_world.specs.Machine.Event.{Event, Act, TypesText, MovesPacket, EndsWait, HandsOver, MovesClock, SlipsIn}
 use Rattle.sms_world.specs.Machine.Step.{Acts, RunWith}
 use Rattle.sms_world.proofs.Growing.{changed_each}
 
@@ -107,14 +107,14 @@ module _ (law : SetsStayFew) where
 
   next_bounded : (m : Machine) (act : Act) → Bounded m → Bounded (next m act).after
   unfolding next by_sender by_centre pushed of_centre ticked ages
-  next_bounded m (Composes phone target characters pieces) h =
+  next_bounded m (TypesText phone target characters pieces) h =
       cond_both (ltb phone (length m.phones)) _ _ (λ (r : Next). Bounded r.after) (λ _. h) (λ _. stays_bounded m _ h)
-  next_bounded m (Carries k) h = carries_bounded m (packet m k) h
-  next_bounded m (TimesOut phone) h =
+  next_bounded m (MovesPacket k) h = carries_bounded m (packet m k) h
+  next_bounded m (EndsWait phone) h =
       cond_both (ltb phone (length m.phones)) _ _ (λ (r : Next). Bounded r.after) (λ _. h) (λ _. stays_bounded m _ h)
-  next_bounded m (Pushes phone) h =
+  next_bounded m (HandsOver phone) h =
       cond_both (ltb phone (length m.phones)) _ _ (λ (r : Next). Bounded r.after) (λ _. h) (λ _. stays_bounded m _ h)
-  next_bounded m (Ticks seconds) h =
+  next_bounded m (MovesClock seconds) h =
       cond_both (ltb (m.clock + seconds) end_of_2099) _ _ (λ (r : Next). Bounded r.after) (λ _ p. older p) (λ _. stays_bounded m _ h)
     where
       older : (p : ℕ) → IsBounded (receiver_limits m.limits) (ages (λ n. size_of (nth m.senders.texts n)) (m.clock + seconds) (m.receiver p))
@@ -122,7 +122,7 @@ module _ (law : SetsStayFew) where
           let f = law.1 (m.clock + seconds) (m.receiver p).joiner in
           let k' = (h p).sets in
           record { store = (h p).store; sets = omega arith }
-  next_bounded m (Injects place message) h =
+  next_bounded m (SlipsIn place message) h =
       cond_both (ltb (phone_of place) (length m.phones)) _ _ (λ (r : Next). Bounded r.after) (λ _. comes_bounded m place message None None h) (λ _. stays_bounded m _ h)
 
   acts_bounded : (m : Machine) (act : Act) (told : Told) (put : List Sent) (n : Machine) → Bounded m → Acts m act told put n → Bounded n

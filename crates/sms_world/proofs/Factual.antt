@@ -25,7 +25,7 @@ use Rattle.sms_world.specs.Told.{Told, of_party}
 use Rattle.sms_world.specs.Ledger.{TextNote, note_of}
 use Rattle.sms_world.specs.Noted.{Facts, AreFacts}
 use Rattle.sms_world.specs.Machine.{Machine}
-use Rattle.sms_world.specs.Machine.Event.{Event, Compose, Carry, Timeout, Push, Tick, Inject, Act, Composes}
+use Rattle.sms_world.specs.Machine.Event.{Event, Compose, Carry, Timeout, Push, Tick, Inject, Act, TypesText}
 use Rattle.sms_world.specs.Machine.Next.{Next, next, stays, by_sender, packet}
 use Rattle.sms_world.specs.Machine.Step.{Acts, Step}
 use Rattle.sms_world.specs.World.Asked.{newest_at, FactsAreTold}
@@ -122,7 +122,7 @@ module _ (m : Machine) (phone : ℕ) (target : AddressValue) where
       (λ _. cond_both (ltb 255 (length pieces)) _ _ (λ (d : Sends SenderState). WasTyped (by_sender m d)) (λ _ number t before e s. cc)
       (λ _. typed_so (new_text m.senders.wide m.senders.texts phone target characters pieces) refl refl))
 
-  next_so : (characters : List ℕ) (pieces : List Units) → WasTyped (next m (Composes phone target characters pieces))
+  next_so : (characters : List ℕ) (pieces : List Units) → WasTyped (next m (TypesText phone target characters pieces))
   unfolding next
   next_so characters pieces = cond_both (ltb phone (length m.phones)) _ _ WasTyped (λ _. composes_so characters pieces) (λ _. stays_untyped)
 

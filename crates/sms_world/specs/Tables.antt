@@ -1,5 +1,5 @@
 -- The tables of what is noted, as contracts see them, and what they say.
-use Rattle.std.specs.Prelude.{ℕ, List, Option, Some, None, slice_get}
+use Rattle.std.specs.Prelude.{ℕ, List, [], Option, Some, None, slice_get}
 use Rattle.std.specs.Map.{lookup}
 use Rattle.std.specs.Option.{option_map}
 use Rattle.sms_world.specs.declared.notes.mark.Part.{Part}

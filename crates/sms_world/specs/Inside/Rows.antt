@@ -5,7 +5,7 @@ use Rattle.std.specs.Prelude.{Bool, true, ◌&&◌, List, [], ◌∷◌}
 use Rattle.sms_world.specs.Told.{Told}
 use Rattle.sms_world.specs.Machine.{Machine}
 use Rattle.sms_party.specs.Sender.Texts.{width_of}
-use Rattle.sms_world.specs.Machine.Event.{Event, Act, Carries, Is}
+use Rattle.sms_world.specs.Machine.Event.{Event, Act, MovesPacket, IsMetAs}
 use Rattle.sms_world.specs.Machine.Next.{next, packet}
 use Rattle.sms_world.specs.OrderTests.{sent_in_order}
 
@@ -20,14 +20,14 @@ answers_after m (e ∷ es) = (next m e).answer ∷ answers_after (next m e).afte
 -- what comes keeps all rules
 abbrev pub all_orderly : Machine → List Act → Bool
 all_orderly m [] = true
-all_orderly m (Carries k ∷ es) =
-    sent_in_order m (packet m k) && all_orderly (next m (Carries k)).after es
+all_orderly m (MovesPacket k ∷ es) =
+    sent_in_order m (packet m k) && all_orderly (next m (MovesPacket k)).after es
 all_orderly m (e ∷ es) = all_orderly (next m e).after es
 
 -- Each event is the act beside it, in the machine as it is when the event comes.
 abbrev pub AreActs : Machine → List (Event × Act) → Type 0
 AreActs m [] = Unit {0}
-AreActs m (e ∷ es) = Is (width_of m.senders.wide) e.0 e.1 × AreActs (next m e.1).after es
+AreActs m (e ∷ es) = IsMetAs (width_of m.senders.wide) e.0 e.1 × AreActs (next m e.1).after es
 
 -- these events with what is answered to each, the newest first, after those before
 abbrev pub told_after : Machine → List (Event × Act) → List (Event × Told) → List (Event × Told)

@@ -1,5 +1,5 @@
 -- What a world can be asked for besides, so that what happens in it can be noted.
-use Rattle.std.specs.Prelude.{◌≡◌, ℕ, List, ◌∷◌, ◌++◌, length, Option, Some, None, slice_get}
+use Rattle.std.specs.Prelude.{◌≡◌, ℕ, List, [], ◌∷◌, ◌++◌, length, Option, Some, None, slice_get}
 use Rattle.sms_centre.specs.Centre.Latest.{latest_at}
 use Rattle.sms_centre.specs.Centre.Value.{LineValue}
 use Rattle.sms_centre.specs.Centre.State.{Pushing}

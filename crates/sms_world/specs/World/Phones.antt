@@ -1,5 +1,5 @@
 -- Lists of phones, as the code has them.
-use Rattle.std.specs.Prelude.{ℕ, List, Option, Some, None, slice_get}
+use Rattle.std.specs.Prelude.{ℕ, List, [], Option, Some, None, slice_get}
 use Rattle.sms_party.specs.Receiver.State.{Entry}
 use Rattle.sms_party.specs.Phone.{PhoneValue}
 use Rattle.sms_party.specs.Sender.Value.{statuses_in}
