@@ -1,5 +1,14 @@
 -- What it means to read: for a relation `reads value input used`, by which the first octets of an
 -- input, `used` of them, are read as a value.
+pub mod Answer
+pub mod Lies
+pub mod OneRefusal
+pub mod Readable
+pub mod Reasons
+pub mod Spot
+pub mod Values
+pub mod WholeAnswer
+pub mod Written
 use Rattle.std.specs.Prelude.{◌≡◌, ℕ, ◌+◌, ◌<◌, List, ◌++◌, length, take, slice_index}
 use Rattle.sms_field.specs.declared.refusal.Refusal.{Refusal}
 use Rattle.sms_field.specs.declared.refusal.Refusal.TheVariants.{Memory, At}

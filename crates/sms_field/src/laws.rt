@@ -1,19 +1,19 @@
 //! What follows from the definitions alone. Each function is empty: its contract is the law.
 
 ghost use Rattle.std.specs.Prelude.{◌≡◌};
-ghost use Rattle.sms_field.specs.NamePacking.{NamesArePacked, OnlyNamesArePacked};
+ghost use Rattle.sms_field.specs.Address.NamePacking.{NamesArePacked, OnlyNamesArePacked};
 ghost use Rattle.sms_field.specs.Address.{address};
-ghost use Rattle.sms_field.specs.AddressValue.{HasSpelling};
-ghost use Rattle.sms_field.specs.OneRefusal.{HasOneRefusal};
+ghost use Rattle.sms_field.specs.Address.Value.{HasSpelling};
+ghost use Rattle.sms_field.specs.Reading.OneRefusal.{HasOneRefusal};
 ghost use Rattle.sms_field.specs.RelayAddress.{relay_address};
-ghost use Rattle.sms_field.specs.RelayAddressValue.{HasOptionalSpelling};
+ghost use Rattle.sms_field.specs.RelayAddress.Value.{HasOptionalSpelling};
 ghost use Rattle.sms_field.specs.declared.fault.FieldFault.TheVariants.{Short};
-ghost use Rattle.sms_field.specs.Readable.{HasOneReading, IsDecided, IsUnread};
+ghost use Rattle.sms_field.specs.Reading.Readable.{HasOneReading, IsDecided, IsUnread};
 ghost use Rattle.sms_field.specs.Reading.{Reads};
-ghost use Rattle.sms_field.specs.ReadValues.{Has, ChainHas};
-ghost use Rattle.sms_field.specs.Reasons.{ChainNever};
-ghost use Rattle.sms_field.specs.SameAddress.{SameIsEqual, SameIsReflexive, SameIsSymmetric, SameIsTransitive};
-ghost use Rattle.sms_field.specs.Times.{end_of_2099, StampIsOne, StampIsThere, MomentIsOne, MomentIsThere, EndIsOne, MomentComesBack, MomentComesBackOfZone0};
+ghost use Rattle.sms_field.specs.Reading.Values.{Has, ChainHas};
+ghost use Rattle.sms_field.specs.Reading.Reasons.{ChainNever};
+ghost use Rattle.sms_field.specs.Address.Same.{SameIsEqual, SameIsReflexive, SameIsSymmetric, SameIsTransitive};
+ghost use Rattle.sms_field.specs.Time.Computed.{end_of_2099, StampIsOne, StampIsThere, MomentIsOne, MomentIsThere, EndIsOne, MomentComesBack, MomentComesBackOfZone0};
 
 use crate::chain::Chain;
 use crate::moment::END_OF_2099;

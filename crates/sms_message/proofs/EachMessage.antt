@@ -4,10 +4,10 @@ use Rattle.sms_text.specs.Octets.{IsOctets}
 use Rattle.sms_field.specs.Reading.{Reads}
 use Rattle.sms_tpdu.specs.Submit.{submit}
 use Rattle.sms_tpdu.specs.Submit.Flags.{submit_flags}
-use Rattle.sms_tpdu.specs.Submit.Laws.{submit_lawful}
+use Rattle.sms_tpdu.specs.Inside.SubmitLaws.{submit_lawful}
 use Rattle.sms_tpdu.specs.Deliver.{deliver}
 use Rattle.sms_tpdu.specs.Deliver.Flags.{deliver_flags}
-use Rattle.sms_tpdu.specs.Deliver.Laws.{deliver_lawful}
+use Rattle.sms_tpdu.specs.Inside.DeliverLaws.{deliver_lawful}
 use Rattle.sms_tpdu.specs.Report.SubmitAck.{submit_ack}
 use Rattle.sms_tpdu.specs.Report.SubmitAckLaws.{submit_ack_lawful}
 use Rattle.sms_tpdu.specs.Report.SubmitError.{submit_error}
@@ -19,10 +19,10 @@ use Rattle.sms_tpdu.specs.Report.DeliverErrorLaws.{deliver_error_lawful}
 use Rattle.sms_tpdu.specs.declared.fault.UnitFault.{UnitFault}
 use Rattle.sms_tpdu.specs.declared.fault.UnitFault.TheVariants as unit
 use Rattle.sms_relay.specs.Cp.{cp_message}
-use Rattle.sms_relay.specs.CpLaws.{cp_laws}
-use Rattle.sms_relay.specs.RpKind.{rp_type}
+use Rattle.sms_relay.specs.Inside.CpLaws.{cp_laws}
+use Rattle.sms_relay.specs.Rp.Kind.{rp_type}
 use Rattle.sms_relay.specs.Rp.{rp_message}
-use Rattle.sms_relay.specs.RpLaws.{rp_laws}
+use Rattle.sms_relay.specs.Inside.RpLaws.{rp_laws}
 use Rattle.sms_relay.specs.declared.side.Side.{Side}
 use Rattle.sms_relay.specs.declared.side.Side.TheVariants.{FromPhone, ToPhone}
 use Rattle.sms_relay.specs.declared.cp.CpBody.{CpBody}
@@ -40,14 +40,14 @@ use Rattle.sms_message.specs.declared.message.Relay.{Relay}
 use Rattle.sms_message.specs.declared.message.Relay.TheVariants.{Transfer, Answer, UnknownType, Unreadable}
 use Rattle.sms_message.specs.declared.message.Message.{Message}
 use Rattle.sms_message.specs.declared.message.Message.TheVariants.{NotCp, Note, Tiny, Data}
-use Rattle.sms_field.specs.Reasons.{StartsAs}
-use Rattle.sms_field.specs.ReadValues.{AreOptionalOctets}
+use Rattle.sms_field.specs.Reading.Reasons.{StartsAs}
+use Rattle.sms_field.specs.Reading.Values.{AreOptionalOctets}
 use Rattle.sms_message.specs.Message.Reading.{ReadsUnit, ReadsReport, ReadsRelay, ReadsAs}
 use Rattle.sms_message.specs.Message.Laws.{EachIsRead}
-use Rattle.sms_relay.specs.TypeLaws.{reference_is}
-use Rattle.sms_field.specs.ReadableLaws.{decided}
+use Rattle.sms_relay.specs.Inside.TypeLaws.{reference_is}
+use Rattle.sms_field.specs.Inside.ReadableLaws.{decided}
 use Rattle.sms_relay.specs.ReadOctets.{HasCpOctets, HasRpOctets}
-use Rattle.sms_relay.specs.ReadOctetLaws.{cp_octets_are, rp_octets_are}
+use Rattle.sms_relay.specs.Inside.ReadOctetLaws.{cp_octets_are, rp_octets_are}
 
 -- an octet has a meaning or is refused; whether for this reason
 starts_by : {V : Type 0} (r : Result V UnitFault) → (r ≡ Err unit.WrongType) ⊎ (r ≡ Err unit.WrongType → ⊥)

@@ -2,16 +2,16 @@
 use Rattle.std.proofs.Common.{◌≡◌, ℕ, ◌<◌, ◌≤◌, get_or, Bool, List, [], ◌∷◌, length, Option, Some, None, refl, sym, ap, ◌∙◌, subst, arith}
 use Rattle.sms_text.specs.Octets.{IsOctets}
 use Rattle.sms_field.specs.Reading.{Reads, IsReadable}
-use Rattle.sms_field.specs.ReadableLaws.{unread}
+use Rattle.sms_field.specs.Inside.ReadableLaws.{unread}
 use Rattle.sms_relay.specs.Cp.{cp_message}
-use Rattle.sms_relay.specs.CpValue.{CpValue}
+use Rattle.sms_relay.specs.Cp.Value.{CpValue}
 use Rattle.sms_relay.specs.Rp.{rp_message}
-use Rattle.sms_relay.specs.RpValue.{RpValue}
+use Rattle.sms_relay.specs.Rp.Value.{RpValue}
 use Rattle.sms_relay.specs.Carried.{in_transaction}
-use Rattle.sms_relay.specs.CpSeen.{seen_cp_body}
+use Rattle.sms_relay.specs.Cp.Seen.{seen_cp_body}
 use Rattle.sms_relay.specs.declared.cp.view.CpBodyView.{CpBodyView}
 use Rattle.sms_relay.specs.declared.cp.view.CpBodyView.TheVariants as seen
-use Rattle.sms_relay.specs.Unwrapped.{IsReadAs, Holds}
+use Rattle.sms_relay.specs.Carried.Unwrapped.{IsReadAs, Holds}
 use Rattle.sms_relay.specs.declared.side.Side.{Side}
 use Rattle.sms_relay.specs.declared.cp.CpBody.{CpBody}
 use Rattle.sms_relay.specs.declared.cp.CpBody.TheVariants as cp

@@ -2,14 +2,14 @@
 use Rattle.std.proofs.Common.{◌≡◌, ℕ, ◌<◌, Bool, List, [], ◌∷◌, length, Option, Some, None, refl, sym, ap, ◌∙◌, subst, arith}
 use Rattle.sms_text.specs.Octets.{IsOctets}
 use Rattle.sms_field.specs.Reading.{Reads, IsReadable}
-use Rattle.sms_field.specs.ReadingLaws.{one_reading}
-use Rattle.sms_field.specs.ReasonLaws.{starts_apart}
-use Rattle.sms_tpdu.specs.RefusalLaws.{submit_tells, deliver_tells}
-use Rattle.sms_field.specs.RelayAddressValue.{RelayAddressValue}
+use Rattle.sms_field.specs.Inside.ReadingLaws.{one_reading}
+use Rattle.sms_field.specs.Inside.ReasonLaws.{starts_apart}
+use Rattle.sms_tpdu.specs.Inside.RefusalLaws.{submit_tells, deliver_tells}
+use Rattle.sms_field.specs.RelayAddress.Value.{RelayAddressValue}
 use Rattle.sms_tpdu.specs.Submit.{submit}
-use Rattle.sms_tpdu.specs.Submit.Laws.{submit_lawful}
+use Rattle.sms_tpdu.specs.Inside.SubmitLaws.{submit_lawful}
 use Rattle.sms_tpdu.specs.Deliver.{deliver}
-use Rattle.sms_tpdu.specs.Deliver.Laws.{deliver_lawful}
+use Rattle.sms_tpdu.specs.Inside.DeliverLaws.{deliver_lawful}
 use Rattle.sms_tpdu.specs.Report.SubmitAck.{submit_ack}
 use Rattle.sms_tpdu.specs.Report.SubmitAckLaws.{submit_ack_lawful}
 use Rattle.sms_tpdu.specs.Report.SubmitError.{submit_error}
@@ -19,13 +19,13 @@ use Rattle.sms_tpdu.specs.Report.DeliverAckLaws.{deliver_ack_lawful}
 use Rattle.sms_tpdu.specs.Report.DeliverError.{deliver_error}
 use Rattle.sms_tpdu.specs.Report.DeliverErrorLaws.{deliver_error_lawful}
 use Rattle.sms_tpdu.specs.declared.fault.UnitFault.TheVariants as unit
-use Rattle.sms_relay.specs.CpValue.{CpValue}
+use Rattle.sms_relay.specs.Cp.Value.{CpValue}
 use Rattle.sms_relay.specs.Cp.{cp_message}
-use Rattle.sms_relay.specs.CpLaws.{cp_laws}
-use Rattle.sms_relay.specs.RpValue.{RpValue}
-use Rattle.sms_relay.specs.RpKind.{rp_type}
+use Rattle.sms_relay.specs.Inside.CpLaws.{cp_laws}
+use Rattle.sms_relay.specs.Rp.Value.{RpValue}
+use Rattle.sms_relay.specs.Rp.Kind.{rp_type}
 use Rattle.sms_relay.specs.Rp.{rp_message}
-use Rattle.sms_relay.specs.RpLaws.{rp_laws}
+use Rattle.sms_relay.specs.Inside.RpLaws.{rp_laws}
 use Rattle.sms_relay.specs.Carried.{in_transaction}
 use Rattle.sms_relay.specs.declared.side.Side.{Side}
 use Rattle.sms_relay.specs.declared.side.Side.TheVariants.{FromPhone, ToPhone}
@@ -42,7 +42,7 @@ use Rattle.sms_message.specs.declared.message.Relay.TheVariants.{Transfer, Answe
 use Rattle.sms_message.specs.declared.message.Tag.{Tag}
 use Rattle.sms_message.specs.declared.message.Message.{Message}
 use Rattle.sms_message.specs.declared.message.Message.TheVariants.{NotCp, Note, Tiny, Data}
-use Rattle.sms_field.specs.Reasons.{StartsAs}
+use Rattle.sms_field.specs.Reading.Reasons.{StartsAs}
 use Rattle.sms_message.specs.Message.Reading.{ReadsUnit, ReadsSomeReport, ReadsReport, answer_body, ReadsTransfer, ReadsAnswer, ReadsRelay, IsSecond, IsNote, ReadsData, ReadsAs}
 use Rattle.sms_message.specs.Message.Laws.{OneMessageIsRead}
 

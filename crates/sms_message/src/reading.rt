@@ -4,11 +4,11 @@ ghost use Rattle.std.specs.Prelude.{◌≡◌, ◌<◌, ℕ, List, ◌∷◌, Op
 ghost use Rattle.sms_text.specs.Octets.{IsOctets};
 ghost use Rattle.sms_field.specs.Reading.{Reads, IsReadable};
 ghost use Rattle.sms_relay.specs.Rp.{rp_message};
-ghost use Rattle.sms_relay.specs.Unwrapped.{IsReadAs};
+ghost use Rattle.sms_relay.specs.Carried.Unwrapped.{IsReadAs};
 ghost use Rattle.sms_relay.specs.declared.side.Side.TheVariants.{FromPhone, ToPhone};
 ghost use Rattle.sms_message.specs.declared.message.Report.{Report};
 ghost use Rattle.sms_message.specs.declared.message.Relay.TheVariants.{Answer};
-ghost use Rattle.sms_field.specs.ReadValues.{AreOptionalOctets};
+ghost use Rattle.sms_field.specs.Reading.Values.{AreOptionalOctets};
 ghost use Rattle.sms_message.specs.Message.Reading.{ReadsAs, ReadsUnit, ReadsSomeReport, ReadsReport, ReadsRelay, IsLongData, HasTag};
 ghost use Rattle.sms_message.specs.declared.outcome.Dropped.TheVariants.{Memory};
 

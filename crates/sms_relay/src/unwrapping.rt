@@ -2,10 +2,10 @@
 
 ghost use Rattle.std.specs.Prelude.{ℕ, IfOk, IfErr};
 ghost use Rattle.sms_field.specs.Reading.{Reads};
-ghost use Rattle.sms_field.specs.WholeAnswer.{IsRefusedBy, IsFaultOf};
+ghost use Rattle.sms_field.specs.Reading.WholeAnswer.{IsRefusedBy, IsFaultOf};
 ghost use Rattle.sms_relay.specs.Cp.{cp_message};
-ghost use Rattle.sms_relay.specs.InnerSeen.{seen_inner};
-ghost use Rattle.sms_relay.specs.Unwrapped.{IsReadAs, Holds, UnwrapsCarried, SeesCarried};
+ghost use Rattle.sms_relay.specs.Carried.InnerSeen.{seen_inner};
+ghost use Rattle.sms_relay.specs.Carried.Unwrapped.{IsReadAs, Holds, UnwrapsCarried, SeesCarried};
 ghost use Rattle.sms_relay.specs.declared.fault.RelayFault.TheVariants.{Short};
 
 use crate::cp::CpMessage;

@@ -3,9 +3,9 @@
 use Rattle.std.specs.Prelude.{◌≡◌, ℕ, List, Result}
 use Rattle.sms_text.specs.Octets.{IsOctets}
 use Rattle.sms_field.specs.Field.{Field}
-use Rattle.sms_field.specs.OneRefusal.{HasOneRefusal}
+use Rattle.sms_field.specs.Reading.OneRefusal.{HasOneRefusal}
 use Rattle.sms_field.specs.Reading.{Reads, IsReadable, IsRefused}
-use Rattle.sms_field.specs.Reasons.{StartsAs}
+use Rattle.sms_field.specs.Reading.Reasons.{StartsAs}
 use Rattle.sms_field.specs.declared.refusal.Refusal.TheVariants.{At}
 use Rattle.sms_tpdu.specs.declared.fault.UnitFault.{UnitFault}
 use Rattle.sms_tpdu.specs.declared.fault.UnitFault.TheVariants.{Short, WrongType}

@@ -17,7 +17,7 @@ pub mod DeliverError
 pub mod DeliverErrorLaws
 use Rattle.std.specs.Prelude.{ℕ, ◌<◌, Bool, true, false, List, [], ◌∷◌, ◌++◌, Option, Some, None, is_some, IfSome, ◌≡◌, ◌≤◌, length, Result, Ok, Err, nat_le, if◌then◌else◌}
 use Rattle.sms_field.specs.Field.{Field, ◌>>=◌, always, octet, octet_by, octets_of}
-use Rattle.sms_field.specs.Optional.{part_if}
+use Rattle.sms_field.specs.Field.Optional.{part_if}
 use Rattle.sms_field.specs.Coding.{alphabet_at}
 use Rattle.sms_field.specs.declared.coding.Alphabet.{Alphabet}
 use Rattle.sms_field.specs.declared.coding.Alphabet.TheVariants.{Gsm7}

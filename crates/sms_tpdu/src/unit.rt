@@ -2,9 +2,9 @@
 
 ghost use Rattle.std.specs.Prelude.{◌≡◌, ℕ, List, [], IfOk, IfErr};
 ghost use Rattle.sms_field.specs.Field.{Field};
-ghost use Rattle.sms_field.specs.Answer.{Takes};
+ghost use Rattle.sms_field.specs.Reading.Answer.{Takes};
 ghost use Rattle.sms_field.specs.Reading.{Reads};
-ghost use Rattle.sms_field.specs.WholeAnswer.{IsRefusedBy, ReadsExactly};
+ghost use Rattle.sms_field.specs.Reading.WholeAnswer.{IsRefusedBy, ReadsExactly};
 ghost use Rattle.sms_field.specs.declared.refusal.Refusal.TheVariants.{Memory};
 ghost use Rattle.sms_tpdu.specs.UnitLaws.{AreUnitLaws};
 

@@ -1,10 +1,10 @@
 -- Each event of an orderly run keeps the claims.
 use Rattle.std.proofs.Common.{◌≡◌, ℕ, zero, suc, ◌+◌, true, false, ◌||◌, ltb, List, [], ◌∷◌, map, take, length, refl, sym, ap, ◌∙◌, subst, Some, None, Option, ◌⊎◌, inl, inr}
 use Rattle.std.specs.List.{AllByRecursion}
-use Rattle.sms_world.specs.Below.{Below}
+use Rattle.sms_world.specs.Inside.Below.{Below}
 use Rattle.sms_message.specs.Does.{Does}
 use Rattle.std.proofs.lemmas.Bool.{cond_both}
-use Rattle.sms_field.specs.AddressValue.{AddressValue}
+use Rattle.sms_field.specs.Address.Value.{AddressValue}
 use Rattle.sms_tpdu.specs.Deliver.{Delivery}
 use Rattle.sms_relay.specs.declared.side.Side.TheVariants.{FromPhone, ToPhone}
 use Rattle.sms_join.specs.declared.units.Units.{Units}
@@ -15,7 +15,7 @@ use Rattle.sms_message.specs.declared.message.Relay.TheVariants.{Transfer, Answe
 use Rattle.sms_message.specs.declared.message.Message.{Message}
 use Rattle.sms_message.specs.declared.message.Message.TheVariants.{NotCp, Note, Tiny, Data}
 use Rattle.sms_message.specs.declared.message.Tag.{Tag}
-use Rattle.sms_field.specs.Times.{end_of_2099}
+use Rattle.sms_field.specs.Time.Computed.{end_of_2099}
 use Rattle.sms_message.specs.Message.{Origin}
 use Rattle.sms_centre.specs.Centre.State.{CentreState, new_centre}
 use Rattle.sms_centre.specs.Centre.{centre_receives}
@@ -33,7 +33,7 @@ use Rattle.sms_world.proofs.Offered.{units_in_delivery, offers, is_taken, each_o
 use Rattle.sms_party.specs.Receiver.Offers.{offers_units}
 use Rattle.sms_party.specs.Receiver.Pieces.{piece_in}
 use Rattle.sms_world.specs.Machine.{Machine, start}
-use Rattle.sms_world.specs.Machine.Event.{Event, Compose, Carry, Timeout, Push, Tick, Inject, Act, Is}
+use Rattle.sms_world.specs.Machine.Event.{Event, Compose, Carry, Timeout, Push, Tick, Inject, Act, IsMetAs}
 use Rattle.sms_world.specs.Machine.Next.{Next, next, stays, by_sender, by_centre, by_receiver, of_centre, pushed, origin_of, comes, comes_to_phone, carries, packet, ticked, receiver_limits}
 use Rattle.sms_world.specs.Machine.Step.{Acts}
 use Rattle.sms_world.specs.Orderly.{OrderlyRun, IsOrderly}
@@ -163,7 +163,7 @@ module _ (law : Below) where
   unfolding pushed
   pushes_stands m phone d h g = by_centre_stands m phone (origin_of (d.after.line phone).latest) None d h g
 
-  next_stands : (m : Machine) (e : Event) (act : Act) → Is (width_of m.senders.wide) e act → may_happen true m e ≡ true → EachHasItsPiece m → Stand m → Stand (next m act).after
+  next_stands : (m : Machine) (e : Event) (act : Act) → IsMetAs (width_of m.senders.wide) e act → may_happen true m e ≡ true → EachHasItsPiece m → Stand m → Stand (next m act).after
   unfolding next may_happen ticked
   next_stands m (Compose phone target characters) act is may s h =
       subst (λ (v : Act). Stand (next m v).after) (sym is.3)
@@ -193,7 +193,7 @@ module _ (law : Below) where
 
   -- one step, with or without memory
   pub step_sound : (m : Machine) (e : Event) (act : Act) (told : Told) (put : List Sent) (n : Machine)
-      → Is (width_of m.senders.wide) e act → may_happen true m e ≡ true → Sound m → Acts m act told put n → Sound n
+      → IsMetAs (width_of m.senders.wide) e act → may_happen true m e ≡ true → Sound m → Acts m act told put n → Sound n
   step_sound m e act told put n is may h (inl s) =
       subst Sound s.2 (record { once = next_once true m e act is may h.once; receivers = next_stands m e act is may h.once h.receivers })
   step_sound m e act told put n is may h (inr s) = subst Sound s.3 h

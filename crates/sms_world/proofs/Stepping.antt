@@ -3,8 +3,8 @@ use Rattle.std.proofs.Common.{◌≡◌, ◌≢◌, ℕ, zero, suc, ◌+◌, ◌
 use Rattle.std.specs.List.{AllByRecursion}
 use Rattle.std.specs.Option.{option_map}
 use Rattle.std.proofs.lemmas.Bool.{cond_both, eq-eqb, eqb-true, ltb-true}
-use Rattle.sms_field.specs.AddressValue.{AddressValue}
-use Rattle.sms_field.specs.Times.{end_of_2099, end_of}
+use Rattle.sms_field.specs.Address.Value.{AddressValue}
+use Rattle.sms_field.specs.Time.Computed.{end_of_2099, end_of}
 use Rattle.sms_field.specs.declared.validity.ValidityFault.{ValidityFault}
 use Rattle.sms_field.specs.declared.validity.ValidityFault.TheVariants.{EnhancedValidity, NoMoment}
 use Rattle.sms_field.specs.declared.validity.Validity.TheVariants.{Absent}
@@ -48,10 +48,10 @@ use Rattle.sms_party.specs.Receiver.Offers.{offers_units}
 use Rattle.sms_party.specs.Receiver.Pieces.{piece_in}
 use Rattle.sms_world.specs.declared.fault.WorldFault.{WorldFault}
 use Rattle.sms_world.specs.declared.fault.WorldFault.TheVariants.{NoSuchPacket, NoSuchPhone, ClockEnd, Party}
-use Rattle.sms_world.specs.Below.{Below}
+use Rattle.sms_world.specs.Inside.Below.{Below}
 use Rattle.sms_world.specs.Told.{Told, of_party}
 use Rattle.sms_world.specs.Machine.{Machine}
-use Rattle.sms_world.specs.Machine.Event.{Event, Compose, Carry, Timeout, Push, Tick, Inject, Act, Composes, Carries, TimesOut, Pushes, Ticks, Injects, Is}
+use Rattle.sms_world.specs.Machine.Event.{Event, Compose, Carry, Timeout, Push, Tick, Inject, Act, TypesText, MovesPacket, EndsWait, HandsOver, MovesClock, SlipsIn, IsMetAs}
 use Rattle.sms_world.specs.Machine.Next.{Next, next, stays, entered, by_sender, by_receiver, by_centre, of_centre, origin_of, pushed, to_phone, to_centre, comes, comes_to_phone, carries, packet, ticked, receiver_limits}
 use Rattle.sms_world.specs.Machine.Step.{Acts, Step}
 use Rattle.sms_world.specs.Texts.{size_in}
@@ -517,7 +517,7 @@ module _ (law : Below) (m : Machine) (l : Ledger) (sound : Sound m) (h : IsLedge
       mark =
           ap (delivery_mark (Phone phone)) (ap origin_of latest ∙ q.0.1.1) ∙ sym (ap (push_mark phone) noted_origin)
 
-  pub next_right : (e : Event) (act : Act) (f : Facts) → IsRising m.centre.accepted → Is (width_of m.senders.wide) e act → may_happen true m e ≡ true → Kept e f (next m act)
+  pub next_right : (e : Event) (act : Act) (f : Facts) → IsRising m.centre.accepted → IsMetAs (width_of m.senders.wide) e act → may_happen true m e ≡ true → Kept e f (next m act)
   unfolding next centre_pushes
   next_right (Compose phone target characters) act f rising is may =
       subst (λ (v : Act). Kept (Compose phone target characters) f (next m v)) (sym is.3)
@@ -540,7 +540,7 @@ module _ (law : Below) (m : Machine) (l : Ledger) (sound : Sound m) (h : IsLedge
   next_right (Inject place octets) act f rising is may = absurd (unfold may_happen in (let q : false ≡ true = may in cc))
 
   pub step_right : (e : Event) (act : Act) (told : Told) (put : List Sent) (n : Machine) (f : Facts) → IsRising m.centre.accepted
-      → Is (width_of m.senders.wide) e act → may_happen true m e ≡ true → Acts m act told put n → AreFacts m e told put n f
+      → IsMetAs (width_of m.senders.wide) e act → may_happen true m e ≡ true → Acts m act told put n → AreFacts m e told put n f
       → IsLedgerOf (noted l m.senders.reject m.clock e told f) n
   step_right e act told put n f rising is may (inl s) g =
       subst (λ v. IsLedgerOf (noted l m.senders.reject m.clock e told f) v) s.2

@@ -2,8 +2,8 @@
 use Rattle.std.specs.Prelude.{◌≡◌, ℕ, ◌<◌, ◌≤◌, Bool, List, ◌∷◌, length, Option, Some, None}
 use Rattle.sms_text.specs.Octets.{IsOctets}
 use Rattle.sms_field.specs.Reading.{Reads, IsReadable}
-use Rattle.sms_field.specs.Reasons.{StartsAs}
-use Rattle.sms_field.specs.RelayAddressValue.{RelayAddressValue}
+use Rattle.sms_field.specs.Reading.Reasons.{StartsAs}
+use Rattle.sms_field.specs.RelayAddress.Value.{RelayAddressValue}
 use Rattle.sms_tpdu.specs.Submit.{submit}
 use Rattle.sms_tpdu.specs.Submit.Flags.{submit_flags}
 use Rattle.sms_tpdu.specs.Deliver.{deliver}
@@ -14,7 +14,7 @@ use Rattle.sms_tpdu.specs.Report.DeliverAck.{deliver_ack}
 use Rattle.sms_tpdu.specs.Report.DeliverError.{deliver_error}
 use Rattle.sms_tpdu.specs.declared.fault.UnitFault.TheVariants.{WrongType}
 use Rattle.sms_relay.specs.Cp.{cp_message}
-use Rattle.sms_relay.specs.RpKind.{rp_type}
+use Rattle.sms_relay.specs.Rp.Kind.{rp_type}
 use Rattle.sms_relay.specs.Rp.{rp_message}
 use Rattle.sms_relay.specs.Carried as carried
 use Rattle.sms_relay.specs.declared.side.Side.{Side}

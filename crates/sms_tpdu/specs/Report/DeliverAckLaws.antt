@@ -4,15 +4,15 @@ use Rattle.std.proofs.Common.{ℕ, List, [], ◌∷◌, refl}
 use Rattle.sms_text.specs.Octets.{IsOctets}
 use Rattle.sms_field.specs.Field.{IsLawful}
 use Rattle.sms_tpdu.specs.UnitLaws.{AreUnitLaws, laws_by}
-use Rattle.sms_field.specs.ChainLaws.{chain_lawful}
-use Rattle.sms_field.specs.SingleLaws.{always_lawful, octet_by_self}
+use Rattle.sms_field.specs.Inside.ChainLaws.{chain_lawful}
+use Rattle.sms_field.specs.Inside.SingleLaws.{always_lawful, octet_by_self}
 use Rattle.sms_tpdu.specs.Report.Octet.{deliver_report, deliver_report_octet}
 use Rattle.sms_tpdu.specs.Report.OctetLaws.{deliver_report_lawful, deliver_report_again}
 use Rattle.sms_tpdu.specs.Report.ParameterIndicator.{indicator_octet}
 use Rattle.sms_tpdu.specs.Report.ParameterIndicatorLaws.{indicator_self, indicator_lawful, indicator_is, indicator_again}
 use Rattle.sms_tpdu.specs.Report.{indicator_of, parts_octets}
 use Rattle.sms_tpdu.specs.Report.Laws.{parts_self, parts_lawful, parts_again, parts_are_octets}
-use Rattle.sms_field.specs.ChainReading.{chained, ended}
+use Rattle.sms_field.specs.Inside.ChainReading.{chained, ended}
 use Rattle.sms_tpdu.specs.Report.DeliverAck.{DeliverAckValue, parts_in, IsDeliverAck, deliver_ack, deliver_ack_octets, SpellsDeliverAck}
 use Rattle.sms_tpdu.specs.declared.fault.UnitFault.TheVariants.{Short}
 

@@ -2,8 +2,8 @@
 -- 9.2.2.2a).
 use Rattle.std.specs.Prelude.{◌≡◌, ℕ, ◌<◌, Bool, List, ◌∷◌, ◌++◌, Option}
 use Rattle.sms_field.specs.Field.{Field, ◌>>=◌, always, octet, octet_by}
-use Rattle.sms_field.specs.Stamp.{IsStamp}
-use Rattle.sms_field.specs.Stamp as time
+use Rattle.sms_field.specs.Time.Stamp.{IsStamp}
+use Rattle.sms_field.specs.Time.Stamp as time
 use Rattle.sms_tpdu.specs.Report.Octet.{submit_report, submit_report_octet}
 use Rattle.sms_tpdu.specs.Report.ParameterIndicator.{indicator, indicator_octet}
 use Rattle.sms_tpdu.specs.Report.{Parts, parts, indicator_of, AreParts, parts_octets}

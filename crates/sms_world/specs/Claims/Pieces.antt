@@ -3,7 +3,7 @@
 -- one stamp. Lists have the newest entry first.
 use Rattle.std.specs.Prelude.{◌≡◌, ℕ, ◌<◌, ◌≤◌, Bool, false, List, [], ◌∷◌, length, Option, Some, None}
 use Rattle.std.specs.List.{AllByRecursion}
-use Rattle.sms_field.specs.AddressValue.{AddressValue}
+use Rattle.sms_field.specs.Address.Value.{AddressValue}
 use Rattle.sms_tpdu.specs.Submit.{Submission}
 use Rattle.sms_tpdu.specs.Deliver.{Delivery}
 use Rattle.sms_join.specs.UnitsOfText.{IsText}
@@ -14,7 +14,7 @@ use Rattle.sms_message.specs.declared.message.Relay.{Relay}
 use Rattle.sms_message.specs.declared.message.Relay.TheVariants.{Transfer, Answer, UnknownType, Unreadable}
 use Rattle.sms_message.specs.declared.message.Message.{Message}
 use Rattle.sms_message.specs.declared.message.Message.TheVariants.{NotCp, Note, Tiny, Data}
-use Rattle.sms_field.specs.Times.{stamp_octets}
+use Rattle.sms_field.specs.Time.Computed.{stamp_octets}
 use Rattle.sms_message.specs.Address.{phone_at, address_of}
 use Rattle.sms_message.specs.Message.{Origin}
 use Rattle.sms_centre.specs.Centre.State.{Acceptance, CentreState}

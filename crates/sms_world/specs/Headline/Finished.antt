@@ -1,9 +1,9 @@
 -- Which texts have finished at a phone, and in which order. Lists have the newest entry first.
 use Rattle.std.specs.Prelude.{◌≡◌, ◌↔◌, ℕ, nat_eq, true, List}
 use Rattle.std.specs.List.{IsDistinct}
-use Rattle.sms_field.specs.AddressValue.{AddressValue}
+use Rattle.sms_field.specs.Address.Value.{AddressValue}
 use Rattle.sms_join.specs.Arrivals.{is_listed}
-use Rattle.sms_join.specs.Completion.{StandsBefore, CameEarlier}
+use Rattle.sms_join.specs.Arrivals.Completion.{StandsBefore, CameEarlier}
 use Rattle.sms_world.specs.Told.{Told}
 use Rattle.sms_script.specs.declared.script.limits.Limits.{Limits}
 use Rattle.sms_world.specs.Machine.{Machine, start}

@@ -1,6 +1,6 @@
 -- What becomes of a delivery that comes to a phone.
 use Rattle.std.specs.Prelude.{◌≡◌, ◌≢◌, ◌⊎◌, ℕ, ◌<◌, ◌≤◌, Bool, true, false, List, [], length, Option, Some, Ok}
-use Rattle.sms_field.specs.AddressValue.{AddressValue}
+use Rattle.sms_field.specs.Address.Value.{AddressValue}
 use Rattle.sms_tpdu.specs.Deliver.{Delivery}
 use Rattle.sms_join.specs.Arrivals.{is_listed, open_texts}
 use Rattle.sms_message.specs.declared.outcome.Outcome.TheVariants.{Refused, Finished, Kept, Repeat}

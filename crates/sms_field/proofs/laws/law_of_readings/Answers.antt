@@ -1,5 +1,5 @@
-use Rattle.sms_field.specs.ReadableLaws.{decided, unread}
-use Rattle.sms_field.specs.ReadingLaws.{one_reading}
+use Rattle.sms_field.specs.Inside.ReadableLaws.{decided, unread}
+use Rattle.sms_field.specs.Inside.ReadingLaws.{one_reading}
 use Rattle.sms_field.specs.Reading.{Reads}
 use Rattle.sms_field.proofs.laws.law_of_readings.Goals as goal
 

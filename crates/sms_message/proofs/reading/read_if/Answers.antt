@@ -1,7 +1,7 @@
 use Rattle.std.proofs.Common.{arith}
-use Rattle.sms_field.specs.OctetLists.{octets_are}
+use Rattle.sms_field.specs.Inside.OctetLists.{octets_are}
 use Rattle.sms_field.specs.Reading.{Reads}
-use Rattle.sms_field.specs.ReadableLaws.{unread}
+use Rattle.sms_field.specs.Inside.ReadableLaws.{unread}
 use Rattle.sms_message.proofs.reading.read_if.Goals as goal
 
 pub returns-in-Err-At-clause-read : goal.returns-in-Err-At-clause-read

@@ -2,11 +2,11 @@ use Rattle.std.proofs.Common.{◌∷◌, subst}
 use Rattle.sms_field.specs.Reading.{Reads, IsRefused}
 use Rattle.sms_field.specs.declared.refusal.Refusal.TheVariants.{At}
 use Rattle.sms_relay.specs.Rp.{rp_message}
-use Rattle.sms_relay.specs.Unwrapped.{IsReadAs}
+use Rattle.sms_relay.specs.Carried.Unwrapped.{IsReadAs}
 use Rattle.sms_relay.specs.declared.inner.Inner.{Inner}
 use Rattle.sms_relay.specs.declared.fault.RelayFault.{RelayFault}
 use Rattle.sms_relay.specs.declared.fault.RelayFault.TheVariants.{Short}
-use Rattle.sms_relay.specs.TypeLaws.{tells_unknown_types}
+use Rattle.sms_relay.specs.Inside.TypeLaws.{tells_unknown_types}
 use Rattle.sms_message.proofs.Read.{relay_read}
 use Rattle.sms_message.proofs.reading.relay_in.Goals as goal
 

@@ -1,11 +1,11 @@
 use Rattle.std.proofs.Common.{arith, subst}
-use Rattle.sms_field.specs.OctetLists.{octets_are}
+use Rattle.sms_field.specs.Inside.OctetLists.{octets_are}
 use Rattle.sms_field.specs.Reading.{Reads, IsRefused}
 use Rattle.sms_field.specs.declared.refusal.Refusal.TheVariants.{At}
 use Rattle.sms_tpdu.specs.Submit.{submit}
 use Rattle.sms_tpdu.specs.declared.fault.UnitFault.{UnitFault}
 use Rattle.sms_tpdu.specs.declared.fault.UnitFault.TheVariants.{Short}
-use Rattle.sms_tpdu.specs.RefusalLaws.{submit_tells}
+use Rattle.sms_tpdu.specs.Inside.RefusalLaws.{submit_tells}
 use Rattle.sms_message.proofs.reading.submission_in.Goals as goal
 
 pub returns-in-WrongType-clause-read : goal.returns-in-WrongType-clause-read

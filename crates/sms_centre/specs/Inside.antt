@@ -1,0 +1,6 @@
+pub mod Calls
+pub mod Holdings
+pub mod Kept
+pub mod Lines
+pub mod Queue
+pub mod Seen

@@ -1,0 +1,7 @@
+pub mod Computed
+pub mod Days
+pub mod Moment
+pub mod Stamp
+pub mod StampDate
+pub mod Stamping
+pub mod Validity

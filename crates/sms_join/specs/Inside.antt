@@ -1,0 +1,4 @@
+pub mod LastKeys
+pub mod OpenSet
+pub mod SegmentsAt
+pub mod Slots

@@ -1,0 +1,8 @@
+pub mod Asked
+pub mod Below
+pub mod Followed
+pub mod NotesValue
+pub mod Parties
+pub mod Phones
+pub mod Rows
+pub mod Tables
