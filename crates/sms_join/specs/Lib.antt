@@ -3,6 +3,7 @@ pub mod Piece
 pub mod Joiner
 pub mod Arrivals
 pub mod UnitsOfText
+pub mod BodyUnits
 pub mod Cut
 pub mod Reading
 pub mod Segments

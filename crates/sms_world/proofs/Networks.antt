@@ -64,7 +64,7 @@ no_packets : (packets : List PacketValue) → ArePacketsOf packets [] → packet
 no_packets [] none = refl
 no_packets (p ∷ packets) none = absurd none
 
-starts_empty : (limits : Limits) (phones : List AddressValue) (world : WorldValue) → StandsFor world (start limits phones) → world.packets ≡ []
+pub starts_empty : (limits : Limits) (phones : List AddressValue) (world : WorldValue) → StandsFor world (start limits phones) → world.packets ≡ []
 unfolding start
 starts_empty limits phones world stands = no_packets world.packets stands.packets_are
 

@@ -1,4 +1,5 @@
 -- A world that is watched, as contracts see it: what has led to it, and what it tells.
+pub mod Network
 use Rattle.std.specs.Prelude.{◌≡◌, ℕ, min, ◌^◌, ◌-◌, ◌<◌, List, [], ◌∷◌, length, Option, None}
 use Rattle.sms_field.specs.Address.Value.{AddressValue}
 use Rattle.sms_script.specs.declared.script.limits.Limits.{Limits}

@@ -304,6 +304,13 @@ impl World {
         self.parties.typed(phone)
     }
 
+    /// How many phones there are.
+    pub fn phone_count(&self) -> usize
+        ensures { result ≡ length self.now.parties.phones }
+    {
+        self.parties.count()
+    }
+
     /// The limits, and the settings of the phones.
     pub(crate) fn limits(&self) -> Limits
         ensures { result ≡ self.now.limits }

@@ -43,6 +43,11 @@ body_size taken (body.Septets septets) =
     octets_of_length Gsm7 (data_length taken (body.Septets septets)) - taken
 body_size taken (body.Octets octets) = length octets
 
+-- how many septets or octets it has
+abbrev pub body_count : Body → ℕ
+body_count (body.Septets septets) = length septets
+body_count (body.Octets octets) = length octets
+
 -- the bits before its first septet
 abbrev pub fill_of : ℕ → Body → ℕ
 fill_of taken (body.Septets septets) = fill_bits taken
