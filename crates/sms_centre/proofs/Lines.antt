@@ -4,9 +4,9 @@ use Rattle.std.proofs.Common.{length, get_or, ◌≡◌, ◌≢◌, ℕ, zero, s
 use Rattle.std.specs.List.{slice_get}
 use Rattle.std.proofs.Math.ListN.{set}
 use Rattle.std.proofs.lemmas.Bool.Decides.{nat_tests}
-use Rattle.sms_field.specs.AddressValue.{AddressValue}
+use Rattle.sms_field.specs.Address.Value.{AddressValue}
 use Rattle.sms_message.specs.Address.{address_of}
-use Rattle.sms_centre.specs.Centre.Kept.{free_at}
+use Rattle.sms_centre.specs.Inside.Kept.{free_at}
 use Rattle.sms_centre.specs.Centre.State.{Acceptance, Line}
 use Rattle.sms_message.specs.Changed.{changed}
 use Rattle.sms_centre.specs.Centre.Held.{unended}

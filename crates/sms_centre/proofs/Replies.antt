@@ -8,7 +8,7 @@ use Rattle.sms_message.specs.declared.message.Report.TheVariants.{SubmitAck, Sub
 use Rattle.sms_message.specs.declared.message.Relay.TheVariants.{Answer}
 use Rattle.sms_message.specs.declared.message.Message.TheVariants.{Data}
 use Rattle.sms_message.specs.Message.Carrying.{Carries, SpellsReport}
-use Rattle.sms_field.specs.Times.{stamp_octets}
+use Rattle.sms_field.specs.Time.Computed.{stamp_octets}
 use Rattle.sms_message.specs.Message.Answers.{submit_ack_of, submit_error_of}
 
 ack_spelled : (r : SubmitAckValue) (octets : Option (List ℕ)) → carried.SpellsOptional SpellsSubmitAck (Some r) octets → SpellsReport ToPhone None (Some (SubmitAck r)) octets

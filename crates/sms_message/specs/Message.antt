@@ -4,7 +4,6 @@ pub mod Carrying
 pub mod Reading
 pub mod Glance
 pub mod Answers
-pub mod Tests
 pub mod Laws
 use Rattle.std.specs.Prelude.{ℕ, ◌%◌, Bool, ◌&&◌, ◌==◌}
 use Rattle.sms_message.specs.declared.message.Tag.{Tag}

@@ -2,17 +2,18 @@
 use Rattle.std.proofs.Common.{◌≡◌, ℕ, Bool, true, false, List, [], ◌∷◌, ◌++◌, length, drop, Option, inl, inr, refl, sym, ap, subst, ◌∙◌, append_assoc}
 use Rattle.std.proofs.lemmas.List.{append-nil, drop_at}
 use Rattle.sms_field.specs.Address.{address}
-use Rattle.sms_field.specs.AddressLaws.{address_self}
-use Rattle.sms_field.specs.AddressValue.{AddressValue}
-use Rattle.sms_field.specs.Lies.{LiesAt, TakesOctets, lies_at}
-use Rattle.sms_field.specs.Optional.{part_if}
+use Rattle.sms_field.specs.Inside.AddressLaws.{address_self}
+use Rattle.sms_field.specs.Address.Value.{AddressValue}
+use Rattle.sms_field.specs.Reading.Lies.{LiesAt, TakesOctets}
+use Rattle.sms_field.specs.Inside.Lies.{lies_at}
+use Rattle.sms_field.specs.Field.Optional.{part_if}
 use Rattle.sms_field.specs.Reading.{Reads}
 use Rattle.sms_field.specs.declared.coding.Alphabet.{Alphabet}
 use Rattle.sms_field.specs.declared.span.Span.{Span}
 use Rattle.sms_tpdu.specs.Command.{CommandValue, command}
 use Rattle.sms_tpdu.specs.Command.Spans.{CommandLies}
 use Rattle.sms_tpdu.specs.DataSpans.{DataLie, DataLieIf, data_before, data_before_if}
-use Rattle.sms_tpdu.specs.DataSpans.Laws.{EndsWith, after, data_lie, DataEnd, after_data, data_lie_if}
+use Rattle.sms_tpdu.specs.Inside.DataSpansLaws.{EndsWith, after, data_lie, DataEnd, after_data, data_lie_if}
 use Rattle.sms_tpdu.specs.Report.AnnouncedParts.{Parts, parts, report_data}
 use Rattle.sms_tpdu.specs.Report.Octet.{FirstOctet}
 use Rattle.sms_tpdu.specs.Report.Kind.{KindPart}

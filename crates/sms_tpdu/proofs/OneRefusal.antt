@@ -4,8 +4,8 @@ use Rattle.sms_field.specs.Address.{address}
 use Rattle.sms_field.specs.Bit.{bit}
 use Rattle.sms_field.specs.Coding.{alphabet_at}
 use Rattle.sms_field.specs.Field.{octet, map_reason, up_to}
-use Rattle.sms_field.specs.OneRefusal.{HasOneReason, ReadsOneWay, IsKnown}
-use Rattle.sms_field.specs.OneRefusalLaws.{one_way_always, one_way_octet, one_way_by, one_way_octets, one_way_chain, one_way_part, one_way_address, one_reason_by, one_reason_octet, one_reason_octets, one_reason_map_reason, one_reason_mapped, one_reason_chain, one_reason_part, one_reason_address, one_refusal}
+use Rattle.sms_field.specs.Inside.OneReason.{HasOneReason, ReadsOneWay, IsKnown}
+use Rattle.sms_field.specs.Inside.OneRefusalLaws.{one_way_always, one_way_octet, one_way_by, one_way_octets, one_way_chain, one_way_part, one_way_address, one_reason_by, one_reason_octet, one_reason_octets, one_reason_map_reason, one_reason_mapped, one_reason_chain, one_reason_part, one_reason_address, one_refusal}
 use Rattle.sms_field.specs.declared.coding.Alphabet.{Alphabet}
 use Rattle.sms_tpdu.specs.Refusals.{IsRefusedOnce}
 use Rattle.sms_tpdu.specs.Fault.{unit_fault}
@@ -22,7 +22,7 @@ use Rattle.sms_tpdu.specs.Report.Octet.{FirstOctet, on_submission, on_delivery}
 use Rattle.sms_tpdu.specs.Report.Kind.{KindPart, no_part, failure_cause, centre_stamp}
 use Rattle.sms_tpdu.specs.Report.ParameterIndicator.{AreFurther, further, indicator}
 use Rattle.sms_tpdu.specs.Report.{report, deliver_ack, deliver_error, submit_ack, submit_error}
-use Rattle.sms_tpdu.specs.IfMoreLaws.{one_reason_if_more}
+use Rattle.sms_tpdu.specs.Inside.IfMoreLaws.{one_reason_if_more}
 use Rattle.sms_tpdu.specs.Report.Indicated.{indicated_parts, no_parts, optional_parts}
 use Rattle.sms_tpdu.specs.StatusReport.{status_report, report_of}
 use Rattle.sms_tpdu.specs.StatusReport.Flags.{status_report_flags}

@@ -4,12 +4,12 @@ use Rattle.std.specs.Prelude.{IfSome}
 use Rattle.std.proofs.lemmas.Bool.{leb-true}
 use Rattle.sms_text.specs.Octets.{IsOctets}
 use Rattle.sms_field.specs.Field.{octet, octet_by, octets_of}
-use Rattle.sms_field.specs.AddressValue.{HasSpelling}
+use Rattle.sms_field.specs.Address.Value.{HasSpelling}
 use Rattle.sms_field.specs.Coding.{alphabet_at}
-use Rattle.sms_field.specs.ReadAddressLaws.{has_octet, has_stamp, has_up_to, has_address}
-use Rattle.sms_field.specs.ReadValues.{Has, Any}
-use Rattle.sms_field.specs.ReadValueLaws.{has_chain, has_mapped, has_part}
-use Rattle.sms_field.specs.Stamp.{IsStamp}
+use Rattle.sms_field.specs.Inside.ReadAddressLaws.{has_octet, has_stamp, has_up_to, has_address}
+use Rattle.sms_field.specs.Reading.Values.{Has, Any}
+use Rattle.sms_field.specs.Inside.ReadValueLaws.{has_chain, has_mapped, has_part}
+use Rattle.sms_field.specs.Time.Stamp.{IsStamp}
 use Rattle.sms_field.specs.declared.coding.Alphabet.{Alphabet}
 use Rattle.sms_field.specs.declared.coding.Alphabet.TheVariants.{Gsm7, EightBit, Ucs2, Compressed}
 use Rattle.sms_tpdu.specs.Deliver.{deliver, IsDeliverable}
@@ -17,7 +17,7 @@ use Rattle.sms_tpdu.specs.Report.Octet.{FirstOctet, on_submission, on_delivery}
 use Rattle.sms_tpdu.specs.Report.Kind.{KindPart, no_part, failure_cause, centre_stamp}
 use Rattle.sms_tpdu.specs.Report.AnnouncedParts.{report_length, report_data, IsReportData, report_alphabet, parts, AreParts}
 use Rattle.sms_tpdu.specs.Report.{report, IsReport, deliver_ack, deliver_error, submit_ack, submit_error, IsDeliverAck, IsDeliverError, IsSubmitAck, IsSubmitError}
-use Rattle.sms_tpdu.specs.IfMoreLaws.{has_if_more}
+use Rattle.sms_tpdu.specs.Inside.IfMoreLaws.{has_if_more}
 use Rattle.sms_tpdu.specs.Report.Indicated.{indicated_parts, no_parts, optional_parts}
 use Rattle.sms_tpdu.specs.StatusReport.{status_report, IsStatusReport}
 use Rattle.sms_tpdu.specs.Command.{command, IsCommand}

@@ -1,6 +1,6 @@
 //! What follows from the definitions alone. Each function is empty: its contract is the law.
 
-ghost use Rattle.sms_field.specs.ReadValues.{Has};
+ghost use Rattle.sms_field.specs.Reading.Values.{Has};
 ghost use Rattle.sms_tpdu.specs.Refusals.{TellsOtherTypes, IsRefusedOnce};
 ghost use Rattle.sms_tpdu.specs.Sizes.{greatest_size, greatest_status_size, greatest_command_size, IsWithin, HasEachSpelling};
 ghost use Rattle.sms_tpdu.specs.Deliver.{deliver, IsDeliverable, SpellsDeliver};

@@ -125,7 +125,7 @@ impl StatusReport {
 /// is there.
 impl Unit for StatusReport {
     ghost use Rattle.sms_tpdu.specs.StatusReport.{status_report, SpellsStatusReport, MayFollow};
-    ghost use Rattle.sms_tpdu.specs.StatusReport.Laws.{status_report_laws};
+    ghost use Rattle.sms_tpdu.specs.Inside.StatusReportLaws.{status_report_laws};
 
     type Why = UnitFault;
 

@@ -2,7 +2,7 @@
 
 ghost use Rattle.std.specs.Prelude.{◌≡◌, ◌<◌, ℕ, List, is_some, unwrap_or, IfSome};
 ghost use Rattle.sms_field.specs.Reading.{Reads};
-ghost use Rattle.sms_field.specs.WholeAnswer.{IsFaultOf};
+ghost use Rattle.sms_field.specs.Reading.WholeAnswer.{IsFaultOf};
 ghost use Rattle.sms_field.specs.declared.refusal.Fault.{Fault as TheFault};
 ghost use Rattle.sms_tpdu.specs.Report.AnnouncedParts.{report_alphabet};
 ghost use Rattle.sms_tpdu.specs.Report.{report, DeliverAckValue, deliver_ack, DeliverErrorValue, deliver_error, SubmitAckValue, submit_ack, SubmitErrorValue, submit_error};

@@ -2,7 +2,7 @@
 -- 9.2.2.2a).
 use Rattle.std.specs.Prelude.{ℕ, true, false, List, [], ◌∷◌, Option, None}
 use Rattle.sms_relay.specs.declared.side.Side.{Side}
-use Rattle.sms_field.specs.Times.{stamp_octets}
+use Rattle.sms_field.specs.Time.Computed.{stamp_octets}
 use Rattle.sms_message.specs.declared.message.Tag.{Tag}
 use Rattle.sms_message.specs.declared.message.Report.{Report}
 use Rattle.sms_message.specs.declared.message.Report.TheVariants.{SubmitAck, SubmitError, DeliverAck, DeliverError}

@@ -2,7 +2,7 @@
 -- 9.2.3.27): protocol identifier, data coding scheme, data, in this order.
 use Rattle.std.specs.Prelude.{ℕ, ◌<◌, List, [], ◌∷◌, ◌++◌, Option, Some, None, is_some, IfSome, ◌≡◌, ◌≤◌, length, Result, Ok, Err, nat_le, if◌then◌else◌}
 use Rattle.sms_field.specs.Field.{Field, ◌>>=◌, always, octet, octet_by, octets_of}
-use Rattle.sms_field.specs.Optional.{part_if}
+use Rattle.sms_field.specs.Field.Optional.{part_if}
 use Rattle.sms_field.specs.Coding.{alphabet_at}
 use Rattle.sms_field.specs.declared.coding.Alphabet.{Alphabet}
 use Rattle.sms_field.specs.declared.coding.Alphabet.TheVariants.{Gsm7}

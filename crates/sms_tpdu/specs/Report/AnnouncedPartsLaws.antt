@@ -6,13 +6,13 @@ use Rattle.sms_text.specs.Octets.{IsOctets}
 use Rattle.sms_field.specs.Field.{octet, IsSelfContained, IsLawful}
 use Rattle.sms_field.specs.declared.coding.Alphabet.{Alphabet}
 use Rattle.sms_field.specs.declared.coding.Alphabet.TheVariants.{Gsm7, EightBit, Ucs2, Compressed}
-use Rattle.sms_field.specs.ChainLaws.{chain_lawful, chain_self_contained}
-use Rattle.sms_field.specs.OctetLists.{octets-append}
-use Rattle.sms_field.specs.SingleLaws.{always_self, always_lawful, octet_self, octet_lawful, octet_by_self, octet_by_lawful, octets_of_self, octets_of_lawful, apart_else}
+use Rattle.sms_field.specs.Inside.ChainLaws.{chain_lawful, chain_self_contained}
+use Rattle.sms_field.specs.Inside.OctetLists.{octets-append}
+use Rattle.sms_field.specs.Inside.SingleLaws.{always_self, always_lawful, octet_self, octet_lawful, octet_by_self, octet_by_lawful, octets_of_self, octets_of_lawful, apart_else}
 use Rattle.sms_tpdu.specs.UserData.Lengths.{octets_of_length}
-use Rattle.sms_field.specs.ChainReading.{chained, ended}
-use Rattle.sms_field.specs.Optional.{part_if}
-use Rattle.sms_field.specs.OptionalLaws.{part_if_self, part_if_lawful}
+use Rattle.sms_field.specs.Inside.ChainReading.{chained, ended}
+use Rattle.sms_field.specs.Field.Optional.{part_if}
+use Rattle.sms_field.specs.Inside.OptionalLaws.{part_if_self, part_if_lawful}
 use Rattle.sms_tpdu.specs.Report.AnnouncedParts.{Parts, report_length, report_data, IsReportData, report_data_octets, report_alphabet, parts, indicator_of, AreParts, octet_if_some, data_if_some, parts_octets}
 use Rattle.sms_tpdu.specs.declared.report.indicator.Indicator.{Indicator}
 use Rattle.sms_tpdu.specs.declared.report.parts.ReportData.{ReportData}

@@ -1,6 +1,6 @@
 -- The parts that stand in some reports are lawful fields, and what is written is read back.
 use Rattle.std.proofs.Common.{refl}
-use Rattle.sms_field.specs.SingleLaws.{always_self, always_lawful, octet_self, octet_lawful, octets_of_self, octets_of_lawful}
+use Rattle.sms_field.specs.Inside.SingleLaws.{always_self, always_lawful, octet_self, octet_lawful, octets_of_self, octets_of_lawful}
 use Rattle.sms_tpdu.specs.Report.Kind.{no_part, failure_cause, centre_stamp, AreKindPartLaws}
 use Rattle.sms_tpdu.specs.declared.fault.UnitFault.{UnitFault}
 use Rattle.sms_tpdu.specs.declared.fault.UnitFault.TheVariants.{Short}

@@ -2,10 +2,10 @@
 use Rattle.std.proofs.Common.{ℕ, List, [], ◌∷◌, refl}
 use Rattle.sms_text.specs.Octets.{IsOctets}
 use Rattle.sms_field.specs.Field.{IsLawful}
-use Rattle.sms_field.specs.ChainLaws.{chain_lawful}
-use Rattle.sms_field.specs.ChainReading.{chained, ended}
-use Rattle.sms_field.specs.OctetLists.{octets-append}
-use Rattle.sms_field.specs.SingleLaws.{always_lawful, octet_by_self}
+use Rattle.sms_field.specs.Inside.ChainLaws.{chain_lawful}
+use Rattle.sms_field.specs.Inside.ChainReading.{chained, ended}
+use Rattle.sms_field.specs.Inside.OctetLists.{octets-append}
+use Rattle.sms_field.specs.Inside.SingleLaws.{always_lawful, octet_by_self}
 use Rattle.sms_tpdu.specs.UnitLaws.{AreUnitLaws, laws_by}
 use Rattle.sms_tpdu.specs.Report.Octet.{FirstOctet, on_submission, on_delivery}
 use Rattle.sms_tpdu.specs.Report.OctetLaws.{AreFirstOctetLaws, on_submission_laws, on_delivery_laws}

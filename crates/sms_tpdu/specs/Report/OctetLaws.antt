@@ -1,7 +1,7 @@
 -- The first octet of a report is a lawful field, and what is written is read back.
 use Rattle.std.proofs.Common.{◌≡◌, ℕ, ◌<◌, Bool, true, false, Result, Ok, refl, lit<}
 use Rattle.sms_field.specs.Field.{octet_by, IsLawful}
-use Rattle.sms_field.specs.SingleLaws.{octet_by_lawful, apart_then}
+use Rattle.sms_field.specs.Inside.SingleLaws.{octet_by_lawful, apart_then}
 use Rattle.sms_tpdu.specs.Report.Octet.{submit_report, deliver_report, submit_report_octet, deliver_report_octet, FirstOctet, on_submission, on_delivery}
 use Rattle.sms_tpdu.specs.declared.fault.UnitFault.{UnitFault}
 use Rattle.sms_tpdu.specs.declared.fault.UnitFault.TheVariants.{Short, WrongType}

@@ -2,7 +2,7 @@
 //! octet.
 
 ghost use Rattle.std.specs.Prelude.{◌≡◌, ◌++◌, IfOk, OnOk};
-ghost use Rattle.sms_field.specs.Answer.{Sees};
+ghost use Rattle.sms_field.specs.Reading.Answer.{Sees};
 ghost use Rattle.sms_tpdu.specs.Report.Kind.{KindPart, AreKindPartLaws, no_part, failure_cause, centre_stamp};
 ghost use Rattle.sms_tpdu.specs.Report.KindLaws.{no_part_laws, failure_cause_laws, centre_stamp_laws};
 ghost use Rattle.sms_tpdu.specs.Report.Octet.{FirstOctet, on_submission, on_delivery};

@@ -1,7 +1,7 @@
 //! An indicator and the parts of a report, or nothing at all.
 
 ghost use Rattle.std.specs.Prelude.{◌≡◌, ◌++◌, IfOk, OnOk};
-ghost use Rattle.sms_field.specs.Answer.{Sees};
+ghost use Rattle.sms_field.specs.Reading.Answer.{Sees};
 ghost use Rattle.sms_tpdu.specs.Report.AnnouncedParts.{AreParts};
 ghost use Rattle.sms_tpdu.specs.Report.Indicated as formats;
 ghost use Rattle.sms_tpdu.specs.Report.Indicated.{indicated_parts, optional_parts_octets};

@@ -1,10 +1,10 @@
 //! The data of a report and the parts that are not always there, where they lie.
 
 ghost use Rattle.std.specs.Prelude.{◌≡◌, ◌≤◌, length, None, IfOk, IsOk, IfSome};
-ghost use Rattle.sms_field.specs.Answer.{Sees};
+ghost use Rattle.sms_field.specs.Reading.Answer.{Sees};
 ghost use Rattle.sms_tpdu.specs.UserData.Lengths as lengths;
 ghost use Rattle.sms_tpdu.specs.Report.AnnouncedParts as formats;
-ghost use Rattle.sms_field.specs.Optional.{part_if};
+ghost use Rattle.sms_field.specs.Field.Optional.{part_if};
 ghost use Rattle.sms_tpdu.specs.Report.AnnouncedParts.{report_data, IsReportData, AreParts};
 
 use crate::fault::UnitFault;

@@ -2,7 +2,7 @@ use Rattle.sms_message.specs.declared.outcome.Step.{Step}
 use Rattle.sms_message.specs.declared.outcome.Outcome.TheVariants.{Noted}
 use Rattle.std.proofs.Common.{◌≡◌, true, false, refl, sym, ap, subst, ◌∙◌, Ok, Err}
 use Rattle.sms_message.specs.declared.message.Message.{Message}
-use Rattle.sms_message.specs.Message.Tests.{is_data}
+use Rattle.sms_message.specs.Inside.Tests.{is_data}
 use Rattle.sms_message.specs.declared.outcome.Dropped.TheVariants.{Unmatched, NotCp}
 use Rattle.sms_centre.specs.Centre.{centre_receives}
 use Rattle.sms_centre.specs.Centre.Calls.{CentreAnswers}

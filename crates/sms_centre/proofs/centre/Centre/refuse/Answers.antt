@@ -5,7 +5,7 @@ use Rattle.sms_relay.specs.declared.side.Side.TheVariants.{ToPhone}
 use Rattle.sms_message.specs.Few.{few_put}
 use Rattle.sms_message.specs.Message.Answers.{answers}
 use Rattle.sms_message.specs.declared.outcome.Outcome.TheVariants.{Refused}
-use Rattle.sms_message.specs.Message.Tests.{is_transfer}
+use Rattle.sms_message.specs.Inside.Tests.{is_transfer}
 use Rattle.sms_centre.specs.Centre.{centre_opened}
 use Rattle.sms_centre.specs.Centre.Calls.{CentreAnswers}
 use Rattle.sms_centre.proofs.Taking.{puts_answer, nothing_comes}

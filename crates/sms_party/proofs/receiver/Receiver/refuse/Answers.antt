@@ -1,7 +1,7 @@
 use Rattle.std.proofs.Common.{◌≡◌, true, false, sym, ap, subst, ◌∙◌, Err}
 use Rattle.sms_message.specs.declared.outcome.Dropped.TheVariants.{Unmatched}
 use Rattle.sms_message.specs.declared.message.Relay.{Relay}
-use Rattle.sms_message.specs.Message.Tests.{is_transfer}
+use Rattle.sms_message.specs.Inside.Tests.{is_transfer}
 use Rattle.sms_party.specs.Receiver.{receiver_opened}
 use Rattle.sms_party.specs.Receiver.Standing.{ReceiverAnswers}
 use Rattle.sms_party.proofs.Storing.{puts_answer, nothing_comes}

@@ -1,8 +1,8 @@
 use Rattle.std.proofs.Common.{List, Option, true, false, ap, subst}
 use Rattle.sms_centre.specs.declared.centre.held.Ending.{Ending}
 use Rattle.sms_centre.specs.Centre.Value.{HeldValue, HoldingsValue}
-use Rattle.sms_centre.specs.Centre.Kept.{ForgetsFirst}
-use Rattle.sms_centre.specs.Centre.Holdings.{AreHeld, ForgetsOne}
+use Rattle.sms_centre.specs.Inside.Kept.{ForgetsFirst}
+use Rattle.sms_centre.specs.Inside.Holdings.{AreHeld, ForgetsOne}
 use Rattle.sms_centre.proofs.Holdings.{first_within, forgotten_held, one_forgotten, lines_stay}
 use Rattle.sms_centre.proofs.centre.holdings.Holdings.forget_one.Goals as goal
 

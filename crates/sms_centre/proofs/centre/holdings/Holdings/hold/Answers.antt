@@ -1,7 +1,7 @@
 use Rattle.std.proofs.Common.{◌≤◌, List, Result, Ok, Err, OnOk, OnErr, sym, subst}
 use Rattle.sms_centre.specs.Centre.Value.{LineValue, HeldValue, HoldingsValue}
-use Rattle.sms_centre.specs.Centre.Kept.{free_at}
-use Rattle.sms_centre.specs.Centre.Holdings.{AreHeld}
+use Rattle.sms_centre.specs.Inside.Kept.{free_at}
+use Rattle.sms_centre.specs.Inside.Holdings.{AreHeld}
 use Rattle.sms_centre.proofs.Holdings.{is_new, accepted_held}
 use Rattle.sms_centre.proofs.centre.holdings.Holdings.hold.Goals as goal
 

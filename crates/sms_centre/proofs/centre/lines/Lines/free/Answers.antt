@@ -1,7 +1,7 @@
 use Rattle.std.proofs.Common.{◌<◌, List, length, refl, sym, ap, ◌∙◌, subst}
 use Rattle.std.proofs.lemmas.Option.{slice_get_read}
 use Rattle.sms_centre.specs.Centre.Value.{LineValue}
-use Rattle.sms_centre.specs.Centre.Kept.{free_at}
+use Rattle.sms_centre.specs.Inside.Kept.{free_at}
 use Rattle.sms_centre.proofs.Lines.{free_is}
 use Rattle.sms_centre.proofs.centre.lines.Lines.free.Goals as goal
 

@@ -4,7 +4,7 @@ use Rattle.std.proofs.Math.ListN.{set}
 use Rattle.std.proofs.lemmas.Option.{slice_get_read}
 use Rattle.sms_centre.specs.Centre.Value.{LineValue}
 use Rattle.sms_centre.proofs.Lines.{addresses_set, free_is}
-use Rattle.sms_centre.specs.Centre.Kept.{free_at}
+use Rattle.sms_centre.specs.Inside.Kept.{free_at}
 use Rattle.sms_centre.proofs.centre.lines.Lines.hold.Goals as goal
 
 pub hold-requires-clause-stamp : goal.hold-requires-clause-stamp
