@@ -3,11 +3,7 @@
 use crate::fault::Fault;
 use crate::lines::Lines;
 use crate::printed::{Answer, Hexadecimal, Octet, StampText};
-use sms_field::Stamp;
-use sms_tpdu::{
-    DeliverAckView, DeliverErrorView, ReportDataView, ReportPart, ReportStamp, ReportView,
-    SubmitAckView, SubmitErrorView,
-};
+use sms_tpdu::{DeliverAckView, DeliverErrorView, ReportDataView, SubmitAckView, SubmitErrorView};
 
 /// The lines of what a report need not have.
 pub fn put_parts(
@@ -28,29 +24,13 @@ pub fn put_parts(
     }
 }
 
-/// The lines of a report, with its failure cause and its stamp where it has them.
-fn put_report<C: ReportPart, S: ReportStamp>(
-    lines: &mut Lines,
-    kind: &str,
-    report: &ReportView<'_, C, S>,
-    cause: Option<u8>,
-    stamp: Option<Stamp>,
-) {
-    lines.put("type", kind);
-    lines.put("header", Answer(report.has_header));
-    if let Some(cause) = cause {
-        lines.put("cause", Octet(cause));
-    }
-    if let Some(stamp) = stamp {
-        lines.put("stamp", StampText(stamp));
-    }
-    put_parts(lines, report.pid, report.dcs, &report.user);
-}
-
 /// Writes the fields of an SMS-SUBMIT-REPORT under an acknowledgement.
 pub fn show_submit_ack(octets: &[u8], lines: &mut Lines) -> Result<(), Fault> {
     let (report, used) = SubmitAckView::read(octets)?;
-    put_report(lines, "submit-ack", &report, None, Some(report.stamp));
+    lines.put("type", "submit-ack");
+    lines.put("header", Answer(report.has_header));
+    lines.put("stamp", StampText(report.stamp));
+    put_parts(lines, report.pid, report.dcs, &report.user);
     lines.put_rest(octets.len() - used);
     Ok(())
 }
@@ -58,13 +38,11 @@ pub fn show_submit_ack(octets: &[u8], lines: &mut Lines) -> Result<(), Fault> {
 /// Writes the fields of an SMS-SUBMIT-REPORT under an error.
 pub fn show_submit_error(octets: &[u8], lines: &mut Lines) -> Result<(), Fault> {
     let (report, used) = SubmitErrorView::read(octets)?;
-    put_report(
-        lines,
-        "submit-error",
-        &report,
-        Some(report.cause),
-        Some(report.stamp),
-    );
+    lines.put("type", "submit-error");
+    lines.put("header", Answer(report.has_header));
+    lines.put("cause", Octet(report.cause));
+    lines.put("stamp", StampText(report.stamp));
+    put_parts(lines, report.pid, report.dcs, &report.user);
     lines.put_rest(octets.len() - used);
     Ok(())
 }
@@ -72,7 +50,9 @@ pub fn show_submit_error(octets: &[u8], lines: &mut Lines) -> Result<(), Fault> 
 /// Writes the fields of an SMS-DELIVER-REPORT under an acknowledgement.
 pub fn show_deliver_ack(octets: &[u8], lines: &mut Lines) -> Result<(), Fault> {
     let (report, used) = DeliverAckView::read(octets)?;
-    put_report(lines, "deliver-ack", &report, None, None);
+    lines.put("type", "deliver-ack");
+    lines.put("header", Answer(report.has_header));
+    put_parts(lines, report.pid, report.dcs, &report.user);
     lines.put_rest(octets.len() - used);
     Ok(())
 }
@@ -80,7 +60,10 @@ pub fn show_deliver_ack(octets: &[u8], lines: &mut Lines) -> Result<(), Fault> {
 /// Writes the fields of an SMS-DELIVER-REPORT under an error.
 pub fn show_deliver_error(octets: &[u8], lines: &mut Lines) -> Result<(), Fault> {
     let (report, used) = DeliverErrorView::read(octets)?;
-    put_report(lines, "deliver-error", &report, Some(report.cause), None);
+    lines.put("type", "deliver-error");
+    lines.put("header", Answer(report.has_header));
+    lines.put("cause", Octet(report.cause));
+    put_parts(lines, report.pid, report.dcs, &report.user);
     lines.put_rest(octets.len() - used);
     Ok(())
 }
