@@ -4,15 +4,16 @@ use Rattle.std.specs.Prelude.{◌==◌, ◌&&◌, ◌||◌}
 use Rattle.std.specs.List.{slice_get}
 use Rattle.std.proofs.Math.ListN.{set}
 use Rattle.std.proofs.lemmas.Bool.Decides.{nat_tests}
-use Rattle.sms_field.specs.AddressValue.{AddressValue}
+use Rattle.sms_field.specs.Address.Value.{AddressValue}
 use Rattle.sms_message.specs.Address.{address_of}
 use Rattle.sms_centre.specs.Centre.State.{Acceptance, CentreState}
 use Rattle.sms_centre.specs.Centre.Held.{unended, next_stamp}
 use Rattle.sms_centre.specs.Centre.Submissions.{after_acceptance, accept}
 use Rattle.sms_centre.specs.declared.centre.held.Ending.{Ending}
 use Rattle.sms_centre.specs.Centre.Value.{CentreValue, LineValue, WaitingValue, addresses, HeldValue, endings_after}
-use Rattle.sms_centre.specs.Centre.Lines.{accepting_line, ChangesLine}
-use Rattle.sms_centre.specs.Centre.Kept.{free_at, key_of, is_kept, HoldsAlso}
+use Rattle.sms_centre.specs.Inside.Lines.{accepting_line, ChangesLine}
+use Rattle.sms_centre.specs.Inside.Kept.{free_at, HoldsAlso}
+use Rattle.sms_centre.specs.Centre.Kept.{key_of, is_kept}
 use Rattle.sms_centre.specs.Centre.Standing.{HeldStands, waiting_of, waiting_in, LineStands, StandsFor}
 use Rattle.sms_centre.proofs.Lines.{set_stands, addresses_set, waiting_end, free_is}
 use Rattle.sms_centre.proofs.Keys.{key_parts}

@@ -2,7 +2,7 @@
 use Rattle.std.proofs.Common.{◌≡◌, ℕ, Bool, true, false, cond, not, nat_lt, List, [], ◌∷◌, Option, Some, None, Result, Ok, Err, OnErr, refl, sym, ap, ◌∙◌, subst, arith}
 use Rattle.std.specs.Prelude.{◌==◌}
 use Rattle.std.specs.List.{slice_get, filter}
-use Rattle.sms_field.specs.AddressValue.{AddressValue}
+use Rattle.sms_field.specs.Address.Value.{AddressValue}
 use Rattle.sms_message.specs.declared.message.Tag.{Tag}
 use Rattle.sms_centre.specs.Centre.State.{Acceptance, Pushing, CentreState}
 use Rattle.sms_centre.specs.Centre.Held.{unended}
@@ -10,7 +10,7 @@ use Rattle.sms_message.specs.Few.{FewPackets, few_put}
 use Rattle.sms_message.specs.declared.message.Message.TheVariants.{Note}
 use Rattle.sms_centre.specs.Centre.Verdicts.{verdict, unqueued, stays, left_in, after_answer, settled, centre_hears}
 use Rattle.sms_centre.specs.Centre.Value.{CentreValue, LineValue, WaitingValue, addresses}
-use Rattle.sms_centre.specs.Centre.Lines.{left_waiting, HearsFor, LineHears, ChangesLine}
+use Rattle.sms_centre.specs.Inside.Lines.{left_waiting, HearsFor, LineHears, ChangesLine}
 use Rattle.sms_centre.specs.Centre.Standing.{waiting_in, push_of, LineStands, StandsFor}
 use Rattle.sms_centre.specs.Centre.Calls.{CentreAnswers}
 use Rattle.sms_centre.specs.declared.centre.waiting.Push.{Push}

@@ -6,7 +6,7 @@ use Rattle.std.proofs.Math.ListN.{set}
 use Rattle.std.proofs.lemmas.Bool.Decides.{nat_tests}
 use Rattle.std.proofs.lemmas.List.{length-append}
 use Rattle.std.proofs.lemmas.List.Elements.{All-nil, All-cons, All-head, All-tail, All-push, All-weaker, All-filter, filter_passes, filter-append, Contains-append_left, Contains-append_right, Contains-append_cases}
-use Rattle.sms_field.specs.AddressValue.{AddressValue}
+use Rattle.sms_field.specs.Address.Value.{AddressValue}
 use Rattle.sms_centre.specs.declared.centre.held.Ending.{Ending}
 use Rattle.sms_centre.specs.declared.centre.held.HeldKey.{HeldKey}
 use Rattle.sms_message.specs.declared.message.Tag.{Tag}
@@ -15,10 +15,11 @@ use Rattle.sms_message.specs.declared.outcome.Step.{Step}
 use Rattle.sms_message.specs.declared.outcome.Dropped.{Dropped}
 use Rattle.sms_message.specs.declared.outcome.Dropped.TheVariants.{NotCp, Unmatched, Busy, Memory, TooManySegments}
 use Rattle.sms_centre.specs.Centre.Verdicts.{stays}
-use Rattle.sms_centre.specs.Centre.Kept.{free_at, IsPutIn, IsLeftLater, IsHeldLater, ForgetsFirst}
+use Rattle.sms_centre.specs.Inside.Kept.{free_at, IsPutIn, ForgetsFirst}
+use Rattle.sms_centre.specs.Centre.Kept.{IsLeftLater, IsHeldLater}
 use Rattle.sms_centre.specs.Centre.Value.{WaitingValue, LineValue, HeldValue, HoldingsValue, waiting_at, line_at, endings_after}
-use Rattle.sms_centre.specs.Centre.Lines.{new_line, accepting_line, forgetting_line, ChangesLine, PushesFrom, LinePushes, HearsFor, LineHears}
-use Rattle.sms_centre.specs.Centre.Holdings.{ending_of, AreHeld, LeavesSame, ForgetsOne}
+use Rattle.sms_centre.specs.Inside.Lines.{new_line, accepting_line, forgetting_line, ChangesLine, PushesFrom, LinePushes, HearsFor, LineHears}
+use Rattle.sms_centre.specs.Inside.Holdings.{ending_of, AreHeld, LeavesSame, ForgetsOne}
 use Rattle.sms_centre.proofs.Lines.{set_there, set_elsewhere, free_is}
 
 -- ---- what is left at a moment

@@ -4,13 +4,13 @@ use Rattle.std.proofs.Common.{length, get_or, ◌≡◌, ◌≢◌, ℕ, zero, s
 use Rattle.std.specs.List.{slice_get}
 use Rattle.std.proofs.Math.ListN.{set}
 use Rattle.std.proofs.lemmas.Bool.Decides.{nat_tests}
-use Rattle.sms_field.specs.AddressValue.{AddressValue}
+use Rattle.sms_field.specs.Address.Value.{AddressValue}
 use Rattle.sms_message.specs.Address.{address_of}
-use Rattle.sms_centre.specs.Centre.Kept.{free_at}
+use Rattle.sms_centre.specs.Inside.Kept.{free_at}
 use Rattle.sms_centre.specs.Centre.State.{Acceptance, Line}
 use Rattle.sms_message.specs.Changed.{changed}
 use Rattle.sms_centre.specs.Centre.Held.{unended}
-use Rattle.sms_centre.specs.Centre.Lines.{ChangesLine}
+use Rattle.sms_centre.specs.Inside.Lines.{ChangesLine}
 use Rattle.sms_centre.specs.Centre.Value.{CentreValue, LineValue, WaitingValue, addresses}
 use Rattle.sms_centre.specs.Centre.Standing.{waiting_of, waiting_in, LineStands}
 

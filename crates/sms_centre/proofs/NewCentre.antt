@@ -2,11 +2,11 @@
 use Rattle.std.proofs.Common.{◌≡◌, ℕ, ◌<◌, zero, suc, List, [], ◌∷◌, map, Some, None, refl, sym, ap, subst, arith}
 use Rattle.std.specs.List.{slice_get}
 use Rattle.std.proofs.lemmas.List.Elements.{All-nil}
-use Rattle.sms_field.specs.AddressValue.{AddressValue}
+use Rattle.sms_field.specs.Address.Value.{AddressValue}
 use Rattle.sms_centre.specs.Centre.State.{new_centre}
 use Rattle.sms_centre.specs.Centre.Value.{LineValue, addresses}
 use Rattle.sms_centre.specs.declared.centre.held.Ending.{Ending}
-use Rattle.sms_centre.specs.Centre.Lines.{new_line}
+use Rattle.sms_centre.specs.Inside.Lines.{new_line}
 use Rattle.sms_centre.specs.Centre.Standing.{LineStands, StandsFor}
 
 pub new_addresses : (phones : List AddressValue) → addresses (map new_line phones) ≡ phones

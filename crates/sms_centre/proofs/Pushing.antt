@@ -3,7 +3,7 @@ use Rattle.std.proofs.Common.{◌≡◌, ℕ, suc, Bool, false, List, [], ◌∷
 use Rattle.std.proofs.lemmas.Bool.Decides.{nat_tests}
 use Rattle.std.specs.List.{slice_get}
 use Rattle.std.proofs.Math.ListN.{set}
-use Rattle.sms_field.specs.AddressValue.{AddressValue}
+use Rattle.sms_field.specs.Address.Value.{AddressValue}
 use Rattle.sms_relay.specs.declared.side.Side.TheVariants.{ToPhone}
 use Rattle.sms_message.specs.Message.{following}
 use Rattle.sms_message.specs.Message.Tags.{following_is}
@@ -19,7 +19,7 @@ use Rattle.sms_centre.specs.Centre.Value.{CentreValue, LineValue, WaitingValue, 
 use Rattle.sms_message.specs.Does.{packets_of, CarriesEach}
 use Rattle.sms_message.specs.Few.{FewPackets, few_put}
 use Rattle.std.proofs.lemmas.List.{length-map}
-use Rattle.sms_centre.specs.Centre.Lines.{delivery_of, pushed_line, PushesFrom, LinePushes, ChangesLine}
+use Rattle.sms_centre.specs.Inside.Lines.{delivery_of, pushed_line, PushesFrom, LinePushes, ChangesLine}
 use Rattle.sms_centre.specs.Centre.Standing.{waiting_of, waiting_in, LineStands, StandsFor}
 use Rattle.sms_centre.specs.Centre.Calls.{CentreAnswers}
 use Rattle.sms_message.specs.declared.outcome.Step.{Step}

@@ -38,7 +38,7 @@ struct Fixture {
 }
 
 /// A centre with the phones +1001, +1002 and +1003.
-#[tactic(auto, unfolding(sms_field::specs::SameAddress::same_address))]
+#[tactic(auto, unfolding(sms_field::specs::Address::Same::same_address))]
 fn new_fixture(alloc: Global, held: usize) -> Result<Fixture, Fail>
     requires some { 0 < held }
     requires most { held ≤ HELD_MAX }

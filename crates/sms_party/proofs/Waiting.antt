@@ -3,7 +3,7 @@ use Rattle.std.proofs.Common.{◌≡◌, ℕ, zero, suc, ◌+◌, ◌-◌, ◌%�
 use Rattle.std.specs.List.{slice_get, AllByRecursion, range_with_len}
 use Rattle.std.proofs.lemmas.Bool.Decides.{nat_tests}
 use Rattle.std.proofs.lemmas.List.{length-append}
-use Rattle.sms_field.specs.AddressValue.{AddressValue}
+use Rattle.sms_field.specs.Address.Value.{AddressValue}
 use Rattle.sms_tpdu.specs.Submit.{Submission}
 use Rattle.sms_relay.specs.declared.side.Side.TheVariants.{FromPhone}
 use Rattle.sms_join.specs.declared.segment.Segment.{Segment}
@@ -24,7 +24,8 @@ use Rattle.sms_party.specs.Sender.Segments.{submission_of}
 use Rattle.sms_party.specs.Sender.Putting.{Puts, puts_text, puts_first, puts}
 use Rattle.sms_party.specs.Sender.Calls.{appended, ends}
 use Rattle.sms_party.specs.Sender.Answers.{advanced}
-use Rattle.sms_party.specs.Sender.Value.{TextValue, SenderValue, submission_in, segment_put, text_put, counted, next_set, text_in, entered, ended_with, stepped}
+use Rattle.sms_party.specs.Sender.Value.{TextValue, SenderValue}
+use Rattle.sms_party.specs.Inside.Sender.{submission_in, segment_put, text_put, counted, next_set, text_in, entered, ended_with, stepped}
 use Rattle.sms_party.specs.Sender.Stands.{TextIs, ArePending, IsUnaccepted, status_if, Keeps, HasTries}
 
 -- ---- a segment is a piece of its text

@@ -6,7 +6,7 @@ ghost use Rattle.sms_field.specs.Coding.{alphabet_at};
 ghost use Rattle.sms_join.specs.declared.units.Units.{Units as TheUnits};
 ghost use Rattle.sms_join.specs.Piece.{piece_of};
 ghost use Rattle.sms_tpdu.specs.UserData.ConcatenationFound.{IsPlace, concat_of_header};
-ghost use Rattle.sms_join.specs.Finishing.{would_finish};
+ghost use Rattle.sms_join.specs.Joiner.Finishing.{would_finish};
 ghost use Rattle.sms_message.specs.Few.{FewPackets};
 ghost use Rattle.sms_message.specs.Memory.{MemoryOnlyFor};
 ghost use Rattle.sms_message.specs.Message.Glance.{glance_of};

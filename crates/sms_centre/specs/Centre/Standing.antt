@@ -1,6 +1,6 @@
 -- The states of the machine for which the code of the centre stands.
 use Rattle.std.specs.Prelude.{◌≡◌, ℕ, ◌≤◌, ◌<◌, max, List, [], ◌∷◌, All, length, Option, Some, None, slice_get}
-use Rattle.sms_field.specs.AddressValue.{AddressValue}
+use Rattle.sms_field.specs.Address.Value.{AddressValue}
 use Rattle.sms_message.specs.Address.{address_of}
 use Rattle.sms_message.specs.Message.{tag_of}
 use Rattle.sms_centre.specs.Centre.State.{Acceptance, Pushing, Line, CentreState}

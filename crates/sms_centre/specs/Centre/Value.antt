@@ -1,7 +1,7 @@
 -- What the code of the centre holds, as contracts see it.
 use Rattle.std.specs.Prelude.{ℕ, Bool, nat_lt, List, map, Option}
 use Rattle.std.specs.List.{filter}
-use Rattle.sms_field.specs.AddressValue.{AddressValue}
+use Rattle.sms_field.specs.Address.Value.{AddressValue}
 use Rattle.sms_tpdu.specs.Submit.{Submission}
 use Rattle.sms_message.specs.declared.message.Tag.{Tag}
 use Rattle.sms_centre.specs.declared.centre.held.HeldKey.{HeldKey}

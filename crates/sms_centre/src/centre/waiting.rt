@@ -1,7 +1,7 @@
 //! Messages that wait for their delivery.
 
 ghost use Rattle.std.specs.Prelude.{◌≡◌, IfOk};
-ghost use Rattle.sms_centre.specs.Centre.Lines.{delivery_of, is_awaited};
+ghost use Rattle.sms_centre.specs.Inside.Lines.{delivery_of, is_awaited};
 
 use crate::centre::stamping::stamp_of;
 use sms_field::Address;
@@ -43,7 +43,7 @@ pub(crate) struct WaitingMessage {
 
 impl Model for WaitingMessage {
     ghost use Rattle.std.specs.Prelude.{◌<◌};
-    ghost use Rattle.sms_field.specs.Times.{end_of_2099};
+    ghost use Rattle.sms_field.specs.Time.Computed.{end_of_2099};
     ghost use Rattle.sms_centre.specs.Centre.Value.{WaitingValue};
 
     ghost Value = { WaitingValue };

@@ -1,7 +1,7 @@
 -- The text of a delivery is offered to the joiner of a phone, and goes to its store when it is
 -- whole.
 use Rattle.std.specs.Prelude.{ℕ, Bool, ◌&&◌, if◌then◌else◌, nat_le, List, ◌∷◌, length, Option, Some, None, Ok}
-use Rattle.sms_field.specs.AddressValue.{AddressValue}
+use Rattle.sms_field.specs.Address.Value.{AddressValue}
 use Rattle.sms_tpdu.specs.Deliver.{Delivery}
 use Rattle.sms_relay.specs.declared.side.Side.TheVariants.{FromPhone}
 use Rattle.sms_join.specs.declared.units.Units.{Units}
@@ -9,7 +9,7 @@ use Rattle.sms_join.specs.Piece.{Piece}
 use Rattle.sms_join.specs.Reading.{text_of_segments}
 use Rattle.sms_join.specs.Joiner as joiner
 use Rattle.sms_join.specs.Joiner.{Answer, answer, answered}
-use Rattle.sms_join.specs.Finishing.{would_finish}
+use Rattle.sms_join.specs.Joiner.Finishing.{would_finish}
 use Rattle.sms_join.specs.Arrivals.{Arrival}
 use Rattle.sms_message.specs.Message.{Origin}
 use Rattle.sms_message.specs.Message.Answers.{answers, plain_ack, deliver_error_of}

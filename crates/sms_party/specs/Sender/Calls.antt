@@ -1,6 +1,6 @@
 -- A text is typed, or an answer does not come in time.
 use Rattle.std.specs.Prelude.{ℕ, Bool, true, false, if◌then◌else◌, ◌==◌, nat_lt, nat_le, List, [], ◌∷◌, ◌++◌, length, Ok}
-use Rattle.sms_field.specs.AddressValue.{AddressValue}
+use Rattle.sms_field.specs.Address.Value.{AddressValue}
 use Rattle.sms_join.specs.declared.units.Units.{Units}
 use Rattle.sms_message.specs.declared.outcome.Outcome.TheVariants.{Typed, Repeated, GaveUp, Idle}
 use Rattle.sms_message.specs.declared.outcome.Dropped.TheVariants.{Busy, TooManySegments}

@@ -1,5 +1,5 @@
 use Rattle.std.proofs.Common.{◌≡◌, map, take}
-use Rattle.sms_centre.specs.Centre.Lines.{new_line}
+use Rattle.sms_centre.specs.Inside.Lines.{new_line}
 use Rattle.sms_centre.proofs.centre.holdings.new_lines.Given as goal
 
 abbrev pub invariant-loop-address : goal.invariant-loop-address

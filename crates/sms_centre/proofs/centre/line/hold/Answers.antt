@@ -1,7 +1,7 @@
 use Rattle.std.proofs.Common.{◌≡◌, ℕ, ◌+◌, ◌-◌, ◌^◌, ◌<◌, ◌≤◌, List, [], ◌∷◌, ◌++◌, sym, ap, ◌∙◌, subst, arith, rules}
 use Rattle.lru.specs.LruCache.{LruCache}
-use Rattle.sms_centre.specs.Centre.Lines.{accepting_line}
-use Rattle.sms_centre.specs.Centre.Queue.{queue_of, IsQueue}
+use Rattle.sms_centre.specs.Inside.Lines.{accepting_line}
+use Rattle.sms_centre.specs.Inside.Queue.{queue_of, IsQueue}
 use Rattle.sms_centre.specs.Centre.Value.{LineValue, WaitingValue}
 use Rattle.sms_centre.proofs.Queues.{put_first, accepted_queue, accepted_messages, put_undone}
 use Rattle.sms_centre.proofs.centre.line.hold.Goals as goal

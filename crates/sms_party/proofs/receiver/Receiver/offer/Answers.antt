@@ -4,7 +4,7 @@ use Rattle.std.specs.String.{string_bytes}
 use Rattle.sms_join.specs.declared.offer.Offer.{Offer}
 use Rattle.sms_join.specs.declared.offer.OfferFault.{OfferFault}
 use Rattle.sms_join.specs.Piece.{Piece, piece_of}
-use Rattle.sms_join.specs.Offering.{Says}
+use Rattle.sms_join.specs.Joiner.Offering.{Says}
 use Rattle.sms_message.specs.declared.outcome.Step.{Step}
 use Rattle.sms_message.specs.declared.outcome.Outcome.TheVariants as outcome
 use Rattle.sms_party.specs.Receiver.State.{Entry}

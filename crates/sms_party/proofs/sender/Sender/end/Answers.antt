@@ -5,7 +5,8 @@ use Rattle.std.specs.List.{slice_get}
 use Rattle.sms_message.specs.declared.message.Message.{Message}
 use Rattle.sms_party.specs.declared.sender.Status.{Status}
 use Rattle.sms_message.specs.Does.{CarriesEach}
-use Rattle.sms_party.specs.Sender.Value.{TextValue, SenderValue, text_put, counted, ended_with}
+use Rattle.sms_party.specs.Sender.Value.{TextValue, SenderValue}
+use Rattle.sms_party.specs.Inside.Sender.{text_put, counted, ended_with}
 use Rattle.sms_party.proofs.SenderParts.{carried, is_out, second_first}
 use Rattle.sms_party.proofs.sender.Sender.end.Goals as goal
 

@@ -5,7 +5,8 @@ use Rattle.std.specs.List.{slice_get}
 use Rattle.sms_message.specs.declared.message.Message.{Message}
 use Rattle.sms_message.specs.declared.outcome.Outcome.TheVariants as outcome
 use Rattle.sms_message.specs.Does.{CarriesEach}
-use Rattle.sms_party.specs.Sender.Value.{SenderValue, text_put, counted, stepped}
+use Rattle.sms_party.specs.Sender.Value.{SenderValue}
+use Rattle.sms_party.specs.Inside.Sender.{text_put, counted, stepped}
 use Rattle.sms_party.proofs.SenderParts.{carried, is_out}
 use Rattle.sms_party.proofs.sender.Sender.go_on.Goals as goal
 

@@ -6,7 +6,8 @@ use Rattle.sms_message.specs.declared.outcome.Outcome.TheVariants as outcome
 use Rattle.sms_party.specs.declared.sender.Status.TheVariants.{Accepted, Failed}
 use Rattle.sms_message.specs.Message.{same_tag}
 use Rattle.sms_message.specs.Does.{Does}
-use Rattle.sms_party.specs.Sender.Value.{TextValue, SenderValue, Did, puts_out, ended_with}
+use Rattle.sms_party.specs.Sender.Value.{TextValue, SenderValue}
+use Rattle.sms_party.specs.Inside.Sender.{Did, puts_out, ended_with}
 use Rattle.sms_party.proofs.SenderSteps.{heard_failed, heard_more, heard_last}
 use Rattle.sms_party.proofs.sender.Sender.hear.Goals as goal
 

@@ -1,6 +1,6 @@
 use Rattle.std.proofs.Common.{Bool, ap, ◌∙◌, List}
 use Rattle.std.specs.Prelude.{position}
-use Rattle.sms_field.specs.AddressValue.{AddressValue}
+use Rattle.sms_field.specs.Address.Value.{AddressValue}
 use Rattle.sms_message.specs.Address.{phone_at}
 use Rattle.sms_centre.specs.Centre.Value.{HoldingsValue, addresses}
 use Rattle.sms_centre.proofs.SameAddresses.{same_test, either_way}

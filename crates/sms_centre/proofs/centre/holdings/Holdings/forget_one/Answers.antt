@@ -3,9 +3,9 @@ use Rattle.std.proofs.Math.ListN.{set}
 use Rattle.std.proofs.lemmas.Option.{slice_get_read}
 use Rattle.sms_centre.specs.declared.centre.held.Ending.{Ending}
 use Rattle.sms_centre.specs.Centre.Value.{LineValue, HeldValue, HoldingsValue}
-use Rattle.sms_centre.specs.Centre.Kept.{ForgetsFirst}
-use Rattle.sms_centre.specs.Centre.Lines.{forgetting_line}
-use Rattle.sms_centre.specs.Centre.Holdings.{AreHeld, ForgetsOne}
+use Rattle.sms_centre.specs.Inside.Kept.{ForgetsFirst}
+use Rattle.sms_centre.specs.Inside.Lines.{forgetting_line}
+use Rattle.sms_centre.specs.Inside.Holdings.{AreHeld, ForgetsOne}
 use Rattle.sms_centre.proofs.Lines.{changed_line, addresses_set}
 use Rattle.sms_centre.proofs.Holdings.{first_within, forgotten_held, one_forgotten, lines_stay}
 use Rattle.sms_centre.proofs.centre.holdings.Holdings.forget_one.Goals as goal

@@ -1,6 +1,6 @@
 use Rattle.std.proofs.Common.{◌<◌, List, length, refl, sym, ap, ◌∙◌, subst}
 use Rattle.std.proofs.lemmas.Option.{slice_get_read}
-use Rattle.sms_centre.specs.Centre.Kept.{free_at}
+use Rattle.sms_centre.specs.Inside.Kept.{free_at}
 use Rattle.sms_centre.specs.Centre.Value.{LineValue, HoldingsValue}
 use Rattle.sms_centre.proofs.Lines.{free_is}
 use Rattle.sms_centre.proofs.centre.holdings.Holdings.free.Goals as goal

@@ -2,9 +2,9 @@ use Rattle.std.proofs.Common.{◌≡◌, ◌<◌, ◌≤◌, List, Result, Ok, E
 use Rattle.std.proofs.Math.ListN.{set}
 use Rattle.std.proofs.lemmas.Option.{slice_get_read}
 use Rattle.sms_centre.specs.Centre.Value.{LineValue, HeldValue, HoldingsValue, addresses}
-use Rattle.sms_centre.specs.Centre.Kept.{free_at}
-use Rattle.sms_centre.specs.Centre.Lines.{accepting_line, ChangesLine}
-use Rattle.sms_centre.specs.Centre.Holdings.{AreHeld}
+use Rattle.sms_centre.specs.Inside.Kept.{free_at}
+use Rattle.sms_centre.specs.Inside.Lines.{accepting_line, ChangesLine}
+use Rattle.sms_centre.specs.Inside.Holdings.{AreHeld}
 use Rattle.sms_centre.proofs.Lines.{changed_line, free_is, addresses_set, set_same}
 use Rattle.sms_centre.proofs.Holdings.{is_new, accepted_held}
 use Rattle.sms_centre.proofs.centre.holdings.Holdings.hold.Goals as goal

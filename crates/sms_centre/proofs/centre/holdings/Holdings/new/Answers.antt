@@ -1,6 +1,6 @@
 use Rattle.std.proofs.Common.{List, [], sym, ap, ◌∙◌, subst}
 use Rattle.sms_centre.specs.Centre.Value.{LineValue, HeldValue, addresses}
-use Rattle.sms_centre.specs.Centre.Holdings.{AreHeld}
+use Rattle.sms_centre.specs.Inside.Holdings.{AreHeld}
 use Rattle.sms_centre.proofs.Holdings.{none_held}
 use Rattle.sms_centre.proofs.NewCentre.{new_addresses}
 use Rattle.sms_centre.proofs.centre.holdings.Holdings.new.Goals as goal

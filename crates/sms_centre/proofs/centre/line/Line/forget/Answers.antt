@@ -1,7 +1,7 @@
 use Rattle.std.proofs.Common.{◌≡◌, ℕ, ◌^◌, ◌-◌, List, Some, None, sym, ap, ◌∙◌, subst, arith}
 use Rattle.lru.specs.LruCache.{LruCache}
-use Rattle.sms_centre.specs.Centre.Lines.{forgetting_line}
-use Rattle.sms_centre.specs.Centre.Queue.{queue_of}
+use Rattle.sms_centre.specs.Inside.Lines.{forgetting_line}
+use Rattle.sms_centre.specs.Inside.Queue.{queue_of}
 use Rattle.sms_centre.specs.Centre.Value.{LineValue, WaitingValue}
 use Rattle.sms_centre.proofs.Queues.{taken_queue, none_ended, it_ended}
 use Rattle.sms_centre.proofs.centre.line.Line.forget.Goals as goal

@@ -2,8 +2,8 @@ use Rattle.std.proofs.Common.{◌≡◌, ◌^◌, ◌-◌, List, Option, None, O
 use Rattle.sms_centre.specs.declared.centre.waiting.Push.{Push}
 use Rattle.sms_message.specs.declared.outcome.Step.{Step}
 use Rattle.sms_centre.specs.Centre.Verdicts.{stays}
-use Rattle.sms_centre.specs.Centre.Lines.{left_waiting, HearsFor, LineHears}
-use Rattle.sms_centre.specs.Centre.Queue.{queue_of}
+use Rattle.sms_centre.specs.Inside.Lines.{left_waiting, HearsFor, LineHears}
+use Rattle.sms_centre.specs.Inside.Queue.{queue_of}
 use Rattle.sms_centre.specs.Centre.Value.{LineValue, WaitingValue}
 use Rattle.sms_centre.proofs.Queues.{taken_queue, message_left, message_stays}
 use Rattle.sms_centre.proofs.centre.line.Line.hear.Goals.{then-not-stays, else-not-stays}

@@ -5,8 +5,8 @@ use Rattle.sms_message.specs.declared.outcome.Dropped.TheVariants.{Memory}
 use Rattle.sms_message.specs.declared.message.Tag.{Tag}
 use Rattle.sms_message.specs.declared.outcome.Step.{Step}
 use Rattle.sms_message.specs.declared.outcome.Outcome.TheVariants.{Pushed}
-use Rattle.sms_centre.specs.Centre.Lines.{LinePushes}
-use Rattle.sms_centre.specs.Centre.Queue.{queue_of}
+use Rattle.sms_centre.specs.Inside.Lines.{LinePushes}
+use Rattle.sms_centre.specs.Inside.Queue.{queue_of}
 use Rattle.sms_centre.specs.Centre.Value.{LineValue, WaitingValue}
 use Rattle.sms_centre.proofs.Pushing.{pushed_from, failed_from}
 use Rattle.sms_centre.proofs.Queues.{pushed_queue, others_of, is_pushed}
