@@ -1,5 +1,5 @@
 -- Where a part lies in the octets of an input.
-use Rattle.std.proofs.Common.{◌≡◌, ℕ, List, length, take, drop}
+use Rattle.std.proofs.Common.{◌≡◌, ℕ, List, take, drop}
 use Rattle.sms_field.specs.Field.{Field}
 use Rattle.sms_field.specs.Reading.{Reads}
 use Rattle.sms_field.specs.declared.span.Span.{Span}
