@@ -41,7 +41,7 @@ returns-then-more-clause-did c =
     (ap (λ (t : Tag). same_tag c.args.tag t) (sym latest) ∙ sym c.is_same.ensures ∙ c.if-not-is_same.false) c.in-Some.first.now c.args.self.now.pending
     (some_pending _ _ _ (c.in-Some.ensures.variant.0 refl) c.self.inside.pending.ok.0 (ap (λ (v : SenderValue). length v.pending) c.self.view_is))
     (subst (λ (v : SenderValue). c.in-Some.first.now ≡ get_or v.pending 0 c.in-Some.first.now) c.self.view_is c.in-Some.ensures.lookup)
-    (subst (λ (o : Option ℕ). MatchOption o (accepts c.args.cause c.args.report.now ≡ true) (λ why. (c.args.cause ≡ Some why) × (accepts c.args.cause c.args.report.now ≡ false))) c.in_default.is c.refusal_in.ensures)
+    (subst (λ (o : Option ℕ). MatchOption o (accepts c.args.cause c.args.report.now ≡ true) (λ why. (c.args.cause ≡ Some why) × (accepts c.args.cause c.args.report.now ≡ false))) c.in_default-refusal_in.is c.refusal_in.ensures)
     (omega (arith, accepted, size, c.if-more.true))
     (c.go_on.ensures.did (Note false c.args.tag.value ∷ []) (c.in_ok-note.ensures.carries, tt))
 
@@ -55,7 +55,7 @@ returns-else-more-clause-did c =
     (ap (λ (t : Tag). same_tag c.args.tag t) (sym latest) ∙ sym c.is_same.ensures ∙ c.if-not-is_same.false) c.in-Some.first.now c.args.self.now.pending
     (some_pending _ _ _ (c.in-Some.ensures.variant.0 refl) c.self.inside.pending.ok.0 (ap (λ (v : SenderValue). length v.pending) c.self.view_is))
     (subst (λ (v : SenderValue). c.in-Some.first.now ≡ get_or v.pending 0 c.in-Some.first.now) c.self.view_is c.in-Some.ensures.lookup)
-    (subst (λ (o : Option ℕ). MatchOption o (accepts c.args.cause c.args.report.now ≡ true) (λ why. (c.args.cause ≡ Some why) × (accepts c.args.cause c.args.report.now ≡ false))) c.in_default.is c.refusal_in.ensures)
+    (subst (λ (o : Option ℕ). MatchOption o (accepts c.args.cause c.args.report.now ≡ true) (λ why. (c.args.cause ≡ Some why) × (accepts c.args.cause c.args.report.now ≡ false))) c.in_default-refusal_in.is c.refusal_in.ensures)
     (omega (arith, accepted, size, c.if-more.false))
     (subst (λ (n : ℕ). Did (puts_out (ended_with c.args.self.now (drop 1 c.args.self.now.pending) Accepted) c.args.self.now.reject (outcome.Accepted (n + 1)) (Note false c.args.tag.value ∷ [])) c.args.self.now c.end-else-more.result c.end-else-more.new.self)
     number (c.end-else-more.ensures.did (Note false c.args.tag.value ∷ []) (c.in_ok-note.ensures.carries, tt)))
