@@ -164,6 +164,7 @@ impl Stamp {
     }
 
     /// Reads a stamp at a cursor.
+    #[inline(always)]
     pub fn read_at<W: Reason>(input: &mut Cursor) -> Result<Stamp, Fault<W>>
         ensures in_range { IfOk result IsStamp }
         ensures read { Sees (stamp W.short) input.old result input.new }
