@@ -3,7 +3,7 @@ use Rattle.std.specs.Str.{chars}
 use Rattle.std.proofs.lemmas.Iterator.{YieldsList-from_chars}
 use Rattle.std.proofs.lemmas.Iterator.Consumers.{YieldsList-turn, YieldsList-end}
 use Rattle.std.proofs.lemmas.List.{length_push}
-use Rattle.sms_field.specs.AddressText.{few_digits}
+use Rattle.sms_field.specs.Address.Text.{few_digits}
 use Rattle.sms_field.proofs.DigitTexts.{one_more_digit, no_digit, no_character_left, digits_are_small, is_added, is_full, one_kept, too_many_digits, few_kept}
 use Rattle.sms_field.proofs.digits.digits_of.Goals as goal
 
