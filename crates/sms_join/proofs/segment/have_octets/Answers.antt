@@ -1,5 +1,5 @@
 use Rattle.std.proofs.Common.{ℕ, arith}
-use Rattle.sms_text.specs.Utf16Laws.{octets_are, units_from_reads}
+use Rattle.sms_text.specs.Inside.Utf16Laws.{octets_are, units_from_reads}
 use Rattle.sms_join.proofs.segment.have_octets.Goals as goal
 
 pub returns : goal.returns
