@@ -1,10 +1,6 @@
-use Rattle.std.proofs.Common.{◌≡◌, ℕ, Option, length, sym, subst, ◌∙◌, ap}
-use Rattle.sms_field.specs.Coding.{alphabet_at}
-use Rattle.sms_field.specs.declared.coding.Alphabet.{Alphabet as Coding}
-use Rattle.sms_tpdu.specs.UserData.{BodyFits, header_octets}
-use Rattle.sms_tpdu.specs.declared.user_data.body.Body.{Body}
+use Rattle.std.proofs.Common.{subst, ◌∙◌, ap}
 use Rattle.sms_join.specs.declared.segment.Segment.{Segment}
-use Rattle.sms_join.specs.Segments.User.{HasRange, body_of, coding_of, header_of}
+use Rattle.sms_join.specs.Segments.User.{HasRange, body_of}
 use Rattle.sms_join.proofs.Sendable.{segment_fits}
 use Rattle.sms_join.proofs.segment.SegmentView.write_submit.Goals as goal
 
