@@ -1,3 +1,5 @@
+-- A reader may pass this by: lemmas, for the proofs of this crate and of those above it.
+--
 -- A reader may pass this by: contracts of private functions, and proofs, alone cite it.
 --
 -- What the crate of the joiner says of joiners that hold the same.
