@@ -4,7 +4,7 @@
 mod centre;
 mod laws;
 
-pub use centre::{Centre, HELD_MAX, PHONES_MAX};
+pub use centre::{Centre, Check, HELD_MAX, PHONES_MAX, Push};
 pub use laws::{
     centre_drops_put_nothing_out, centre_puts_few_out, deliveries_have_own_keys,
     recipients_are_addressed, stamps_rise,
