@@ -2,9 +2,9 @@
 use Rattle.std.specs.Prelude.{◌≡◌, ℕ, List, Option, Some, Result, Ok, Err}
 use Rattle.std.specs.String.{string_bytes}
 use Rattle.sms_field.specs.Reading.{Reads}
-use Rattle.sms_field.specs.WholeAnswer.{IsFaultOf}
+use Rattle.sms_field.specs.Reading.WholeAnswer.{IsFaultOf}
 use Rattle.sms_field.specs.declared.refusal.Fault.{Fault}
-use Rattle.sms_field.specs.AddressValue.{AddressValue}
+use Rattle.sms_field.specs.Address.Value.{AddressValue}
 use Rattle.sms_field.specs.Coding.{alphabet_at}
 use Rattle.sms_tpdu.specs.Deliver.{Delivery, deliver}
 use Rattle.sms_tpdu.specs.UserData.ConcatenationFound.{concat_of_header}
@@ -17,10 +17,10 @@ use Rattle.sms_join.specs.declared.offer.Offer.TheVariants.{Repeat, Kept, Finish
 use Rattle.sms_join.specs.BodyUnits.{units_of_body}
 use Rattle.sms_join.specs.Piece.{piece_of}
 use Rattle.sms_join.specs.Joiner.{offered}
-use Rattle.sms_join.specs.JoinerValue.{SameLimits}
-use Rattle.sms_join.specs.Finishing.{would_finish}
-use Rattle.sms_join.specs.Same.{IsSame}
-use Rattle.sms_join.specs.Offering.{Says}
+use Rattle.sms_join.specs.Joiner.Value.{SameLimits}
+use Rattle.sms_join.specs.Joiner.Finishing.{would_finish}
+use Rattle.sms_join.specs.Joiner.Same.{IsSame}
+use Rattle.sms_join.specs.Joiner.Offering.{Says}
 use Rattle.sms_c.specs.Parts.{bit}
 use Rattle.sms_c.specs.Status.{unit_refused}
 use Rattle.sms_c.specs.declared.joiner.inside.Inside.{Inside}

@@ -7,7 +7,8 @@ ghost use Rattle.sms_join.specs.BodyUnits.{units_of_body};
 ghost use Rattle.sms_join.specs.UnitsOfText.{numbers, alphabet_in, begins_pair};
 ghost use Rattle.sms_tpdu.specs.UserData.BodySeen.{seen_body};
 ghost use Rattle.sms_join.specs.Cut.{room_alone, room_beside};
-ghost use Rattle.sms_join.specs.SegmentsValue.{seen_units, AreLent, part_of};
+ghost use Rattle.sms_join.specs.Segments.Value.{seen_units, AreLent};
+ghost use Rattle.sms_join.specs.Inside.SegmentsAt.{part_of};
 
 use sms_field::Alphabet;
 use sms_text::{ESCAPE, units_of_octets, unpack};

@@ -10,7 +10,7 @@ use Rattle.sms_script.specs.Play.Puts.{Puts, IsPutOf, HasFailed}
 use Rattle.sms_script.specs.Play.Runs.{Starts, Ran}
 use Rattle.sms_script.specs.Script.{ScriptValue, script_of}
 use Rattle.sms_script.specs.Script.Settings.{SettingsValue}
-use Rattle.sms_script.specs.Play.Standing.{Follows, PlaysLines, OpensAt}
+use Rattle.sms_script.specs.Inside.Standing.{Follows, PlaysLines, OpensAt}
 use Rattle.sms_script.specs.declared.fault.PlayFault.{PlayFault}
 use Rattle.sms_script.specs.declared.fault.PlayFault.TheVariants as faults
 use Rattle.sms_script.specs.Lines.{lines}

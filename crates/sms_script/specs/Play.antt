@@ -4,9 +4,6 @@ pub mod Runs
 pub mod Played
 pub mod Puts
 pub mod Endings
-pub mod Events
-pub mod NextLine
-pub mod Standing
 use Rattle.std.specs.Prelude.{◌≡◌, ℕ, ◌⊎◌, List, Option, Some, Result, Ok, Err}
 use Rattle.sms_script.specs.Lines.{lines}
 use Rattle.sms_script.specs.Play.Endings.{StopsInLine, StopsInEvent, StopsUnbegun, PlaysToEnd}

@@ -1,7 +1,7 @@
 -- A body that is read goes with its alphabet.
 use Rattle.std.proofs.Common.{◌≡◌, ℕ, ◌+◌, ◌-◌, ◌≤◌, ◌<◌, List, length, refl, sym, ap, subst, arith}
 use Rattle.sms_text.specs.Bits.{unpacked}
-use Rattle.sms_text.specs.PackingLaws.{unpacked_septets}
+use Rattle.sms_text.specs.Inside.PackingLaws.{unpacked_septets}
 use Rattle.sms_text.specs.Octets.{IsOctets}
 use Rattle.sms_field.specs.declared.coding.Alphabet.{Alphabet}
 use Rattle.sms_field.specs.declared.coding.Alphabet.TheVariants.{Gsm7, EightBit, Ucs2, Compressed}

@@ -2,7 +2,7 @@
 use Rattle.std.proofs.Common.{◌≡◌, ℕ, List, [], ◌∷◌, ◌++◌, take, drop, Option, Some, None, Result, Ok, Err, inl, refl, sym, ap, ◌∙◌, subst, append_assoc}
 use Rattle.std.proofs.lemmas.List.{append-nil, take-append-drop}
 use Rattle.std.specs.Io.KnownBytes.{Appends}
-use Rattle.sms_field.specs.AddressValue.{AddressValue}
+use Rattle.sms_field.specs.Address.Value.{AddressValue}
 use Rattle.sms_script.specs.Lines.{lines}
 use Rattle.sms_script.specs.Devices.{AppendsFront}
 use Rattle.sms_script.specs.Play.{Leaves}
@@ -15,7 +15,7 @@ use Rattle.sms_script.specs.Transcript.{Happened, event_lines, transcript}
 use Rattle.sms_script.specs.declared.meaning.event.Event as given
 use Rattle.sms_script.specs.declared.script.limits.Limits.{Limits}
 use Rattle.sms_world.specs.declared.order.Breach.{Breach}
-use Rattle.sms_world.specs.Below.{Below}
+use Rattle.sms_world.specs.Inside.Below.{Below}
 use Rattle.sms_world.specs.Breaches.{IsTold}
 use Rattle.sms_world.specs.Headline.Refused.{RefusedOnlyWhereFull}
 use Rattle.sms_world.specs.Machine.{Machine, start}

@@ -1,7 +1,7 @@
 -- What is played on a watched world is played on its world.
 use Rattle.std.proofs.Common.{◌≡◌, ℕ, List, [], ◌∷◌, ◌++◌, Option, Some, None, Result, Ok, Err, IfOk, inl, inr, sym, ap, subst}
 use Rattle.std.specs.Option.{option_map}
-use Rattle.sms_field.specs.AddressValue.{AddressValue}
+use Rattle.sms_field.specs.Address.Value.{AddressValue}
 use Rattle.sms_script.specs.Play.{Plays}
 use Rattle.sms_script.specs.Play.Endings.{StopsInLine, StopsInEvent, PlaysToEnd}
 use Rattle.sms_script.specs.Play.Played.{Played, LinesPlayed}

@@ -1,7 +1,7 @@
 -- The first event of a run that comes out of order, and a condition that it breaks.
 use Rattle.std.specs.Prelude.{◌≡◌, ◌⊎◌, ℕ, min, ◌<◌, ◌≤◌, ◌^◌, ◌-◌, Bool, true, false, nat_lt, List, [], ◌∷◌, ◌++◌, length, if◌then◌else◌, suc, Option, Some, None}
 use Rattle.std.specs.List.{Contains}
-use Rattle.sms_field.specs.AddressValue.{AddressValue}
+use Rattle.sms_field.specs.Address.Value.{AddressValue}
 use Rattle.sms_centre.specs.Centre.State.{Acceptance}
 use Rattle.sms_message.specs.Address.{are_distinct}
 use Rattle.sms_party.specs.Sent.{nth, Sent}

@@ -5,7 +5,7 @@ use Rattle.sms_text.specs.Bits.{unpacked}
 use Rattle.sms_field.specs.declared.coding.Alphabet.{Alphabet}
 use Rattle.sms_field.specs.declared.coding.Alphabet.TheVariants.{Gsm7}
 use Rattle.sms_field.specs.declared.span.Span.{Span}
-use Rattle.sms_field.specs.Lies.{octets_at}
+use Rattle.sms_field.specs.Reading.Lies.{octets_at}
 use Rattle.sms_field.specs.Reading.{Reads}
 use Rattle.sms_tpdu.specs.UserData.{header_octets, data_length, user_data}
 use Rattle.sms_tpdu.specs.UserData.Lengths.{octets_of_length, fill_bits}

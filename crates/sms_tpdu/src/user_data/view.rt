@@ -1,7 +1,7 @@
 //! User data seen in a unit's octets: a header, and septets or octets.
 
 ghost use Rattle.std.specs.Prelude.{true, false, ◌≡◌, ◌+◌, ◌-◌, ◌≤◌, ℕ, List, length, Some, None, IfOk, option_map};
-ghost use Rattle.sms_field.specs.Answer.{Sees};
+ghost use Rattle.sms_field.specs.Reading.Answer.{Sees};
 ghost use Rattle.sms_tpdu.specs.UserData as formats;
 ghost use Rattle.sms_tpdu.specs.UserData.{FitsAlphabet, header_octets, body_of, user_data, length_in};
 ghost use Rattle.sms_tpdu.specs.UserData.Lengths as lengths;

@@ -1,6 +1,6 @@
 use Rattle.std.proofs.Common.{ap, ◌∙◌}
 use Rattle.sms_tpdu.specs.UserData.Spans.{spans_before}
-use Rattle.sms_tpdu.specs.UserData.SpansLaws.{spans_are}
+use Rattle.sms_tpdu.specs.Inside.SpansLaws.{spans_are}
 use Rattle.sms_tpdu.proofs.user_data.view.UserDataView.spans.Goals as goal
 
 pub returns : goal.returns
