@@ -2,18 +2,19 @@
 use Rattle.std.proofs.Common.{◌≡◌, ℕ, suc, ◌+◌, ◌-◌, true, false, List, [], ◌∷◌, ◌++◌, length, drop, Option, Some, None, is_some, refl, sym, ap, subst, ◌∙◌, append_assoc, arith, length-append}
 use Rattle.std.proofs.lemmas.List.{append-nil, drop_at}
 use Rattle.sms_field.specs.Field.{Field, IsSelfContained}
-use Rattle.sms_field.specs.Lies.{LiesAt, TakesOctets, lies_at, part_at}
+use Rattle.sms_field.specs.Reading.Lies.{LiesAt, TakesOctets}
+use Rattle.sms_field.specs.Inside.Lies.{lies_at, part_at}
 use Rattle.sms_field.specs.Reading.{Reads}
 use Rattle.sms_field.specs.RelayAddress.{relay_address}
-use Rattle.sms_field.specs.RelayAddressLaws.{relay_address_self}
-use Rattle.sms_field.specs.RelayAddressValue.{RelayAddressValue}
+use Rattle.sms_field.specs.Inside.RelayAddressLaws.{relay_address_self}
+use Rattle.sms_field.specs.RelayAddress.Value.{RelayAddressValue}
 use Rattle.sms_field.specs.declared.span.Span.{Span}
-use Rattle.sms_tpdu.specs.DataSpans.Laws.{EndsWith, after}
+use Rattle.sms_tpdu.specs.Inside.DataSpansLaws.{EndsWith, after}
 use Rattle.sms_relay.specs.Cp.{cp_body, cp_message}
-use Rattle.sms_relay.specs.CpValue.{CpValue}
+use Rattle.sms_relay.specs.Cp.Value.{CpValue}
 use Rattle.sms_relay.specs.Rp.{rp_data, rp_error, rp_body, rp_message}
-use Rattle.sms_relay.specs.RpUserData.{user_data, optional_user_data}
-use Rattle.sms_relay.specs.RpValue.{RpValue}
+use Rattle.sms_relay.specs.Rp.UserData.{user_data, optional_user_data}
+use Rattle.sms_relay.specs.Rp.Value.{RpValue}
 use Rattle.sms_relay.specs.declared.cp.CpBody.{CpBody}
 use Rattle.sms_relay.specs.declared.cp_kind.CpKind.{CpKind}
 use Rattle.sms_relay.specs.declared.cp_kind.CpKind.TheVariants as ck

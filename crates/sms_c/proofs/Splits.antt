@@ -9,7 +9,7 @@ use Rattle.std.specs.Str.{chars}
 use Rattle.sms_tpdu.specs.UserData.{SpellsUserData}
 use Rattle.sms_tpdu.specs.declared.user_data.concat.Width.{Width}
 use Rattle.sms_join.specs.Cut.{IsCut, room_alone}
-use Rattle.sms_join.specs.SegmentUser.{dcs_of, user_of}
+use Rattle.sms_join.specs.Segments.User.{dcs_of, user_of}
 use Rattle.sms_join.specs.Segments.{AreSegments}
 use Rattle.sms_join.specs.UnitsOfText.{Alphabet, Default, Wide, alphabet_of, units_in, units_of_character, units_of_text, numbers}
 use Rattle.sms_join.specs.declared.segment.Segment.{Segment}

@@ -1,37 +1,30 @@
 -- What a joiner of C makes of an SMS-DELIVER.
-use Rattle.std.specs.Prelude.{◌≡◌, ℕ, List, Option, Result, Ok, Err}
+use Rattle.std.specs.Prelude.{◌≡◌, ℕ, List, Option, Some, Result, Ok, Err}
 use Rattle.std.specs.String.{string_bytes}
-use Rattle.sms_text.specs.Utf16.{units_high_first}
 use Rattle.sms_field.specs.Reading.{Reads}
-use Rattle.sms_field.specs.WholeAnswer.{IsFaultOf}
+use Rattle.sms_field.specs.Reading.WholeAnswer.{IsFaultOf}
 use Rattle.sms_field.specs.declared.refusal.Fault.{Fault}
-use Rattle.sms_field.specs.AddressValue.{AddressValue}
+use Rattle.sms_field.specs.Address.Value.{AddressValue}
+use Rattle.sms_field.specs.Coding.{alphabet_at}
 use Rattle.sms_tpdu.specs.Deliver.{Delivery, deliver}
 use Rattle.sms_tpdu.specs.UserData.ConcatenationFound.{concat_of_header}
 use Rattle.sms_tpdu.specs.declared.fault.UnitFault.{UnitFault}
 use Rattle.sms_tpdu.specs.declared.fault.UnitFault.TheVariants.{Short}
 use Rattle.sms_tpdu.specs.declared.user_data.concat.Concat.{Concat}
-use Rattle.sms_tpdu.specs.declared.user_data.body.Body.{Body}
-use Rattle.sms_tpdu.specs.declared.user_data.body.Body.TheVariants as body
 use Rattle.sms_join.specs.declared.units.Units.{Units}
-use Rattle.sms_join.specs.declared.units.Units.TheVariants.{Gsm, Ucs2}
 use Rattle.sms_join.specs.declared.offer.Offer.{Offer}
 use Rattle.sms_join.specs.declared.offer.Offer.TheVariants.{Repeat, Kept, Finished}
+use Rattle.sms_join.specs.BodyUnits.{units_of_body}
 use Rattle.sms_join.specs.Piece.{piece_of}
 use Rattle.sms_join.specs.Joiner.{offered}
-use Rattle.sms_join.specs.JoinerValue.{SameLimits}
-use Rattle.sms_join.specs.Finishing.{would_finish}
-use Rattle.sms_join.specs.Same.{IsSame}
-use Rattle.sms_join.specs.Offering.{Says}
+use Rattle.sms_join.specs.Joiner.Value.{SameLimits}
+use Rattle.sms_join.specs.Joiner.Finishing.{would_finish}
+use Rattle.sms_join.specs.Joiner.Same.{IsSame}
+use Rattle.sms_join.specs.Joiner.Offering.{Says}
 use Rattle.sms_c.specs.Parts.{bit}
 use Rattle.sms_c.specs.Status.{unit_refused}
 use Rattle.sms_c.specs.declared.joiner.inside.Inside.{Inside}
 use Rattle.sms_c.specs.declared.status.Refused.{Refused}
-
--- the units of user data
-abbrev pub units_in : Body → Units
-units_in (body.Septets septets) = Gsm septets
-units_in (body.Octets octets) = Ucs2 (units_high_first octets)
 
 abbrev pub outcome_of : Offer → ℕ
 outcome_of Repeat = 0
@@ -57,7 +50,7 @@ pub record Offers (before after : Inside) (seconds : ℕ) (octets : List ℕ)
   pub place : Option Concat
   pub place_is : place ≡ concat_of_header value.user.header
   pub units : Units
-  pub units_are : units ≡ units_in value.user.body
+  pub units_are : units_of_body (alphabet_at value.dcs) value.user.body ≡ Some units
   pub answer : Offer
   pub says : Says before.joiner.open_max before.joiner.holds
       (piece_of seconds origin stamp place units) (Ok answer)

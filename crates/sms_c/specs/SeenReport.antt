@@ -1,13 +1,10 @@
 -- What C sees of a report that was read.
-use Rattle.std.specs.Prelude.{◌≡◌, ℕ, Bool, List, Option, Some, None, is_some, unwrap_or}
+use Rattle.std.specs.Prelude.{◌≡◌, ℕ, Bool, List, Option, Some, None, is_some, unwrap_or, IfSome}
 use Rattle.sms_tpdu.specs.DataSpans.{DataLieIf}
 use Rattle.sms_tpdu.specs.declared.data_spans.DataSpans.{DataSpans}
-use Rattle.sms_tpdu.specs.declared.report.ReportData.{ReportData}
-use Rattle.sms_tpdu.specs.Report.{report_alphabet}
-use Rattle.sms_tpdu.specs.Report.DeliverAck.{DeliverAckValue}
-use Rattle.sms_tpdu.specs.Report.DeliverError.{DeliverErrorValue}
-use Rattle.sms_tpdu.specs.Report.SubmitAck.{SubmitAckValue}
-use Rattle.sms_tpdu.specs.Report.SubmitError.{SubmitErrorValue}
+use Rattle.sms_tpdu.specs.declared.report.parts.ReportData.{ReportData}
+use Rattle.sms_tpdu.specs.Report.AnnouncedParts.{report_alphabet}
+use Rattle.sms_tpdu.specs.Report.{ReportValue, DeliverAckValue, DeliverErrorValue, SubmitAckValue, SubmitErrorValue}
 use Rattle.sms_c.specs.Parts.{alphabet_number, bit, no_span, span_at, span_if}
 use Rattle.sms_c.specs.declared.parts.Span.{Span}
 use Rattle.sms_c.specs.declared.reading.report.ReportSeen.{ReportSeen}
@@ -46,34 +43,24 @@ pub record ShowsData (headed : Bool) (user : Option ReportData) (octets : List �
   pub «data» : seen.«data» ≡ data_at spans
   pub header : seen.header ≡ header_at spans
 
-pub record ShowsDeliverAck (value : DeliverAckValue) (octets : List ℕ) (seen : ReportSeen)
-    : Type 0 where
-  pub no_cause : seen.has_cause ≡ 0
-  pub no_stamp : seen.has_stamp ≡ 0
+-- a report, with its failure cause and its stamp where it has them
+pub record ShowsReport {C S : Type 0} (cause : Option ℕ) (stamp : Option (List ℕ))
+    (value : ReportValue C S) (octets : List ℕ) (seen : ReportSeen) : Type 0 where
+  pub has_cause : seen.has_cause ≡ bit (is_some cause)
+  pub cause_is : seen.cause ≡ unwrap_or cause 0
+  pub has_stamp : seen.has_stamp ≡ bit (is_some stamp)
+  pub stamp_is : IfSome stamp (λ there. seen.stamp.octets ≡ there)
   pub parts : ShowsParts value.pid value.dcs value.user seen
   pub user : ShowsData value.has_header value.user octets seen
 
-pub record ShowsDeliverError (value : DeliverErrorValue) (octets : List ℕ) (seen : ReportSeen)
-    : Type 0 where
-  pub has_cause : seen.has_cause ≡ 1
-  pub cause : seen.cause ≡ value.cause
-  pub no_stamp : seen.has_stamp ≡ 0
-  pub parts : ShowsParts value.pid value.dcs value.user seen
-  pub user : ShowsData value.has_header value.user octets seen
+abbrev pub ShowsDeliverAck : DeliverAckValue → List ℕ → ReportSeen → Type 0
+ShowsDeliverAck = ShowsReport None None
 
-pub record ShowsSubmitAck (value : SubmitAckValue) (octets : List ℕ) (seen : ReportSeen)
-    : Type 0 where
-  pub no_cause : seen.has_cause ≡ 0
-  pub has_stamp : seen.has_stamp ≡ 1
-  pub stamp : seen.stamp.octets ≡ value.stamp
-  pub parts : ShowsParts value.pid value.dcs value.user seen
-  pub user : ShowsData value.has_header value.user octets seen
+abbrev pub ShowsDeliverError : DeliverErrorValue → List ℕ → ReportSeen → Type 0
+ShowsDeliverError value = ShowsReport (Some value.cause) None value
 
-pub record ShowsSubmitError (value : SubmitErrorValue) (octets : List ℕ) (seen : ReportSeen)
-    : Type 0 where
-  pub has_cause : seen.has_cause ≡ 1
-  pub cause : seen.cause ≡ value.cause
-  pub has_stamp : seen.has_stamp ≡ 1
-  pub stamp : seen.stamp.octets ≡ value.stamp
-  pub parts : ShowsParts value.pid value.dcs value.user seen
-  pub user : ShowsData value.has_header value.user octets seen
+abbrev pub ShowsSubmitAck : SubmitAckValue → List ℕ → ReportSeen → Type 0
+ShowsSubmitAck value = ShowsReport None (Some value.stamp) value
+
+abbrev pub ShowsSubmitError : SubmitErrorValue → List ℕ → ReportSeen → Type 0
+ShowsSubmitError value = ShowsReport (Some value.cause) (Some value.stamp) value

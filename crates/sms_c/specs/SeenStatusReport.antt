@@ -1,6 +1,6 @@
 -- What C sees of an SMS-STATUS-REPORT that was read.
 use Rattle.std.specs.Prelude.{◌≡◌, ℕ, List, is_some, unwrap_or}
-use Rattle.sms_tpdu.specs.Report.{report_alphabet}
+use Rattle.sms_tpdu.specs.Report.AnnouncedParts.{report_alphabet}
 use Rattle.sms_tpdu.specs.StatusReport.{StatusReportValue}
 use Rattle.sms_tpdu.specs.StatusReport.Spans.{StatusReportLies}
 use Rattle.sms_tpdu.specs.declared.status_report.spans.StatusReportSpans.{StatusReportSpans}

@@ -4,7 +4,7 @@ use Rattle.std.specs.List.{concat, AllByRecursion}
 use Rattle.std.specs.Str.{chars}
 use Rattle.sms_tpdu.specs.UserData.{SpellsUserData}
 use Rattle.sms_tpdu.specs.declared.user_data.concat.Width.{Width}
-use Rattle.sms_join.specs.SegmentUser.{dcs_of, user_of}
+use Rattle.sms_join.specs.Segments.User.{dcs_of, user_of}
 use Rattle.sms_join.specs.Segments.{AreSegments}
 use Rattle.sms_join.specs.declared.segment.Segment.{Segment}
 use Rattle.sms_c.specs.HandedOut.{ArePut}

@@ -1,6 +1,6 @@
 -- What C is told of stamps and of validity periods.
 use Rattle.std.specs.Prelude.{◌≡◌, ℕ, ◌==◌, if◌then◌else◌, [], ◌∷◌, slice_index, Option, Some, None, Result, Ok, Err}
-use Rattle.sms_field.specs.Times.{end_of}
+use Rattle.sms_field.specs.Time.Computed.{end_of}
 use Rattle.sms_field.specs.declared.stamp.StampDate.{StampDate}
 use Rattle.sms_field.specs.declared.validity.Validity.{Validity}
 use Rattle.sms_field.specs.declared.validity.Validity.TheVariants.{Absent, Relative, Enhanced, Absolute}

@@ -2,11 +2,11 @@
 -- becomes of them: they are put where there is room, or have none.
 use Rattle.std.specs.Prelude.{◌≡◌, ℕ, ◌==◌, if◌then◌else◌, Bool, List, length, Option, Some, None, Ok}
 use Rattle.std.specs.Str.{chars}
-use Rattle.sms_field.specs.RelayAddressText.{relay_address_of_text}
-use Rattle.sms_field.specs.RelayAddressValue.{RelayAddressValue}
+use Rattle.sms_field.specs.RelayAddress.Text.{relay_address_of_text}
+use Rattle.sms_field.specs.RelayAddress.Value.{RelayAddressValue}
 use Rattle.sms_relay.specs.Carried.{Carried, transfer, answer, Carries, CarriesRelay, in_transaction}
 use Rattle.sms_relay.specs.Cp.{SpellsCp}
-use Rattle.sms_relay.specs.RpValue.{RpValue}
+use Rattle.sms_relay.specs.Rp.Value.{RpValue}
 use Rattle.sms_relay.specs.declared.cp.CpBody.{CpBody}
 use Rattle.sms_relay.specs.declared.side.Side.{Side}
 use Rattle.sms_c.specs.SeenRelay.{side_number}

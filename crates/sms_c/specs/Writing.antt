@@ -1,13 +1,13 @@
 -- What is written of a text.
 use Rattle.std.specs.Prelude.{◌≡◌, ℕ, ◌==◌, if◌then◌else◌, Bool, true, false, List, length, slice_get, Some, Ok}
 use Rattle.std.specs.Str.{chars}
-use Rattle.sms_field.specs.AddressValue.{AddressValue}
-use Rattle.sms_field.specs.AddressText.{address_of_text}
+use Rattle.sms_field.specs.Address.Value.{AddressValue}
+use Rattle.sms_field.specs.Address.Text.{address_of_text}
 use Rattle.sms_field.specs.declared.validity.Validity.{Validity}
 use Rattle.sms_tpdu.specs.Deliver.{Delivery, SpellsDeliver}
 use Rattle.sms_tpdu.specs.Submit.{Submission, SpellsSubmit}
 use Rattle.sms_tpdu.specs.declared.user_data.concat.Width.{Width}
-use Rattle.sms_join.specs.SegmentUser.{dcs_of, user_of}
+use Rattle.sms_join.specs.Segments.User.{dcs_of, user_of}
 use Rattle.sms_join.specs.Segments.{AreSegments}
 use Rattle.sms_join.specs.declared.segment.Segment.{Segment}
 use Rattle.sms_c.specs.Parts.{bits_of}

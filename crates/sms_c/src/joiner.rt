@@ -4,15 +4,17 @@ ghost use Rattle.std.specs.Prelude.{◌≡◌, ◌≤◌, ◌<◌, ℕ, length, 
 ghost use Rattle.std.specs.String.{string_bytes};
 ghost use Rattle.sms_field.specs.Reading.{Reads};
 ghost use Rattle.sms_tpdu.specs.Deliver.{deliver};
-ghost use Rattle.sms_join.specs.Aging.{aged};
+ghost use Rattle.sms_field.specs.Coding.{alphabet_at};
+ghost use Rattle.sms_join.specs.BodyUnits.{units_of_body};
+ghost use Rattle.sms_join.specs.Joiner.Aging.{aged};
 ghost use Rattle.sms_join.specs.Joiner.{new_joiner};
-ghost use Rattle.sms_join.specs.JoinerValue.{SameLimits};
-ghost use Rattle.sms_join.specs.Same.{IsSame};
-ghost use Rattle.sms_c.specs.Offers.{Offers, OnOkIs, RefusesUnit, WouldFinish, units_in};
+ghost use Rattle.sms_join.specs.Joiner.Value.{SameLimits};
+ghost use Rattle.sms_join.specs.Joiner.Same.{IsSame};
+ghost use Rattle.sms_c.specs.Offers.{Offers, OnOkIs, RefusesUnit, WouldFinish};
 ghost use Rattle.sms_c.specs.HandedOut.{ArePut, LackRoom};
 ghost use Rattle.sms_c.specs.Kept.{count};
 ghost use Rattle.sms_c.specs.Status as numbers;
-ghost use Rattle.sms_tpdu.specs.UserData.ConcatenationFound.{IsPlace, concat_of_header};
+ghost use Rattle.sms_c.specs.declared.status.Failure.TheVariants.{Refused as TheRefused};
 
 pub mod inside;
 pub mod kept;
@@ -24,11 +26,10 @@ use crate::joiner::parts::Parts;
 use crate::out::hand_out;
 use crate::parts::bit;
 use crate::status::{Failure, OK, Refused, status_of, unit_refused};
-use sms_field::{Address, Alphabet, Fault, Refusal, Stamp, alphabet_of};
-use sms_join::{Joiner, Offer, OfferFault, Ucs2Units, Units};
-use sms_text::units_of_octets;
-use sms_tpdu::{Body, Concat, Deliver, Header, Unit, UserData};
-use std::alloc::{AllocError, Global};
+use sms_field::alphabet_of;
+use sms_join::{Joiner, Offer, OfferFault, Units};
+use sms_tpdu::DeliverView;
+use std::alloc::Global;
 use std::mem;
 
 /// A joiner in C's memory: closed, or with what it holds.
@@ -116,66 +117,32 @@ pub extern "C" fn sms_joiner_close(alloc: Global, handle: &mut Handle)
     drop(held);
 }
 
-/// The place that a header tells.
-fn place_of(header: &Option<Header>) -> Option<Concat>
-    ensures place { IsPlace result }
-    ensures value { result ≡ concat_of_header header.now }
-{
-    match header {
-        Some(header) => header.concat(),
-        None => None,
-    }
-}
-
-/// The units of user data, where they are text.
-fn units_of(alloc: Global, dcs: u8, body: Body) -> Result<Units, Failure>
-    ensures units { IfOk result (λ units. units ≡ units_in body) }
-    ensures read { IfErr result (λ why. numbers.status_of why ≡ 1 → ⊥) }
-{
-    match body {
-        Body::Septets(septets) => Ok(Units::Gsm(septets)),
-        Body::Octets(octets) => {
-            if alphabet_of(dcs) != Alphabet::Ucs2 {
-                return Err(Failure::NotThere);
-            }
-            let units = units_of_octets(alloc, octets.as_slice())?;
-            Ok(Units::Ucs2(Ucs2Units::new(units)))
-        }
-    }
-}
-
 /// An SMS-DELIVER.
-fn delivered(alloc: Global, octets: &[u8], refused: &mut Refused) -> Result<Deliver, Failure>
-    ensures read { IfOk result (λ value. (used : ℕ) × Reads deliver value octets.now used) }
-    ensures refused { IfErr result (λ why. RefusesUnit (numbers.status_of why) octets.now
-        refused.new) }
+fn delivered<'a>(octets: &'a [u8], refused: &mut Refused) -> Result<DeliverView<'a>, Failure>
+    ensures read { IfOk result (λ view. (used : ℕ) × Reads deliver view octets.now used) }
+    ensures refused { IfErr result (λ why. (why ≡ TheRefused)
+        × RefusesUnit 1 octets.now refused.new) }
 {
-    match Deliver::read(alloc, octets) {
-        Ok((deliver, _)) => Ok(deliver),
-        Err(Refusal::Memory) => Err(Failure::Memory),
-        Err(Refusal::At { place, why }) => {
-            unit_refused(refused, Fault { place, why });
+    match DeliverView::read(octets) {
+        Ok((view, _)) => Ok(view),
+        Err(fault) => {
+            unit_refused(refused, fault);
             Err(Failure::Refused)
         }
     }
 }
 
-/// The parts of an SMS-DELIVER that tell which piece it carries.
-fn parts_of(deliver: Deliver) -> (Address, u8, Stamp, Option<Header>, Body)
-    ensures origin { result.0 ≡ deliver.origin }
-    ensures stamp { result.2 ≡ deliver.stamp }
-    ensures header { result.3 ≡ deliver.user.header }
-    ensures body { result.4 ≡ deliver.user.body }
+/// The units of an SMS-DELIVER, where it has a text.
+fn units_of(alloc: Global, view: &DeliverView) -> Result<Units, Failure>
+    ensures units { IfOk result (λ units.
+        units_of_body (alphabet_at view.now.dcs) view.now.user.body ≡ Some units) }
+    ensures read { IfErr result (λ why. numbers.status_of why ≡ 1 → ⊥) }
 {
-    let Deliver {
-        origin,
-        dcs,
-        stamp,
-        user,
-        ..
-    } = deliver;
-    let UserData { header, body } = user;
-    (origin, dcs, stamp, header, body)
+    let alphabet = alphabet_of(view.dcs);
+    match Units::of_body_view(alloc, alphabet, &view.user.body())? {
+        Some(units) => Ok(units),
+        None => Err(Failure::NotThere),
+    }
 }
 
 /// Offers an SMS-DELIVER, and says what becomes of it.
@@ -191,11 +158,14 @@ fn offered(
         refused.new) }
     ensures offers { OnOkIs result (Offers inside.old inside.new seconds octets.now) }
 {
-    let deliver = delivered(alloc, octets, refused)?;
-    let (origin, dcs, stamp, header, body) = parts_of(deliver);
-    let place = place_of(&header);
-    let units = units_of(alloc, dcs, body)?;
-    match inside.joiner.offer(seconds, &origin, stamp, place, units) {
+    let view = delivered(octets, refused)?;
+    let units = units_of(alloc, &view)?;
+    let origin = view.origin.to_value(alloc)?;
+    let place = view.user.concat();
+    match inside
+        .joiner
+        .offer(seconds, &origin, view.stamp, place, units)
+    {
         Ok(Offer::Repeat) => Ok(0),
         Ok(Offer::Kept) => Ok(1),
         Ok(Offer::Finished(text)) => {
@@ -278,10 +248,10 @@ fn finishes(
         refused.new) }
     ensures finishes { OnOkIs result (WouldFinish inside.now octets.now) }
 {
-    let deliver = delivered(alloc, octets, refused)?;
-    let (origin, _, stamp, header, _) = parts_of(deliver);
-    let place = place_of(&header);
-    Ok(bit(inside.joiner.would_finish(&origin, stamp, place)))
+    let view = delivered(octets, refused)?;
+    let origin = view.origin.to_value(alloc)?;
+    let place = view.user.concat();
+    Ok(bit(inside.joiner.would_finish(&origin, view.stamp, place)))
 }
 
 /// Tells whether an SMS-DELIVER would finish its message.

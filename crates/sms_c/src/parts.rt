@@ -5,10 +5,9 @@ ghost use Rattle.std.specs.Str.{chars};
 ghost use Rattle.std.specs.String.{string_bytes};
 ghost use Rattle.sms_field.specs.Reading.{Reads};
 ghost use Rattle.sms_field.specs.Address.{address as address_field};
-ghost use Rattle.sms_field.specs.AddressValue.{AddressValue};
-ghost use Rattle.sms_field.specs.AddressText.{address_text as text_of_address};
+ghost use Rattle.sms_field.specs.Address.Value.{AddressValue};
+ghost use Rattle.sms_field.specs.Address.Text.{address_text as text_of_address};
 ghost use Rattle.sms_c.specs.HandedOut.{ArePut, LackRoom, OfText};
-ghost use Rattle.sms_tpdu.specs.UserData.ConcatenationFound.{concat_of_header};
 ghost use Rattle.sms_c.specs.Parts as seen;
 ghost use Rattle.sms_c.specs.Parts.{OfAddress, ShowsUser};
 ghost use Rattle.sms_c.specs.Status.{IsNotRoom};
@@ -18,7 +17,7 @@ use crate::out::hand_out;
 use crate::status::{Failure, status_of};
 use sms_field::{AddressView, Alphabet, alphabet_of};
 use sms_text::{text_of_packed, text_of_ucs2_octets};
-use sms_tpdu::{BodyView, Concat, HeaderView, UserDataView, UserSpans, Width};
+use sms_tpdu::{Concat, HeaderView, UserDataView, UserSpans, Width};
 use std::alloc::Global;
 
 /// Octets in the caller's octets.
@@ -162,16 +161,6 @@ fn has_header(header: &Option<HeaderView>) -> u8
     }
 }
 
-/// The place that a header tells, if there is one.
-fn place_told(header: &Option<HeaderView>) -> Option<Concat>
-    ensures { result ≡ concat_of_header header.now }
-{
-    match header {
-        Some(header) => header.concat(),
-        None => None,
-    }
-}
-
 /// The place of a segment.
 fn place_seen(place: Option<Concat>) -> Place
     ensures { result ≡ seen.place_seen place }
@@ -191,16 +180,6 @@ fn place_seen(place: Option<Concat>) -> Place
     }
 }
 
-/// How many septets or octets a body has.
-fn count_in(user: &UserDataView) -> u8
-    ensures { seen.CountsSeptets user.now.body result }
-{
-    match user.body() {
-        BodyView::Septets(septets) => septets.count(),
-        BodyView::Octets(octets) => octets.len().min(255) as u8,
-    }
-}
-
 /// User data that lie at these spans.
 #[inline(always)]
 pub fn user_seen(user: &UserDataView, dcs: u8, spans: UserSpans) -> UserSeen
@@ -209,12 +188,12 @@ pub fn user_seen(user: &UserDataView, dcs: u8, spans: UserSpans) -> UserSeen
     UserSeen {
         header: some_span(spans.header),
         body: Span::at(spans.body),
-        place: place_seen(place_told(user.header())),
+        place: place_seen(user.concat()),
         length: user.length(),
         alphabet: alphabet_number(alphabet_of(dcs)),
         has_header: has_header(user.header()),
         fill: spans.fill,
-        count: count_in(user),
+        count: user.body_count(),
     }
 }
 

@@ -1,17 +1,17 @@
 //! Messages of the relay and of the connection, read.
 
 ghost use Rattle.std.specs.Prelude.{◌≡◌, ◌<◌, ℕ, true, false, List, length, drop, is_some, option_map};
-ghost use Rattle.sms_field.specs.Lies.{TakesOctets};
+ghost use Rattle.sms_field.specs.Reading.Lies.{TakesOctets};
 ghost use Rattle.sms_field.specs.Reading.{Reads};
 ghost use Rattle.sms_field.specs.RelayAddress.{relay_address};
-ghost use Rattle.sms_field.specs.WholeAnswer.{IsFaultOf};
+ghost use Rattle.sms_field.specs.Reading.WholeAnswer.{IsFaultOf};
 ghost use Rattle.sms_field.specs.declared.refusal.Fault.{Fault as TheFault};
 ghost use Rattle.sms_relay.specs.Cp.{cp_message};
-ghost use Rattle.sms_relay.specs.CpSeen.{seen_cp_body};
-ghost use Rattle.sms_relay.specs.CpValue.{CpValue};
+ghost use Rattle.sms_relay.specs.Cp.Seen.{seen_cp_body};
+ghost use Rattle.sms_relay.specs.Cp.Value.{CpValue};
 ghost use Rattle.sms_relay.specs.Rp.{rp_message};
-ghost use Rattle.sms_relay.specs.RpSeen.{seen_rp_body};
-ghost use Rattle.sms_relay.specs.RpValue.{RpValue};
+ghost use Rattle.sms_relay.specs.Rp.Seen.{seen_rp_body};
+ghost use Rattle.sms_relay.specs.Rp.Value.{RpValue};
 ghost use Rattle.sms_relay.specs.declared.fault.RelayFault.{RelayFault};
 ghost use Rattle.sms_relay.specs.declared.fault.RelayFault.TheVariants.{Short};
 ghost use Rattle.sms_c.specs.Parts.{no_span};

@@ -2,7 +2,7 @@
 
 ghost use Rattle.std.specs.Prelude.{◌≡◌, ◌<◌, All, Err, IfOk, IfErr, OnErr};
 ghost use Rattle.sms_tpdu.specs.declared.user_data.concat.Width.TheVariants.{Eight};
-ghost use Rattle.sms_join.specs.SegmentUser.{IsSendable};
+ghost use Rattle.sms_join.specs.Segments.User.{IsSendable};
 ghost use Rattle.sms_c.specs.Splitting.{first_scheme, AreUsers, OfSplit, BothArePut, OneLacksRoom};
 ghost use Rattle.sms_c.specs.Status.{IsNotRoom};
 ghost use Rattle.sms_c.specs.declared.status.Failure.TheVariants.{NoRoom};

@@ -1,9 +1,9 @@
 //! Stamps and validity periods.
 
 ghost use Rattle.std.specs.Prelude.{◌≡◌, ◌<◌, ◌≤◌, ◌^◌, ◌↔◌, IfSome};
-ghost use Rattle.sms_field.specs.StampDate.{date_in, IsDate};
-ghost use Rattle.sms_field.specs.Stamping.{HasStamp, IsStampAt};
-ghost use Rattle.sms_field.specs.Times.{moment_of};
+ghost use Rattle.sms_field.specs.Time.StampDate.{date_in, IsDate};
+ghost use Rattle.sms_field.specs.Time.Stamping.{HasStamp, IsStampAt};
+ghost use Rattle.sms_field.specs.Time.Computed.{moment_of};
 ghost use Rattle.sms_tpdu.specs.Submit.ValidityPeriod.{IsInRange};
 ghost use Rattle.sms_c.specs.Times as seen;
 

@@ -1,9 +1,9 @@
 //! Packets written around units.
 
 ghost use Rattle.std.specs.Prelude.{◌≡◌, Some, None, Err, IfOk, IfErr, OnErr};
-ghost use Rattle.sms_relay.specs.CpValue.{IsCpBody};
+ghost use Rattle.sms_relay.specs.Cp.Value.{IsCpBody};
 ghost use Rattle.sms_relay.specs.Rp.{SpellsRp};
-ghost use Rattle.sms_relay.specs.RpUserData.{IsOptionalUserData, IsUserData};
+ghost use Rattle.sms_relay.specs.Rp.UserData.{IsOptionalUserData, IsUserData};
 ghost use Rattle.sms_relay.specs.declared.cp.CpBody.TheVariants as cp;
 ghost use Rattle.sms_c.specs.HandedOut.{ArePut, LackRoom};
 ghost use Rattle.sms_c.specs.SeenRelay as seen;

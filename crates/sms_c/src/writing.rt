@@ -2,12 +2,12 @@
 
 ghost use Rattle.std.specs.Prelude.{◌≡◌, ◌<◌, All, Err, IfOk, IfErr, OnErr};
 ghost use Rattle.std.specs.Str.{chars};
-ghost use Rattle.sms_field.specs.AddressText.{address_of_text};
+ghost use Rattle.sms_field.specs.Address.Text.{address_of_text};
 ghost use Rattle.sms_tpdu.specs.Deliver.{SpellsDeliver};
 ghost use Rattle.sms_tpdu.specs.Submit.{SpellsSubmit};
 ghost use Rattle.sms_tpdu.specs.Submit.ValidityPeriod.{IsInRange};
 ghost use Rattle.sms_tpdu.specs.declared.user_data.concat.Width.TheVariants.{Eight};
-ghost use Rattle.sms_join.specs.SegmentUser.{IsSendable};
+ghost use Rattle.sms_join.specs.Segments.User.{IsSendable};
 ghost use Rattle.sms_join.specs.Segments.{AreSegments};
 ghost use Rattle.sms_c.specs.Parts.{bits_of};
 ghost use Rattle.sms_c.specs.Writing as seen;

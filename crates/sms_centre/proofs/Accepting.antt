@@ -4,15 +4,16 @@ use Rattle.std.specs.Prelude.{◌==◌, ◌&&◌, ◌||◌}
 use Rattle.std.specs.List.{slice_get}
 use Rattle.std.proofs.Math.ListN.{set}
 use Rattle.std.proofs.lemmas.Bool.Decides.{nat_tests}
-use Rattle.sms_field.specs.AddressValue.{AddressValue}
+use Rattle.sms_field.specs.Address.Value.{AddressValue}
 use Rattle.sms_message.specs.Address.{address_of}
 use Rattle.sms_centre.specs.Centre.State.{Acceptance, CentreState}
 use Rattle.sms_centre.specs.Centre.Held.{unended, next_stamp}
 use Rattle.sms_centre.specs.Centre.Submissions.{after_acceptance, accept}
 use Rattle.sms_centre.specs.declared.centre.held.Ending.{Ending}
 use Rattle.sms_centre.specs.Centre.Value.{CentreValue, LineValue, WaitingValue, addresses, HeldValue, endings_after}
-use Rattle.sms_centre.specs.Centre.Lines.{accepting_line, ChangesLine}
-use Rattle.sms_centre.specs.Centre.Kept.{free_at, key_of, is_kept, HoldsAlso}
+use Rattle.sms_centre.specs.Inside.Lines.{accepting_line, ChangesLine}
+use Rattle.sms_centre.specs.Inside.Kept.{free_at, HoldsAlso}
+use Rattle.sms_centre.specs.Centre.Kept.{key_of, is_kept}
 use Rattle.sms_centre.specs.Centre.Standing.{HeldStands, waiting_of, waiting_in, LineStands, StandsFor}
 use Rattle.sms_centre.proofs.Lines.{set_stands, addresses_set, waiting_end, free_is}
 use Rattle.sms_centre.proofs.Keys.{key_parts}
@@ -86,8 +87,7 @@ module _ (limit : ℕ) (phones : List AddressValue) (now : ℕ) (v : CentreValue
             (λ r l at apart. let x = s.lines_stand r l at in record {
               queue = x.queue;
               free = λ later. same_stamps a c.accepted r later apart ∙ x.free later;
-              value = x.value;
-              reference = x.reference;
+              next = x.next;
               latest = x.latest;
             })
             (subst (λ (l : LineValue). LineStands phones now (a ∷ c.accepted) a.recipient l (after_acceptance (c.line a.recipient) a)) (sym is) (record {
@@ -95,8 +95,7 @@ module _ (limit : ℕ) (phones : List AddressValue) (now : ℕ) (v : CentreValue
                   ∙ (ap (λ (x : WaitingValue). waiting_in phones (unended (c.line a.recipient).queue now) ++ x ∷ []) whom
                   ∙ sym (ap (waiting_in phones) (unended_more (c.line a.recipient).queue a now e) ∙ waiting_end phones (unended (c.line a.recipient).queue now) a));
               free = λ later. next_stamps a c.accepted later ∙ (ap (λ n. max (suc a.stamp) n) (ls.free later) ∙ (greater a.stamp line.free now later free ∙ ap (λ n. max n later) (stamp_free w a (address_of (addresses v.lines) a.phone) waits)));
-              value = ls.value;
-              reference = ls.reference;
+              next = ls.next;
               latest = ls.latest;
             }));
       }

@@ -3,11 +3,11 @@ use Rattle.std.proofs.Common.{◌≡◌, ◌≢◌, ℕ, ◌<◌, Bool, true, fa
 use Rattle.std.specs.Str.{bytes_eq}
 use Rattle.std.proofs.lemmas.Bool.{leb-false, false_from_ne_true, and_parts}
 use Rattle.std.proofs.lemmas.Slice.Eq.{bytes_eq-Decides}
-use Rattle.sms_field.specs.AddressValue.{AddressValue}
-use Rattle.sms_field.specs.SameAddress.{same_address}
+use Rattle.sms_field.specs.Address.Value.{AddressValue}
+use Rattle.sms_field.specs.Address.Same.{same_address}
 use Rattle.sms_field.specs.declared.validity.ValidityFault.{ValidityFault}
 use Rattle.sms_field.specs.declared.validity.ValidityFault.TheVariants.{EnhancedValidity, NoMoment}
-use Rattle.sms_field.specs.Times.{end_of, end_of_2099, stamp_octets, moment_of, MomentComesBackOfZone0}
+use Rattle.sms_field.specs.Time.Computed.{end_of, end_of_2099, stamp_octets, moment_of, MomentComesBackOfZone0}
 use Rattle.sms_tpdu.specs.Submit.{Submission}
 use Rattle.sms_tpdu.specs.declared.user_data.concat.Concat.{Concat}
 use Rattle.sms_tpdu.specs.UserData.ConcatenationFound.{concat_of_header}

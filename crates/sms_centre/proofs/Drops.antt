@@ -1,6 +1,6 @@
 -- What the centre drops puts nothing out.
 use Rattle.std.proofs.Common.{ℕ, ◌&&◌, true, false, nat_lt, List, [], ◌∷◌, Option, Some, None, refl}
-use Rattle.sms_field.specs.AddressValue.{AddressValue}
+use Rattle.sms_field.specs.Address.Value.{AddressValue}
 use Rattle.sms_relay.specs.declared.side.Side.TheVariants.{FromPhone, ToPhone}
 use Rattle.sms_tpdu.specs.Submit.{Submission}
 use Rattle.sms_message.specs.declared.message.TransferUnit.{TransferUnit}

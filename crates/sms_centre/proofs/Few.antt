@@ -1,7 +1,7 @@
 -- How much the centre puts out.
 use Rattle.std.proofs.Common.{ℕ, true, false, nat_lt, List, [], ◌∷◌, Option, Some, None, arith}
 use Rattle.std.specs.Prelude.{◌&&◌}
-use Rattle.sms_field.specs.AddressValue.{AddressValue}
+use Rattle.sms_field.specs.Address.Value.{AddressValue}
 use Rattle.sms_tpdu.specs.Submit.{Submission}
 use Rattle.sms_relay.specs.declared.side.Side.TheVariants.{FromPhone, ToPhone}
 use Rattle.sms_centre.specs.declared.centre.check.Check.{Check}

@@ -1,9 +1,8 @@
 -- The answer to a push at one line is that of the machine.
-use Rattle.std.proofs.Common.{◌≡◌, ℕ, ◌<◌, Bool, true, false, cond, not, nat_lt, List, [], ◌∷◌, Option, Some, None, Result, Ok, Err, OnErr, refl, sym, ap, ◌∙◌, subst, arith}
+use Rattle.std.proofs.Common.{◌≡◌, ℕ, Bool, true, false, cond, not, nat_lt, List, [], ◌∷◌, Option, Some, None, Result, Ok, Err, OnErr, refl, sym, ap, ◌∙◌, subst, arith}
 use Rattle.std.specs.Prelude.{◌==◌}
-use Rattle.std.proofs.lemmas.Bool.Decides.{nat_tests}
 use Rattle.std.specs.List.{slice_get, filter}
-use Rattle.sms_field.specs.AddressValue.{AddressValue}
+use Rattle.sms_field.specs.Address.Value.{AddressValue}
 use Rattle.sms_message.specs.declared.message.Tag.{Tag}
 use Rattle.sms_centre.specs.Centre.State.{Acceptance, Pushing, CentreState}
 use Rattle.sms_centre.specs.Centre.Held.{unended}
@@ -11,7 +10,7 @@ use Rattle.sms_message.specs.Few.{FewPackets, few_put}
 use Rattle.sms_message.specs.declared.message.Message.TheVariants.{Note}
 use Rattle.sms_centre.specs.Centre.Verdicts.{verdict, unqueued, stays, left_in, after_answer, settled, centre_hears}
 use Rattle.sms_centre.specs.Centre.Value.{CentreValue, LineValue, WaitingValue, addresses}
-use Rattle.sms_centre.specs.Centre.Lines.{left_waiting, is_awaited, HearsFor, LineHears, ChangesLine}
+use Rattle.sms_centre.specs.Inside.Lines.{left_waiting, HearsFor, LineHears, ChangesLine}
 use Rattle.sms_centre.specs.Centre.Standing.{waiting_in, push_of, LineStands, StandsFor}
 use Rattle.sms_centre.specs.Centre.Calls.{CentreAnswers}
 use Rattle.sms_centre.specs.declared.centre.waiting.Push.{Push}
@@ -20,15 +19,6 @@ use Rattle.sms_message.specs.declared.outcome.Dropped.{Dropped}
 use Rattle.sms_message.specs.declared.outcome.Dropped.TheVariants.{NotCp, Unmatched, Busy, Memory, TooManySegments}
 use Rattle.sms_centre.proofs.Lines.{set_stands, addresses_set}
 use Rattle.sms_centre.proofs.Pushing.{with_line, unchanged}
-
-same_number : (a b : ℕ) → a ≡ b → (a == b) ≡ true
-same_number a b e = grind (arith, nat_tests)
-
-is_before : (a b : ℕ) → a < b → nat_lt a b ≡ true
-is_before a b lt = grind (arith, nat_tests)
-
-pub awaited : (now : ℕ) (tag : Tag) (p : Push) → tag.value ≡ p.value → tag.reference ≡ p.reference → now < p.ends → is_awaited now tag p ≡ true
-awaited now tag p v r lt = rw (same_number tag.value p.value v, same_number tag.reference p.reference r, is_before now p.ends lt) refl
 
 left_step : (phones : List AddressValue) (a : Acceptance) (queue : List Acceptance) (now stamp : ℕ) (b d : Bool)
     → (a.stamp == stamp) ≡ d → nat_lt now a.ends ≡ b
@@ -66,8 +56,7 @@ module _ (limit : ℕ) (phones : List AddressValue) (now : ℕ) (v : CentreValue
             (subst (λ (l : LineValue). LineStands phones now c.accepted phone l (after_answer (c.line phone) p.message cause)) (sym is) (record {
               queue = ap (λ (q : List WaitingValue). left_waiting q p.message.stamp cause) ls.queue ∙ left_same phones (c.line phone).queue now p.message.stamp cause;
               free = ls.free;
-              value = ls.value;
-              reference = ls.reference;
+              next = ls.next;
               latest = refl;
             }));
       }

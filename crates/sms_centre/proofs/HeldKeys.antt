@@ -8,7 +8,8 @@ use Rattle.std.proofs.lemmas.List.Elements.{All-nil, All-head, All-tail}
 use Rattle.sms_centre.specs.declared.centre.held.Ending.{Ending}
 use Rattle.sms_centre.specs.declared.centre.held.HeldKey.{HeldKey}
 use Rattle.sms_centre.specs.Centre.Value.{HeldValue, key_eq}
-use Rattle.sms_centre.specs.Centre.Kept.{ends_after, is_kept, IsPutIn, HasMessage, AreOfMessages, ForgetsEnded}
+use Rattle.sms_centre.specs.Centre.Kept.{ends_after, is_kept}
+use Rattle.sms_centre.specs.Inside.Kept.{IsPutIn, HasMessage, AreOfMessages, ForgetsEnded}
 use Rattle.sms_centre.proofs.Keys.{key_laws, same_key}
 use Rattle.sms_centre.proofs.Holdings.{first_or_rest, put_holds, put_keeps}
 use Rattle.std.specs.BTreeMap.{insert_entry}

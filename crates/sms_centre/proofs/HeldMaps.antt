@@ -15,7 +15,8 @@ use Rattle.sms_centre.proofs.Keys.{same_key}
 use Rattle.sms_centre.specs.declared.centre.held.Ending.{Ending}
 use Rattle.sms_centre.specs.declared.centre.held.HeldKey.{HeldKey}
 use Rattle.sms_centre.specs.Centre.Value.{HeldValue, key_eq}
-use Rattle.sms_centre.specs.Centre.Kept.{ends_after, is_kept, IsPutIn, HoldsAlso}
+use Rattle.sms_centre.specs.Centre.Kept.{ends_after, is_kept}
+use Rattle.sms_centre.specs.Inside.Kept.{IsPutIn, HoldsAlso}
 use Rattle.sms_centre.specs.contracts.centre.held.EndingOrd.TheImpl as order
 
 -- what `cmp` answers for endings

@@ -1,12 +1,12 @@
 -- Each message that waits is held: what the calls of the centre make of it.
-use Rattle.std.proofs.Common.{◌≡◌, ◌≢◌, ℕ, zero, suc, ◌+◌, ◌<◌, ◌≤◌, Bool, true, false, not, cond, ◌||◌, nat_lt, List, [], ◌∷◌, ◌++◌, map, get_or, length, Contains, ◌⊎◌, inl, inr, Option, Some, None, Result, Ok, Err, refl, sym, ap, ◌∙◌, subst, arith}
+use Rattle.std.proofs.Common.{◌≡◌, ◌≢◌, ℕ, zero, suc, ◌+◌, ◌<◌, ◌≤◌, Bool, true, false, not, cond, ◌||◌, nat_lt, List, [], ◌∷◌, ◌++◌, map, get_or, length, Contains, ◌⊎◌, inl, inr, Option, Some, None, Result, Ok, Err, OnErr, refl, sym, ap, ◌∙◌, subst, arith}
 use Rattle.std.specs.Prelude.{All, ◌==◌}
 use Rattle.std.specs.List.{filter, slice_get}
 use Rattle.std.proofs.Math.ListN.{set}
 use Rattle.std.proofs.lemmas.Bool.Decides.{nat_tests}
 use Rattle.std.proofs.lemmas.List.{length-append}
 use Rattle.std.proofs.lemmas.List.Elements.{All-nil, All-cons, All-head, All-tail, All-push, All-weaker, All-filter, filter_passes, filter-append, Contains-append_left, Contains-append_right, Contains-append_cases}
-use Rattle.sms_field.specs.AddressValue.{AddressValue}
+use Rattle.sms_field.specs.Address.Value.{AddressValue}
 use Rattle.sms_centre.specs.declared.centre.held.Ending.{Ending}
 use Rattle.sms_centre.specs.declared.centre.held.HeldKey.{HeldKey}
 use Rattle.sms_message.specs.declared.message.Tag.{Tag}
@@ -15,10 +15,11 @@ use Rattle.sms_message.specs.declared.outcome.Step.{Step}
 use Rattle.sms_message.specs.declared.outcome.Dropped.{Dropped}
 use Rattle.sms_message.specs.declared.outcome.Dropped.TheVariants.{NotCp, Unmatched, Busy, Memory, TooManySegments}
 use Rattle.sms_centre.specs.Centre.Verdicts.{stays}
-use Rattle.sms_centre.specs.Centre.Kept.{free_at, IsPutIn, IsLeftLater, IsHeldLater, ForgetsFirst}
+use Rattle.sms_centre.specs.Inside.Kept.{free_at, IsPutIn, ForgetsFirst}
+use Rattle.sms_centre.specs.Centre.Kept.{IsLeftLater, IsHeldLater}
 use Rattle.sms_centre.specs.Centre.Value.{WaitingValue, LineValue, HeldValue, HoldingsValue, waiting_at, line_at, endings_after}
-use Rattle.sms_centre.specs.Centre.Lines.{new_line, accepting_line, forgetting_line, ChangesLine, PushesFrom, LinePushes, HearsFor, LineHears}
-use Rattle.sms_centre.specs.Centre.Holdings.{ending_of, AreHeld, LeavesSame, ForgetsOne}
+use Rattle.sms_centre.specs.Inside.Lines.{new_line, accepting_line, forgetting_line, ChangesLine, PushesFrom, LinePushes, HearsFor, LineHears}
+use Rattle.sms_centre.specs.Inside.Holdings.{ending_of, AreHeld, LeavesSame, ForgetsOne}
 use Rattle.sms_centre.proofs.Lines.{set_there, set_elsewhere, free_is}
 
 -- ---- what is left at a moment
@@ -224,6 +225,13 @@ pub heard_held : (endings : List Ending) (now : ℕ) (tag : Tag) (cause : Option
     → ChangesLine phone lines new (λ line after. LineHears now tag cause line result after) → AreHeld endings lines → AreHeld endings new
 heard_held endings now tag cause phone lines new result h held =
     fewer_held endings lines new phone h.before h.after h.is_there h.others_stay (λ P all. heard_by P now tag cause h.before h.after h.before.latest result all h.how) held
+
+-- where a call fails and the lines are as they were, so is all
+pub same_holdings : {T E : Type 0} (held : HeldValue) (lines new : List LineValue) (r : Result T E) → OnErr r (new ≡ lines) → OnErr r (◌≡◌ {A = HoldingsValue} (record { held = held; lines = new }) (record { held = held; lines = lines }))
+same_holdings held lines new (Ok v) e = tt
+same_holdings held lines new (Err why) e =
+    let made : List LineValue → HoldingsValue = λ l. record { held = held; lines = l } in
+    ap made e
 
 -- ---- an acceptance
 

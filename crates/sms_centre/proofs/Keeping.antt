@@ -3,7 +3,7 @@ use Rattle.std.proofs.Common.{◌≡◌, ℕ, ◌≤◌, ◌<◌, Bool, true, fa
 use Rattle.std.specs.Prelude.{All}
 use Rattle.std.specs.List.{slice_get}
 use Rattle.std.proofs.lemmas.Bool.Decides.{nat_tests}
-use Rattle.sms_field.specs.AddressValue.{AddressValue}
+use Rattle.sms_field.specs.Address.Value.{AddressValue}
 use Rattle.sms_centre.specs.declared.centre.held.Ending.{Ending}
 use Rattle.sms_centre.specs.Centre.State.{Acceptance, Line, CentreState}
 use Rattle.sms_centre.specs.Centre.Held.{unended}
@@ -43,8 +43,7 @@ line_later : (phones : List AddressValue) (clock now : ℕ) (accepted : List Acc
 line_later phones clock now accepted r v l le s = record {
   queue = ap (waiting_at now) s.queue ∙ waiting_later phones l.queue clock now le;
   free = s.free;
-  value = s.value;
-  reference = s.reference;
+  next = s.next;
   latest = s.latest;
 }
 

@@ -1,6 +1,6 @@
 -- What a call that fails leaves.
 use Rattle.std.proofs.Common.{◌≡◌, ℕ, ◌≤◌, List, Result, Ok, Err, OnErr, sym, subst}
-use Rattle.sms_field.specs.AddressValue.{AddressValue}
+use Rattle.sms_field.specs.Address.Value.{AddressValue}
 use Rattle.sms_message.specs.declared.outcome.Outcome.TheVariants.{Pushed}
 use Rattle.sms_centre.specs.Centre.State.{CentreState}
 use Rattle.sms_centre.specs.Centre.Pushes.{centre_pushes}

@@ -4,12 +4,13 @@ use Rattle.std.proofs.Common.{length, get_or, ◌≡◌, ◌≢◌, ℕ, zero, s
 use Rattle.std.specs.List.{slice_get}
 use Rattle.std.proofs.Math.ListN.{set}
 use Rattle.std.proofs.lemmas.Bool.Decides.{nat_tests}
-use Rattle.sms_field.specs.AddressValue.{AddressValue}
+use Rattle.sms_field.specs.Address.Value.{AddressValue}
 use Rattle.sms_message.specs.Address.{address_of}
-use Rattle.sms_centre.specs.Centre.Kept.{free_at}
+use Rattle.sms_centre.specs.Inside.Kept.{free_at}
 use Rattle.sms_centre.specs.Centre.State.{Acceptance, Line}
 use Rattle.sms_message.specs.Changed.{changed}
 use Rattle.sms_centre.specs.Centre.Held.{unended}
+use Rattle.sms_centre.specs.Inside.Lines.{ChangesLine}
 use Rattle.sms_centre.specs.Centre.Value.{CentreValue, LineValue, WaitingValue, addresses}
 use Rattle.sms_centre.specs.Centre.Standing.{waiting_of, waiting_in, LineStands}
 
@@ -42,6 +43,10 @@ addresses_set (l ∷ lines) zero line new e a =
     let same : line ≡ l = cc in
     ap (λ (x : AddressValue). x ∷ addresses lines) (a ∙ ap (λ (x : LineValue). x.address) same)
 addresses_set (l ∷ lines) (suc i) line new e a = ap (λ (r : List AddressValue). l.address ∷ r) (addresses_set lines i line new e a)
+
+-- one line in place of another
+pub changed_line : (lines : List LineValue) (i : ℕ) (line new : LineValue) → slice_get lines i ≡ Some line → (How : LineValue → LineValue → Type 0) → How line new → ChangesLine i lines (set lines i new) How
+changed_line lines i line new there How how = record { before = line; after = new; is_there = there; others_stay = refl; how = how }
 
 -- every other line stands, and the new one does
 module _ (phones : List AddressValue) (now : ℕ) (accepted : List Acceptance) (state : ℕ → Line) (lines : List LineValue) (phone : ℕ) (new : LineValue) (after : Line) where

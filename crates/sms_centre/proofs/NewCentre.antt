@@ -2,11 +2,11 @@
 use Rattle.std.proofs.Common.{◌≡◌, ℕ, ◌<◌, zero, suc, List, [], ◌∷◌, map, Some, None, refl, sym, ap, subst, arith}
 use Rattle.std.specs.List.{slice_get}
 use Rattle.std.proofs.lemmas.List.Elements.{All-nil}
-use Rattle.sms_field.specs.AddressValue.{AddressValue}
+use Rattle.sms_field.specs.Address.Value.{AddressValue}
 use Rattle.sms_centre.specs.Centre.State.{new_centre}
 use Rattle.sms_centre.specs.Centre.Value.{LineValue, addresses}
 use Rattle.sms_centre.specs.declared.centre.held.Ending.{Ending}
-use Rattle.sms_centre.specs.Centre.Lines.{new_line}
+use Rattle.sms_centre.specs.Inside.Lines.{new_line}
 use Rattle.sms_centre.specs.Centre.Standing.{LineStands, StandsFor}
 
 pub new_addresses : (phones : List AddressValue) → addresses (map new_line phones) ≡ phones
@@ -19,7 +19,7 @@ new_stands [] all clock r n line e = absurd cc
 new_stands (a ∷ phones) all clock r zero line e =
     let is : line ≡ new_line a = cc in
     subst (λ (l : LineValue). LineStands all clock [] r l (record { queue = []; pushes = 0; latest = None })) (sym is)
-    (record { queue = refl; free = λ now. omega arith; value = refl; reference = refl; latest = refl })
+    (record { queue = refl; free = λ now. omega arith; next = refl; latest = refl })
 new_stands (a ∷ phones) all clock r (suc n) line e = new_stands phones all clock r n line e
 
 pub new_centre_stands : (limit : ℕ) (phones : List AddressValue) (clock : ℕ) → StandsFor limit phones clock (record { limit = limit; held = record { endings = []; messages = []; last = [] }; lines = map new_line phones }) new_centre

@@ -1,11 +1,12 @@
 -- A push at one line is a push of the machine.
-use Rattle.std.proofs.Common.{◌≡◌, ℕ, suc, ◌+◌, ◌%◌, Bool, false, List, [], ◌∷◌, Some, Result, Ok, Err, OnErr, refl, sym, ap, ◌∙◌, subst, arith, length, nat_lt}
+use Rattle.std.proofs.Common.{◌≡◌, ℕ, suc, Bool, false, List, [], ◌∷◌, Some, Result, Ok, Err, OnErr, refl, sym, ap, ◌∙◌, subst, arith, length, nat_lt}
 use Rattle.std.proofs.lemmas.Bool.Decides.{nat_tests}
 use Rattle.std.specs.List.{slice_get}
 use Rattle.std.proofs.Math.ListN.{set}
-use Rattle.sms_field.specs.AddressValue.{AddressValue}
+use Rattle.sms_field.specs.Address.Value.{AddressValue}
 use Rattle.sms_relay.specs.declared.side.Side.TheVariants.{ToPhone}
-use Rattle.sms_message.specs.Message.{tag_of}
+use Rattle.sms_message.specs.Message.{following}
+use Rattle.sms_message.specs.Message.Tags.{following_is}
 use Rattle.sms_message.specs.declared.message.TransferUnit.TheVariants.{Deliver}
 use Rattle.sms_message.specs.declared.message.Relay.TheVariants.{Transfer}
 use Rattle.sms_message.specs.declared.message.Message.TheVariants.{Data}
@@ -18,7 +19,7 @@ use Rattle.sms_centre.specs.Centre.Value.{CentreValue, LineValue, WaitingValue, 
 use Rattle.sms_message.specs.Does.{packets_of, CarriesEach}
 use Rattle.sms_message.specs.Few.{FewPackets, few_put}
 use Rattle.std.proofs.lemmas.List.{length-map}
-use Rattle.sms_centre.specs.Centre.Lines.{tag_in, delivery_of, pushed_line, PushesFrom, LinePushes, ChangesLine}
+use Rattle.sms_centre.specs.Inside.Lines.{delivery_of, pushed_line, PushesFrom, LinePushes, ChangesLine}
 use Rattle.sms_centre.specs.Centre.Standing.{waiting_of, waiting_in, LineStands, StandsFor}
 use Rattle.sms_centre.specs.Centre.Calls.{CentreAnswers}
 use Rattle.sms_message.specs.declared.outcome.Step.{Step}
@@ -44,15 +45,6 @@ more_waits : (phones : List AddressValue) (queue : List Acceptance) → is_more 
 more_waits phones [] = refl
 more_waits phones (a ∷ queue) = refl
 
-counted : (n k : ℕ) → k ≡ n % 7 → (k + 1) % 7 ≡ suc n % 7
-counted n k h = omega arith
-
-counted_reference : (n k : ℕ) → k ≡ n % 256 → (k + 1) % 256 ≡ suc n % 256
-counted_reference n k h = omega arith
-
-tag_is : (line : LineValue) (n : ℕ) → line.value ≡ n % 7 → line.reference ≡ n % 256 → tag_in line ≡ tag_of n
-tag_is line n e f = cc
-
 module _ (limit : ℕ) (phones : List AddressValue) (now : ℕ) (v : CentreValue) (c : CentreState) (phone : ℕ) (line new : LineValue) (there : slice_get v.lines phone ≡ Some line) (s : StandsFor limit phones now v c) where
   pushed_stands : (a : Acceptance) (others : List Acceptance) → AreUnended (a ∷ others) now → new ≡ pushed_line line (waiting_of phones a) (waiting_in phones others)
       → StandsFor limit phones now (with_line v phone new) (pushes_first phones c phone (a ∷ others)).after
@@ -68,9 +60,8 @@ module _ (limit : ℕ) (phones : List AddressValue) (now : ℕ) (v : CentreValue
             (subst (λ (l : LineValue). LineStands phones now c.accepted phone l (after_push (c.line phone) a others)) (sym is) (record {
               queue = sym (ap (waiting_in phones) (unended_end others a now live.1 live.0) ∙ waiting_end phones others a);
               free = ls.free;
-              value = counted (c.line phone).pushes line.value ls.value;
-              reference = counted_reference (c.line phone).pushes line.reference ls.reference;
-              latest = ap (λ (t : Tag). Some (record { value = t.value; reference = t.reference; stamp = a.stamp; ends = a.ends })) (tag_is line (c.line phone).pushes ls.value ls.reference);
+              next = ap following ls.next ∙ following_is (c.line phone).pushes;
+              latest = ap (λ (t : Tag). Some (record { tag = t; stamp = a.stamp; ends = a.ends })) ls.next;
             }));
       }
 
@@ -84,8 +75,8 @@ module _ (limit : ℕ) (phones : List AddressValue) (now : ℕ) (v : CentreValue
       let h = subst (λ (q : List WaitingValue). PushesFrom line q (Ok step) new) is p in
       let ls = s.lines_stand phone line there in (
         ap Ok (sym h.0),
-        subst (λ (t : Tag). CarriesEach (packets_of step) (Data false t (Transfer ToPhone (Deliver (delivery phones a (is_more others)))) ∷ [])) (tag_is line (c.line phone).pushes ls.value ls.reference)
-            (subst (λ (b : Bool). CarriesEach (packets_of step) (Data false (tag_in line) (Transfer ToPhone (Deliver (delivery phones a b))) ∷ [])) (more_waits phones others) h.1),
+        subst (λ (t : Tag). CarriesEach (packets_of step) (Data false t (Transfer ToPhone (Deliver (delivery phones a (is_more others)))) ∷ [])) ls.next
+            (subst (λ (b : Bool). CarriesEach (packets_of step) (Data false line.next (Transfer ToPhone (Deliver (delivery phones a b))) ∷ [])) (more_waits phones others) h.1),
         pushed_stands a others live h.2,
       )
 
@@ -129,12 +120,12 @@ more_are (m ∷ others) = grind (arith, nat_tests)
 
 -- the first message of the queue is put out, and goes to its end
 pub pushed_from : (line new : LineValue) (queue : List WaitingValue) (m : WaitingValue) (others : List WaitingValue) (more : Bool) (step : Step) → queue ≡ m ∷ others → more ≡ nat_lt 1 (suc (length others)) → step.outcome ≡ Pushed
-    → CarriesEach (packets_of step) (Data false (tag_in line) (Transfer ToPhone (Deliver (delivery_of m more))) ∷ [])
+    → CarriesEach (packets_of step) (Data false line.next (Transfer ToPhone (Deliver (delivery_of m more))) ∷ [])
     → new ≡ pushed_line line m others → PushesFrom line queue (Ok step) new
 pushed_from line new queue m others more step is more_is pushed carries after =
     subst (λ (q : List WaitingValue). PushesFrom line q (Ok step) new) (sym is) (
       pushed,
-      subst (λ (b : Bool). CarriesEach (packets_of step) (Data false (tag_in line) (Transfer ToPhone (Deliver (delivery_of m b))) ∷ [])) (more_is ∙ more_are others) carries,
+      subst (λ (b : Bool). CarriesEach (packets_of step) (Data false line.next (Transfer ToPhone (Deliver (delivery_of m b))) ∷ [])) (more_is ∙ more_are others) carries,
       after,
     )
 
@@ -145,7 +136,7 @@ few_from : (line new : LineValue) (queue : List WaitingValue) (r : Result Step D
 few_from line new [] (Ok step) h =
     let none : length step.packets.items ≡ 0 = sym (length-map step.packets.items (λ packet. packet.items)) ∙ ap (λ (l : List (List ℕ)). length l) h.1 in omega arith
 few_from line new (m ∷ others) (Ok step) h =
-    few_put Pushed (Data false (tag_in line) (Transfer ToPhone (Deliver (delivery_of m (is_more others)))) ∷ []) (Ok step) (omega arith) (h.0, h.1)
+    few_put Pushed (Data false line.next (Transfer ToPhone (Deliver (delivery_of m (is_more others)))) ∷ []) (Ok step) (omega arith) (h.0, h.1)
 few_from line new queue (Err why) h = tt
 
 -- a push puts out one packet, or none

@@ -14,9 +14,9 @@ use Rattle.std.proofs.lemmas.Map.Made.{IsDistinct-keys_filter}
 use Rattle.std.proofs.lemmas.Option.{slice_get-get_or, get_or_from_slice_get}
 use Rattle.lru.specs.LruCache.{LruCache, last_entry, promoted, put_entries, lru_cache}
 use Rattle.sms_centre.specs.Centre.Value.{WaitingValue}
-use Rattle.sms_centre.specs.Centre.Queue.{queue_of, IsQueue}
+use Rattle.sms_centre.specs.Inside.Queue.{queue_of, IsQueue}
 use Rattle.sms_centre.specs.Centre.Verdicts.{stays}
-use Rattle.sms_centre.specs.Centre.Lines.{left_waiting}
+use Rattle.sms_centre.specs.Inside.Lines.{left_waiting}
 
 -- a message by its stamp
 abbrev Entry : Type 0

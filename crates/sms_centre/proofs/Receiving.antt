@@ -1,12 +1,13 @@
 -- What comes is what a state takes.
 use Rattle.std.proofs.Common.{ℕ, ◌≤◌, List, None, Result, Ok, Err}
-use Rattle.sms_field.specs.AddressValue.{AddressValue}
+use Rattle.sms_field.specs.Address.Value.{AddressValue}
 use Rattle.sms_message.specs.Message.Reading.{ReadsAs}
 use Rattle.sms_centre.specs.Centre.State.{CentreState}
 use Rattle.sms_centre.specs.Centre.{centre_receives}
 use Rattle.sms_centre.specs.Centre.Value.{CentreValue}
 use Rattle.sms_centre.specs.Centre.Standing.{StandsFor}
-use Rattle.sms_centre.specs.Centre.Calls.{Steps, ReceivesAs}
+use Rattle.sms_centre.specs.Inside.Calls.{Steps}
+use Rattle.sms_centre.specs.Centre.Calls.{ReceivesAs}
 use Rattle.sms_message.specs.declared.message.Message.{Message}
 use Rattle.sms_message.specs.declared.outcome.Step.{Step}
 use Rattle.sms_message.specs.declared.outcome.Dropped.{Dropped}

@@ -1,7 +1,7 @@
 -- Recipients have the addresses of their messages.
 use Rattle.std.proofs.Common.{◌≡◌, ℕ, Bool, true, false, cond, ◌&&◌, nat_lt, List, [], ◌∷◌, refl, Some, None, Option, Result, Ok, Err}
 use Rattle.std.proofs.lemmas.Bool.{cond_both}
-use Rattle.sms_field.specs.AddressValue.{AddressValue}
+use Rattle.sms_field.specs.Address.Value.{AddressValue}
 use Rattle.sms_tpdu.specs.Submit.{Submission}
 use Rattle.sms_relay.specs.declared.side.Side.TheVariants.{FromPhone, ToPhone}
 use Rattle.sms_message.specs.Message.{same_tag, Origin}
@@ -23,7 +23,7 @@ use Rattle.sms_centre.specs.Centre.Pushes.{pushes_first, centre_pushes}
 use Rattle.sms_centre.specs.Centre.Verdicts.{settled, centre_hears}
 use Rattle.sms_centre.specs.Centre.{centre_opened, centre_answered, centre_receives}
 use Rattle.sms_centre.specs.Centre.Stamps.{Call, Receive, Push, called, called_all}
-use Rattle.sms_field.specs.Times.{end_of}
+use Rattle.sms_field.specs.Time.Computed.{end_of}
 use Rattle.sms_field.specs.declared.validity.ValidityFault.{ValidityFault}
 use Rattle.sms_field.specs.declared.validity.ValidityFault.TheVariants.{EnhancedValidity, NoMoment}
 use Rattle.sms_message.specs.Address.{phone_at}

@@ -1,7 +1,6 @@
 -- What a wrapped answer with a report carries.
 use Rattle.std.proofs.Common.{◌≡◌, ℕ, true, false, List, Option, Some, None, subst}
-use Rattle.sms_tpdu.specs.Report.SubmitAck.{SubmitAckValue, SpellsSubmitAck}
-use Rattle.sms_tpdu.specs.Report.SubmitError.{SubmitErrorValue, SpellsSubmitError}
+use Rattle.sms_tpdu.specs.Report.{SubmitAckValue, SpellsSubmitAck, SubmitErrorValue, SpellsSubmitError}
 use Rattle.sms_relay.specs.Carried as carried
 use Rattle.sms_relay.specs.declared.side.Side.TheVariants.{ToPhone}
 use Rattle.sms_message.specs.declared.message.Tag.{Tag}
@@ -9,7 +8,7 @@ use Rattle.sms_message.specs.declared.message.Report.TheVariants.{SubmitAck, Sub
 use Rattle.sms_message.specs.declared.message.Relay.TheVariants.{Answer}
 use Rattle.sms_message.specs.declared.message.Message.TheVariants.{Data}
 use Rattle.sms_message.specs.Message.Carrying.{Carries, SpellsReport}
-use Rattle.sms_field.specs.Times.{stamp_octets}
+use Rattle.sms_field.specs.Time.Computed.{stamp_octets}
 use Rattle.sms_message.specs.Message.Answers.{submit_ack_of, submit_error_of}
 
 ack_spelled : (r : SubmitAckValue) (octets : Option (List ℕ)) → carried.SpellsOptional SpellsSubmitAck (Some r) octets → SpellsReport ToPhone None (Some (SubmitAck r)) octets
@@ -21,7 +20,7 @@ error_spelled cause r None s = s
 error_spelled cause r (Some octets) s = s
 
 abbrev ack_at : List ℕ → SubmitAckValue
-ack_at stamp = record { has_header = false; stamp = stamp; pid = None; dcs = None; user = None }
+ack_at stamp = record { has_header = false; cause = tt; stamp = stamp; pid = None; dcs = None; user = None }
 
 abbrev error_at : ℕ → List ℕ → SubmitErrorValue
 error_at failure stamp = record { has_header = false; cause = failure; stamp = stamp; pid = None; dcs = None; user = None }

@@ -1,7 +1,7 @@
 -- Worked examples of the definitions: stamps, moments, and what the centre does.
 use Rattle.std.proofs.Common.{◌≡◌, ℕ, Bool, true, false, List, [], ◌∷◌, Some, None, Ok, Err, refl}
 use Rattle.jiff_core.specs.Calendar.{day_count, days_of_years, days_of_months}
-use Rattle.sms_field.specs.AddressValue.{AddressValue}
+use Rattle.sms_field.specs.Address.Value.{AddressValue}
 use Rattle.sms_field.specs.declared.symbols.Symbols.TheVariants.{Digits}
 use Rattle.sms_field.specs.declared.validity.Validity.{Validity}
 use Rattle.sms_field.specs.declared.validity.Validity.TheVariants.{Absent, Enhanced, Absolute}
@@ -15,8 +15,8 @@ use Rattle.sms_message.specs.declared.message.Relay.TheVariants.{Transfer, Answe
 use Rattle.sms_message.specs.declared.message.Message.TheVariants.{Tiny, Data}
 use Rattle.sms_message.specs.declared.outcome.Outcome.TheVariants.{Held, Refused, NothingWaits}
 use Rattle.sms_message.specs.declared.outcome.Dropped.TheVariants as dropped
-use Rattle.sms_field.specs.Times.{stamp_octets, moment_of}
-use Rattle.sms_field.specs.SameAddress.{same_address}
+use Rattle.sms_field.specs.Time.Computed.{stamp_octets, moment_of}
+use Rattle.sms_field.specs.Address.Same.{same_address}
 use Rattle.sms_centre.specs.Centre.State.{CentreState, new_centre}
 use Rattle.sms_message.specs.Does.{Does}
 use Rattle.sms_centre.specs.Centre.Checks.{checked_by}

@@ -7,13 +7,13 @@ use Rattle.std.proofs.lemmas.Bool.{or_parts, and_parts, not-true}
 use Rattle.std.proofs.lemmas.List.{take_more, map_more}
 use Rattle.std.proofs.lemmas.Option.{slice_get_read}
 use Rattle.indexmap.specs.IndexSet.{insert_key}
-use Rattle.sms_field.specs.AddressValue.{AddressValue}
-use Rattle.sms_field.specs.SameAddress.{same_address}
-use Rattle.sms_field.specs.SameAddressLaws.{same_address_symmetric}
+use Rattle.sms_field.specs.Address.Value.{AddressValue}
+use Rattle.sms_field.specs.Address.Same.{same_address}
+use Rattle.sms_field.specs.Inside.SameAddressLaws.{same_address_symmetric}
 use Rattle.sms_field.specs.contracts.address.AddressPartialEq.TheImpl as derived
 use Rattle.sms_message.specs.Address.{are_distinct}
 use Rattle.sms_centre.specs.Centre.Value.{LineValue}
-use Rattle.sms_centre.specs.Centre.Lines.{new_line}
+use Rattle.sms_centre.specs.Inside.Lines.{new_line}
 
 is_same : (a b : AddressValue) → (derived.ghosts).eq a b ≡ same_address a b
 unfolding same_address

@@ -1,7 +1,7 @@
 -- What is dropped at a glance is dropped by the machine, and nothing else is.
 use Rattle.std.proofs.Common.{◌≡◌, ℕ, ◌≤◌, ◌<◌, zero, suc, length, arith, Bool, true, false, cond, ◌&&◌, nat_lt, List, [], ◌∷◌, Option, Some, None, Ok, Err, refl, sym, ap, ◌∙◌, subst}
 use Rattle.std.specs.List.{slice_get}
-use Rattle.sms_field.specs.AddressValue.{AddressValue}
+use Rattle.sms_field.specs.Address.Value.{AddressValue}
 use Rattle.sms_relay.specs.declared.side.Side.TheVariants.{FromPhone, ToPhone}
 use Rattle.sms_tpdu.specs.Submit.{Submission}
 use Rattle.sms_message.specs.Message.{Origin, same_tag}
@@ -28,10 +28,11 @@ use Rattle.sms_centre.specs.Centre.Checks.{books_of, checked_by}
 use Rattle.sms_centre.specs.Centre.Submissions.{checked, centre_takes}
 use Rattle.sms_centre.specs.Centre.Verdicts.{verdict, settled, centre_hears}
 use Rattle.sms_centre.specs.Centre.Value.{CentreValue, LineValue, addresses, phones_of}
-use Rattle.sms_centre.specs.Centre.Lines.{awaits_in}
+use Rattle.sms_centre.specs.Inside.Lines.{awaits_in}
 use Rattle.sms_centre.specs.Centre.Standing.{push_of, StandsFor}
 use Rattle.sms_centre.specs.Centre.Calls.{CentreAnswers, ReceivesAs}
-use Rattle.sms_centre.specs.Centre.Seen.{is_taken, awaited_of, awaited_at, drop_of, DropsFor, IsAnswered}
+use Rattle.sms_centre.specs.Inside.Seen.{is_taken, awaited_of, awaited_at, drop_of, DropsFor}
+use Rattle.sms_centre.specs.Centre.Seen.{IsAnswered}
 
 abbrev Answers : Does CentreState → Type 0
 Answers d = (outcome : Outcome) × (d.answer ≡ Ok outcome)

@@ -1,7 +1,7 @@
 -- The law of stamps.
 use Rattle.std.proofs.Common.{◌≡◌, ℕ, suc, ◌<◌, ◌≤◌, max, Bool, true, false, cond, ◌&&◌, eqb, nat_lt, List, [], ◌∷◌, refl, sym, subst, arith, Some, None, Option}
 use Rattle.std.proofs.lemmas.Bool.{eqb-false, cond_both}
-use Rattle.sms_field.specs.AddressValue.{AddressValue}
+use Rattle.sms_field.specs.Address.Value.{AddressValue}
 use Rattle.sms_tpdu.specs.Submit.{Submission}
 use Rattle.sms_relay.specs.declared.side.Side.TheVariants.{FromPhone, ToPhone}
 use Rattle.sms_message.specs.Message.{same_tag, Origin}

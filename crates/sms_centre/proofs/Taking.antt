@@ -7,21 +7,23 @@ use Rattle.std.specs.List.{slice_get}
 use Rattle.std.proofs.Common.{get_or}
 use Rattle.std.proofs.lemmas.Option.{slice_get_read}
 use Rattle.std.proofs.lemmas.Bool.Decides.{nat_tests}
-use Rattle.sms_field.specs.AddressValue.{AddressValue}
+use Rattle.sms_field.specs.Address.Value.{AddressValue}
 use Rattle.sms_field.specs.declared.validity.ValidityFault.{ValidityFault}
 use Rattle.sms_field.specs.declared.validity.ValidityFault.TheVariants.{EnhancedValidity, NoMoment}
 use Rattle.sms_tpdu.specs.Submit.{Submission}
-use Rattle.sms_field.specs.SameAddress.{same_address}
+use Rattle.sms_field.specs.Address.Same.{same_address}
 use Rattle.sms_message.specs.Address.{phone_at, address_of}
-use Rattle.sms_field.specs.Times.{end_of, end_of_2099}
+use Rattle.sms_field.specs.Time.Computed.{end_of, end_of_2099}
 use Rattle.sms_centre.specs.Centre.State.{CentreState}
 use Rattle.sms_centre.specs.Centre.Checks.{Books, check_space, check_recipient, check_validity, checked_by, books_of}
 use Rattle.sms_message.specs.Does.{drops, notes, Puts, packets_of, CarriesEach}
 use Rattle.sms_centre.specs.Centre.Held.{unended, is_held, next_stamp}
 use Rattle.sms_centre.specs.Centre.Value.{CentreValue, LineValue, addresses}
 use Rattle.sms_centre.specs.Centre.Standing.{StandsFor}
-use Rattle.sms_centre.specs.Centre.Kept.{key_of, is_kept, free_at, books_in}
-use Rattle.sms_centre.specs.Centre.Calls.{IsCheckIn, CentreAnswers}
+use Rattle.sms_centre.specs.Centre.Kept.{key_of, is_kept}
+use Rattle.sms_centre.specs.Inside.Kept.{free_at, books_in}
+use Rattle.sms_centre.specs.Inside.Calls.{IsCheckIn}
+use Rattle.sms_centre.specs.Centre.Calls.{CentreAnswers}
 use Rattle.sms_centre.proofs.Lines.{free_is}
 use Rattle.sms_centre.proofs.Holdings.{endings_stay}
 use Rattle.sms_centre.specs.declared.centre.held.Ending.{Ending}

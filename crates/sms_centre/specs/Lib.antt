@@ -1,1 +1,2 @@
 pub mod Centre
+pub mod Inside

@@ -5,7 +5,7 @@ ghost use Rattle.sms_field.specs.Coding.{alphabet_at};
 ghost use Rattle.sms_tpdu.specs.UserData.{FitsAlphabet};
 ghost use Rattle.sms_tpdu.specs.Submit.ValidityPeriod.{IsInRange};
 ghost use Rattle.sms_tpdu.specs.declared.user_data.concat.Width.TheVariants.{Eight};
-ghost use Rattle.sms_join.specs.SegmentUser.{IsSendable};
+ghost use Rattle.sms_join.specs.Segments.User.{IsSendable};
 
 use crate::addresses::{bad_address, bad_centre};
 use crate::digits::read_octets;

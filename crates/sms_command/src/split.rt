@@ -2,7 +2,7 @@
 
 ghost use Rattle.std.specs.Prelude.{◌≡◌, ◌<◌};
 ghost use Rattle.sms_tpdu.specs.declared.user_data.concat.Width.TheVariants.{Eight};
-ghost use Rattle.sms_join.specs.SegmentUser.{IsSendable};
+ghost use Rattle.sms_join.specs.Segments.User.{IsSendable};
 
 use crate::fault::Fault;
 use crate::lines::{Form, Lines};

@@ -1,12 +1,12 @@
 -- The address of a text, with + in front and without.
 use Rattle.std.proofs.Common.{◌≡◌, ◌≢◌, ℕ, Bool, true, false, cond, eqb, List, [], ◌∷◌, ◌++◌, refl, ap, ◌∙◌, lit<}
 use Rattle.std.proofs.lemmas.Bool.{eqb-true, ne_eqb}
-use Rattle.sms_field.specs.DigitText.{digits_of_text, text_of_digits}
+use Rattle.sms_field.specs.Address.DigitText.{digits_of_text, text_of_digits}
 use Rattle.std.specs.Str.{chars}
 use Rattle.std.proofs.lemmas.Str.{chars-nil, encode_ascii}
 use Rattle.std.proofs.Math.Utf8.{encode}
 use Rattle.sms_field.proofs.DigitTexts.{plus_first}
-use Rattle.sms_field.specs.AddressText.{prefix, few_digits, telephone_of, without_plus, address_of_text}
+use Rattle.sms_field.specs.Address.Text.{prefix, few_digits, telephone_of, without_plus, address_of_text}
 
 pub after_plus : (text rest : List ℕ) → text ≡ 43 ∷ rest → address_of_text text ≡ telephone_of 1 (few_digits (digits_of_text rest))
 unfolding address_of_text

@@ -12,7 +12,7 @@ use Rattle.jiff_core.proofs.CalendarLemmas.{day_count-day_of_year, day_count-lt_
 use Rattle.jiff_core.specs.declared.civil.date.Date.{Date}
 use Rattle.jiff_core.specs.Date.{IsYmd, epoch_day}
 use Rattle.jiff_core.proofs.DateLemmas.{civil}
-use Rattle.sms_field.specs.Days.{IsDay, days_before}
+use Rattle.sms_field.specs.Time.Days.{IsDay, days_before}
 
 pub day_count-2000 : day_count (pos 2000) 1 1 ≡ 4_382_910
 day_count-2000 = day_count-early (pos 2000) 11999 1 1 refl (omega arith) (omega arith) (omega arith)

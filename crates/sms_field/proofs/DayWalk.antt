@@ -6,9 +6,9 @@ use Rattle.std.proofs.lemmas.Bool.{cases_lt}
 use Rattle.std.specs.Int.{IsInRange}
 use Rattle.jiff_core.specs.Calendar.{days_in_year, days_in_month, day_count, day_of_year}
 use Rattle.jiff_core.proofs.CalendarLemmas.{days_in_month_bounds, day_count-last_of_year, day_count-lt_month, day_count-day, day_count-next_month, day_count-next_year, day_count-later_year, day_count-day_of_year, day_of_year_bound}
-use Rattle.sms_field.specs.Days.{IsDay, days_before}
+use Rattle.sms_field.specs.Time.Days.{IsDay, days_before}
 use Rattle.sms_field.proofs.DayLemmas.{civil_of_day, day_count-2000, day_count-2100, day_count-day as day_bounds}
-use Rattle.sms_field.specs.Times.{Day, month_after, year_after}
+use Rattle.sms_field.specs.Time.Computed.{Day, month_after, year_after}
 
 abbrev day_of : ℕ → ℕ → ℕ → Day
 day_of y m d = record { year = y; month = m; day = d }

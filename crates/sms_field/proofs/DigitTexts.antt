@@ -7,7 +7,7 @@ use Rattle.std.proofs.lemmas.List.{append-nil, at_drop_more, drop_all}
 use Rattle.std.proofs.lemmas.Str.{encodes-append, encodes-chars, chars_from_encodes, encode_ascii}
 use Rattle.std.proofs.Math.Utf8.{encode, encodes}
 use Rattle.std.specs.Str.{chars, IsUtf8}
-use Rattle.sms_field.specs.DigitText.{digit_characters, digit_of_character, character_of_digit, and_digits, digits_of_text, text_of_digits}
+use Rattle.sms_field.specs.Address.DigitText.{digit_characters, digit_of_character, character_of_digit, and_digits, digits_of_text, text_of_digits}
 
 -- what was read before, and what is still read
 abbrev pub with_digits : List ℕ → Option (List ℕ) → Option (List ℕ)

@@ -6,9 +6,9 @@ use Rattle.std.proofs.lemmas.Bool.{ltb-true}
 use Rattle.sms_field.specs.Field.{Outcome, found, refused, Field, octet_at, found_if, judged, always, read_then, ◌>>=◌}
 use Rattle.sms_field.specs.declared.fault.FieldFault.{FieldFault}
 use Rattle.sms_field.specs.declared.fault.FieldFault.TheVariants.{Short}
-use Rattle.sms_field.specs.AddressFaults.{bad_digit}
-use Rattle.sms_field.specs.Digits.{AreDigits}
-use Rattle.sms_field.specs.DigitOctets.{low_digit, both_digits, digits}
+use Rattle.sms_field.specs.Address.Faults.{bad_digit}
+use Rattle.sms_field.specs.Address.DigitValues.{AreDigits}
+use Rattle.sms_field.specs.Address.DigitOctets.{low_digit, both_digits, digits}
 
 -- a test that chose a value passed
 pub chosen : {A W : Type 0} (b : Bool) (x y : A) (why : W) → cond b (Ok x) (Err why) ≡ Ok y → (b ≡ true) × (x ≡ y)

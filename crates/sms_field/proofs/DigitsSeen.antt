@@ -5,16 +5,16 @@ use Rattle.std.specs.List.{AllByRecursion}
 use Rattle.std.proofs.lemmas.List.{get_or-take, get_or_at, get_or_append_left, take_all, take-append-le}
 use Rattle.sms_field.specs.Field.{Outcome, found, refused, found_if}
 use Rattle.sms_field.specs.declared.fault.FieldFault.{FieldFault}
-use Rattle.sms_field.specs.AddressFaults.{bad_digit}
-use Rattle.sms_field.specs.Digits.{AreDigits}
-use Rattle.sms_field.specs.DigitOctets.{digits}
+use Rattle.sms_field.specs.Address.Faults.{bad_digit}
+use Rattle.sms_field.specs.Address.DigitValues.{AreDigits}
+use Rattle.sms_field.specs.Address.DigitOctets.{digits}
 use Rattle.std.specs.Prelude.{◌==◌}
 use Rattle.std.proofs.lemmas.Bool.{eqb-true}
 use Rattle.sms_text.specs.Bits.{unpacked}
-use Rattle.sms_field.specs.AddressValue.{AreSymbolsOf, alphanumeric}
-use Rattle.sms_field.specs.NameSpelling.{name_fits}
+use Rattle.sms_field.specs.Address.Value.{AreSymbolsOf, alphanumeric}
+use Rattle.sms_field.specs.Inside.NameSpelling.{name_fits}
 use Rattle.sms_field.proofs.DigitsRead.{fits_few}
-use Rattle.sms_field.specs.AddressSeen.{digit_in, digits_in, symbols_in}
+use Rattle.sms_field.specs.Inside.AddressSeen.{digit_in, digits_in, symbols_in}
 use Rattle.sms_field.proofs.DigitLoop.{with_front, two_at, one_at, goes_on, ends_even, ends_odd}
 
 -- the first octet that is left

@@ -7,10 +7,10 @@ use mir.Syntax.{w8, w64}
 use mir.Val.{to_z, of_z, SFits}
 use Rattle.sms_field.specs.Bit.{bit}
 use Rattle.sms_field.specs.declared.stamp.StampDate.{StampDate}
-use Rattle.sms_field.specs.Days.{IsDay, days_before}
-use Rattle.sms_field.specs.StampDate.{HasTwoDigits, value_in, quarters_in, date_in, IsDate}
-use Rattle.sms_field.specs.Moment.{local_seconds, MomentIs}
-use Rattle.sms_field.specs.Stamping.{zone_octet, IsStampAt}
+use Rattle.sms_field.specs.Time.Days.{IsDay, days_before}
+use Rattle.sms_field.specs.Time.StampDate.{HasTwoDigits, value_in, quarters_in, date_in, IsDate}
+use Rattle.sms_field.specs.Time.Moment.{local_seconds, MomentIs}
+use Rattle.sms_field.specs.Time.Stamping.{zone_octet, IsStampAt}
 use Rattle.sms_field.proofs.DayLemmas.{days_before_bound}
 
 -- an offset of at most a hundred hours keeps its value as it is handed on

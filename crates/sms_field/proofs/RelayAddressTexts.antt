@@ -1,9 +1,9 @@
 -- The relay address of a text, with + in front and without.
 use Rattle.std.proofs.Common.{◌≡◌, ◌≢◌, ℕ, Bool, true, false, cond, eqb, List, [], ◌∷◌, refl, ap}
 use Rattle.std.proofs.lemmas.Bool.{eqb-true}
-use Rattle.sms_field.specs.DigitText.{digits_of_text}
-use Rattle.sms_field.specs.AddressText.{few_digits}
-use Rattle.sms_field.specs.RelayAddressText.{relay_telephone_of, relay_address_of_text}
+use Rattle.sms_field.specs.Address.DigitText.{digits_of_text}
+use Rattle.sms_field.specs.Address.Text.{few_digits}
+use Rattle.sms_field.specs.RelayAddress.Text.{relay_telephone_of, relay_address_of_text}
 
 pub after_plus : (text rest : List ℕ) → text ≡ 43 ∷ rest → relay_address_of_text text ≡ relay_telephone_of 1 (few_digits (digits_of_text rest))
 unfolding relay_address_of_text

@@ -8,11 +8,11 @@ use Rattle.sms_field.specs.declared.refusal.Refusal.{Refusal}
 use Rattle.sms_field.specs.declared.refusal.Refusal.TheVariants.{Memory, At}
 use Rattle.sms_field.specs.declared.fault.FieldFault.{FieldFault}
 use Rattle.sms_field.specs.declared.fault.FieldFault.TheVariants.{Short}
-use Rattle.sms_field.specs.AddressFaults.{bad_digit}
+use Rattle.sms_field.specs.Address.Faults.{bad_digit}
 use Rattle.sms_field.specs.Field.{Outcome, found, refused, octet_at, octet_by, judged, always, ◌>>=◌}
-use Rattle.sms_field.specs.Answer.{Refuses}
-use Rattle.sms_field.specs.Digits.{AreDigits}
-use Rattle.sms_field.specs.DigitOctets.{both_digits}
+use Rattle.sms_field.specs.Reading.Answer.{Refuses}
+use Rattle.sms_field.specs.Address.DigitValues.{AreDigits}
+use Rattle.sms_field.specs.Address.DigitOctets.{both_digits}
 use Rattle.sms_field.specs.RelayAddress.{last_digits, relay_digits}
 use Rattle.sms_field.proofs.DigitLoop.{with_front, two_at, regroup}
 use Rattle.sms_field.proofs.DigitsRead.{IsDigit, chosen, then_found, judged_found, both, same_value}

@@ -2,10 +2,10 @@
 use Rattle.std.proofs.Common.{◌≡◌, ℕ, suc, ◌-◌, ◌+◌, ◌*◌, ◌/◌, ◌%◌, ◌<◌, ◌≤◌, Bool, true, false, cond, ltb, List, [], ◌∷◌, ◌++◌, length, take, drop, get_or, Ok, Err, refl, sym, ap, subst, ◌∙◌, arith}
 use Rattle.std.proofs.lemmas.List.{get_or-take, length-take}
 use Rattle.sms_field.specs.Field.{found, found_if}
-use Rattle.sms_field.specs.AddressFaults.{bad_digit}
-use Rattle.sms_field.specs.AddressSeen.{digits_in}
+use Rattle.sms_field.specs.Address.Faults.{bad_digit}
+use Rattle.sms_field.specs.Inside.AddressSeen.{digits_in}
 use Rattle.sms_field.specs.RelayAddress.{relay_digits}
-use Rattle.sms_field.specs.RelayAddressSeen.{last_digits_in, relay_count, relay_digits_in}
+use Rattle.sms_field.specs.Inside.RelayAddressSeen.{last_digits_in, relay_count, relay_digits_in}
 use Rattle.sms_field.proofs.DigitLoop.{with_front, two_at}
 use Rattle.sms_field.proofs.RelayDigitLoop.{last_at, goes_on, ends_empty, ends_last}
 use Rattle.sms_field.proofs.DigitsSeen.{at_drop, two_is, two_more, one_more, digits_in-take, front_none}

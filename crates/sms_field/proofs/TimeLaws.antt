@@ -5,16 +5,16 @@ use Rattle.std.proofs.lemmas.Bool.{ltb-true, lt-ltb, leb-true, le-leb}
 use Rattle.std.proofs.lemmas.Int.{ints}
 use Rattle.std.proofs.Common.{lit<}
 use Rattle.jiff_core.proofs.CalendarLemmas.{days_in_month_bounds}
-use Rattle.sms_field.specs.Days.{IsDay, days_before}
-use Rattle.sms_field.specs.Stamp.{IsStamp}
-use Rattle.sms_field.specs.StampDate.{HasTwoDigits, value_in, quarters_in, date_in, IsDate}
-use Rattle.sms_field.specs.Moment.{MomentIs, local_seconds}
-use Rattle.sms_field.specs.Stamping.{IsStampAt}
-use Rattle.sms_field.specs.Validity.{AbsoluteEndIs}
+use Rattle.sms_field.specs.Time.Days.{IsDay, days_before}
+use Rattle.sms_field.specs.Time.Stamp.{IsStamp}
+use Rattle.sms_field.specs.Time.StampDate.{HasTwoDigits, value_in, quarters_in, date_in, IsDate}
+use Rattle.sms_field.specs.Time.Moment.{MomentIs, local_seconds}
+use Rattle.sms_field.specs.Time.Stamping.{IsStampAt}
+use Rattle.sms_field.specs.Time.Validity.{AbsoluteEndIs}
 use Rattle.sms_field.specs.declared.stamp.StampDate.{StampDate}
 use Rattle.sms_field.specs.declared.validity.Validity.TheVariants.{Absent, Relative, Enhanced, Absolute}
 use Rattle.sms_field.specs.declared.validity.ValidityFault.{ValidityFault}
-use Rattle.sms_field.specs.Times.{Day, year_after, digits_octet, stamp_of_day, stamp_octets, has_two_digits, is_day, is_time, is_date, not_negative, moment_of, end_at, StampIsOne, StampIsThere, MomentIsOne, MomentIsThere, EndIsOne, MomentComesBack, MomentComesBackOfZone0}
+use Rattle.sms_field.specs.Time.Computed.{Day, year_after, digits_octet, stamp_of_day, stamp_octets, has_two_digits, is_day, is_time, is_date, not_negative, moment_of, end_at, StampIsOne, StampIsThere, MomentIsOne, MomentIsThere, EndIsOne, MomentComesBack, MomentComesBackOfZone0}
 use Rattle.sms_field.proofs.DayWalk.{day_is, day_there}
 use Rattle.sms_field.proofs.MomentLaws.{stamp_is}
 

@@ -1,15 +1,25 @@
 -- Addresses (3GPP TS 23.040, 9.1.2.5).
+pub mod DigitOctets
+pub mod DigitText
+pub mod DigitValues
+pub mod Faults
+pub mod NameOctets
+pub mod NamePacking
+pub mod Same
+pub mod Seen
+pub mod Text
+pub mod Value
 use Rattle.std.specs.Prelude.{ℕ, ◌+◌, ◌*◌, ◌/◌, ◌%◌, Bool, true, false, List, ◌∷◌, length, ◌==◌}
 use Rattle.sms_field.specs.Field.{Field, ◌>>=◌, always, octet, octet_by}
-use Rattle.sms_field.specs.DigitOctets.{digits, digit_octets}
-use Rattle.sms_field.specs.Name.{name, name_octets, name_length}
-use Rattle.sms_field.specs.AddressValue.{AddressValue, alphanumeric}
+use Rattle.sms_field.specs.Address.DigitOctets.{digits, digit_octets}
+use Rattle.sms_field.specs.Address.NameOctets.{name, name_octets, name_length}
+use Rattle.sms_field.specs.Address.Value.{AddressValue, alphanumeric}
 use Rattle.sms_field.specs.declared.symbols.Symbols.{Symbols}
 use Rattle.sms_field.specs.declared.symbols.Symbols.TheVariants.{Digits, Name}
 use Rattle.sms_field.specs.declared.fault.FieldFault.{FieldFault}
 use Rattle.sms_field.specs.declared.fault.FieldFault.TheVariants.{Short}
-use Rattle.sms_field.specs.AddressFaults.{too_long}
-pub use Rattle.sms_field.specs.SingleFields.{up_to}
+use Rattle.sms_field.specs.Address.Faults.{too_long}
+pub use Rattle.sms_field.specs.Field.Single.{up_to}
 
 -- Address-Value: as many semi-octets as are counted, a name or digits
 unfoldable pub symbols_by : Bool → ℕ → Field Symbols FieldFault

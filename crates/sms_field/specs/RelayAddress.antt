@@ -1,11 +1,13 @@
 -- Addresses of the relay layer in octets (3GPP TS 24.011, 8.2.5.1 and 8.2.5.2).
+pub mod Text
+pub mod Value
 use Rattle.std.specs.Prelude.{ℕ, zero, suc, ◌+◌, ◌-◌, ◌*◌, ◌/◌, ◌%◌, Bool, true, false, List, [], ◌∷◌, length, Option, Some, None, Result, Ok, Err, ◌==◌, nat_lt, if◌then◌else◌}
 use Rattle.sms_field.specs.Field.{Field, ◌>>=◌, always, octet, octet_by, up_to}
-use Rattle.sms_field.specs.DigitOctets.{both_digits, digit_octets}
-use Rattle.sms_field.specs.RelayAddressValue.{RelayAddressValue}
+use Rattle.sms_field.specs.Address.DigitOctets.{both_digits, digit_octets}
+use Rattle.sms_field.specs.RelayAddress.Value.{RelayAddressValue}
 use Rattle.sms_field.specs.declared.fault.FieldFault.{FieldFault}
 use Rattle.sms_field.specs.declared.fault.FieldFault.TheVariants.{Short}
-use Rattle.sms_field.specs.AddressFaults.{too_long, bad_digit}
+use Rattle.sms_field.specs.Address.Faults.{too_long, bad_digit}
 
 -- the digits in the last octet: a high half of 15 marks an odd number
 abbrev pub last_digits : ℕ → Result (List ℕ) FieldFault

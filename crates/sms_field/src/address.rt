@@ -2,14 +2,14 @@
 
 ghost use Rattle.std.specs.Prelude.{◌≡◌, ◌++◌, IsOk, IfOk, IfErr, OnOk, OnErr};
 ghost use Rattle.sms_field.specs.Field.{IsLawful, IsSelfContained};
-ghost use Rattle.sms_field.specs.AddressValue.{HasSpelling};
+ghost use Rattle.sms_field.specs.Address.Value.{HasSpelling};
 ghost use Rattle.sms_field.specs.Address.{address, address_octets};
-ghost use Rattle.sms_field.specs.Written.{AreAtMost, AreOctetsOf, AreReadBack};
+ghost use Rattle.sms_field.specs.Reading.Written.{AreAtMost, AreOctetsOf, AreReadBack};
 ghost use Rattle.sms_field.specs.declared.fault.FieldFault.TheVariants.{Short};
-ghost use Rattle.sms_field.specs.Reading.{Reads};
-ghost use Rattle.sms_field.specs.Answer.{Takes};
-ghost use Rattle.sms_field.specs.WholeAnswer.{IsRefusedBy, ReadsExactly};
-ghost use Rattle.sms_field.specs.SameAddress.{same_address};
+ghost use Rattle.sms_field.specs.Reading.{Reads, IsRefused};
+ghost use Rattle.sms_field.specs.Reading.Answer.{Takes};
+ghost use Rattle.sms_field.specs.Reading.WholeAnswer.{ReadsExactly};
+ghost use Rattle.sms_field.specs.Address.Same.{same_address};
 
 use crate::address_view::AddressView;
 use crate::cursor::Cursor;
@@ -33,7 +33,7 @@ pub struct Address {
 }
 
 impl Model for Address {
-    ghost use Rattle.sms_field.specs.AddressValue.{AddressValue, HasSpelling};
+    ghost use Rattle.sms_field.specs.Address.Value.{AddressValue, HasSpelling};
 
     ghost Value = { AddressValue };
 
@@ -80,7 +80,7 @@ impl Address {
 
     /// Whether two addresses are the same: of one type of number and numbering plan, and with the
     /// same digits or name.
-    #[tactic(auto, unfolding(crate::specs::SameAddress::same_address))]
+    #[tactic(auto, unfolding(crate::specs::Address::Same::same_address))]
     pub fn is_same(&self, other: &Address) -> bool
         ensures { result ≡ same_address self.now other.now }
     {
@@ -114,7 +114,7 @@ impl Address {
     /// Reads an address at the front of the octets, and says how many it takes.
     pub fn read(alloc: Global, input: &[u8]) -> Result<(Address, usize), Refusal<FieldFault>>
         ensures found { IfOk result (λ x. Reads address x.0 input.now x.1) }
-        ensures refused { IfErr result (IsRefusedBy address Short input.now) }
+        ensures refused { IfErr result (IsRefused address Short input.now) }
         ensures exact { ReadsExactly address input.now result }
     {
         let (view, used) = AddressView::read(input)?;

@@ -4,9 +4,9 @@ ghost use Rattle.std.specs.Prelude.{◌≡◌, ◌≢◌, ◌<◌, ℕ, List, �
 ghost use Rattle.std.specs.Str.{chars};
 ghost use Rattle.std.specs.String.{string_bytes};
 ghost use Rattle.sms_text.specs.SeptetsOfText.{septets_of_text};
-ghost use Rattle.sms_field.specs.DigitText.{digits_of_text, text_of_digits};
-ghost use Rattle.sms_field.specs.AddressText.{plus, prefix, address_text, few_digits, telephone as telephone_with, telephone_of, name_of, without_plus, address_of_text};
-ghost use Rattle.sms_field.specs.AddressFaults.{Gives};
+ghost use Rattle.sms_field.specs.Address.DigitText.{digits_of_text, text_of_digits};
+ghost use Rattle.sms_field.specs.Address.Text.{plus, prefix, address_text, few_digits, telephone as telephone_with, telephone_of, name_of, without_plus, address_of_text};
+ghost use Rattle.sms_field.specs.Address.Faults.{Gives};
 
 use crate::address::{ALPHANUMERIC, Address};
 use crate::digits::{DIGITS_MAX, Digits, digits_of, push_digits};
@@ -118,7 +118,7 @@ impl Address {
     }
 
     /// The text of the address: its name, or its digits, after a `+` where the type of number is 1.
-    #[tactic(auto, unfolding(crate::specs::AddressText::address_text))]
+    #[tactic(auto, unfolding(crate::specs::Address::Text::address_text))]
     pub fn to_text(&self, alloc: Global) -> Result<String, AllocError>
         ensures { IfOk result (λ text. chars (string_bytes text) ≡ address_text self.now) }
     {

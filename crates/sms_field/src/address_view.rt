@@ -1,16 +1,16 @@
 //! Addresses of the transfer layer, seen in a unit's octets (3GPP TS 23.040, 9.1.2.5).
 
 ghost use Rattle.std.specs.Prelude.{◌≡◌, ◌≤◌, ◌==◌, ◌+◌, ◌/◌, length, IsOk, IfOk, IfErr};
-ghost use Rattle.sms_field.specs.AddressValue.{AreSymbolsOf, HasSpelling};
+ghost use Rattle.sms_field.specs.Address.Value.{AreSymbolsOf, HasSpelling};
 ghost use Rattle.sms_field.specs.Address.{symbols_of, address};
-ghost use Rattle.sms_field.specs.AddressSeen.{digits_in, symbols_seen};
-ghost use Rattle.sms_field.specs.Answer.{Sees, SeesAs};
+ghost use Rattle.sms_field.specs.Inside.AddressSeen.{digits_in, symbols_seen};
+ghost use Rattle.sms_field.specs.Reading.Answer.{Sees, SeesAs};
 ghost use Rattle.sms_field.specs.Reading.{Reads};
-ghost use Rattle.sms_field.specs.WholeAnswer.{IsFaultOf, SeesExactly};
-ghost use Rattle.sms_field.specs.Lies.{TakesOctets};
-ghost use Rattle.sms_field.specs.SymbolsSeen.{seen_symbols};
+ghost use Rattle.sms_field.specs.Reading.WholeAnswer.{IsFaultOf, SeesExactly};
+ghost use Rattle.sms_field.specs.Reading.Lies.{TakesOctets};
+ghost use Rattle.sms_field.specs.Address.Seen.{seen_symbols};
 ghost use Rattle.sms_field.specs.declared.fault.FieldFault.TheVariants.{Short};
-ghost use Rattle.sms_field.specs.DigitOctets.{digits};
+ghost use Rattle.sms_field.specs.Address.DigitOctets.{digits};
 
 use crate::address::{ALPHANUMERIC, Address};
 use crate::cursor::Cursor;
@@ -32,8 +32,8 @@ pub struct AddressView<'a> {
 }
 
 impl<'a> Model for AddressView<'a> {
-    ghost use Rattle.sms_field.specs.AddressValue.{AddressValue};
-    ghost use Rattle.sms_field.specs.AddressSeen.{address_in, IsAddressIn};
+    ghost use Rattle.sms_field.specs.Address.Value.{AddressValue};
+    ghost use Rattle.sms_field.specs.Inside.AddressSeen.{address_in, IsAddressIn};
 
     ghost Value = { AddressValue };
 
@@ -59,7 +59,7 @@ fn digits_seen_at<'a>(input: &mut Cursor<'a>, count: u8) -> Result<&'a [u8], Fau
 }
 
 /// The octets of semi-octets, as many as are counted: of a name or of digits.
-#[tactic(auto, unfolding(crate::specs::Address::symbols_by, crate::specs::Name::name))]
+#[tactic(auto, unfolding(crate::specs::Address::symbols_by, crate::specs::Address::NameOctets::name))]
 fn symbols_seen_at<'a>(
     input: &mut Cursor<'a>,
     type_of_number: u8,

@@ -1,7 +1,7 @@
 //! Days of 2000 to 2099 by their numbers.
 
 ghost use Rattle.std.specs.Prelude.{◌≡◌, ◌↔◌, ◌<◌, IsTrue, IsSome, IfSome};
-ghost use Rattle.sms_field.specs.Days.{IsDay, days_before};
+ghost use Rattle.sms_field.specs.Time.Days.{IsDay, days_before};
 
 use jiff_core::civil::Date;
 

@@ -4,9 +4,9 @@ ghost use Rattle.std.specs.Prelude.{◌≡◌, ℕ, ◌+◌, ◌*◌, ◌/◌, �
 ghost use Rattle.std.specs.List.{AllByRecursion};
 ghost use Rattle.std.specs.Str.{chars};
 ghost use Rattle.std.specs.String.{string_bytes};
-ghost use Rattle.sms_field.specs.Digits.{AreDigits};
-ghost use Rattle.sms_field.specs.DigitText.{digit_characters, digit_of_character, character_of_digit, digits_of_text, text_of_digits};
-ghost use Rattle.sms_field.specs.DigitOctets.{low_digit, both_digits, digit_octets};
+ghost use Rattle.sms_field.specs.Address.DigitValues.{AreDigits};
+ghost use Rattle.sms_field.specs.Address.DigitText.{digit_characters, digit_of_character, character_of_digit, digits_of_text, text_of_digits};
+ghost use Rattle.sms_field.specs.Address.DigitOctets.{low_digit, both_digits, digit_octets};
 ghost use Rattle.std.specs.Prelude.{nat_eq};
 ghost use Rattle.std.specs.Cmp.Lexicographic.{pointwise};
 ghost use Rattle.std.specs.Cmp.Rules.{comparing, hashing};
@@ -33,7 +33,7 @@ impl Model for Digits {
 
     ghost Value = { List ℕ };
 
-    ghost use Rattle.sms_field.specs.Digits.{AreDigits};
+    ghost use Rattle.sms_field.specs.Address.DigitValues.{AreDigits};
 
     ghost view = { λ d. d.values.items };
 
@@ -174,7 +174,7 @@ fn place_of(c: char) -> Option<usize>
 }
 
 /// The digit that a character stands for.
-#[tactic(auto, unfolding(crate::specs::DigitText::digit_of_character))]
+#[tactic(auto, unfolding(crate::specs::Address::DigitText::digit_of_character))]
 fn digit_of(c: char) -> Option<u8>
     ensures { result ≡ digit_of_character c }
 {
@@ -183,7 +183,7 @@ fn digit_of(c: char) -> Option<u8>
 }
 
 /// The character of a digit.
-#[tactic(auto, unfolding(crate::specs::DigitText::character_of_digit))]
+#[tactic(auto, unfolding(crate::specs::Address::DigitText::character_of_digit))]
 fn character_of(digit: u8) -> char
     requires { digit < 15 }
     ensures { result ≡ character_of_digit digit }

@@ -1,19 +1,18 @@
 //! What follows from the definitions alone. Each function is empty: its contract is the law.
 
 ghost use Rattle.std.specs.Prelude.{◌≡◌};
-ghost use Rattle.sms_field.specs.NamePacking.{NamesArePacked, OnlyNamesArePacked};
+ghost use Rattle.sms_field.specs.Address.NamePacking.{NamesArePacked, OnlyNamesArePacked};
 ghost use Rattle.sms_field.specs.Address.{address};
-ghost use Rattle.sms_field.specs.AddressValue.{HasSpelling};
-ghost use Rattle.sms_field.specs.OneRefusal.{HasOneRefusal};
+ghost use Rattle.sms_field.specs.Address.Value.{HasSpelling};
+ghost use Rattle.sms_field.specs.Reading.OneRefusal.{HasOneRefusal};
 ghost use Rattle.sms_field.specs.RelayAddress.{relay_address};
-ghost use Rattle.sms_field.specs.RelayAddressValue.{HasOptionalSpelling};
+ghost use Rattle.sms_field.specs.RelayAddress.Value.{HasOptionalSpelling};
 ghost use Rattle.sms_field.specs.declared.fault.FieldFault.TheVariants.{Short};
-ghost use Rattle.sms_field.specs.Readable.{HasOneReading, IsDecided, IsUnread};
-ghost use Rattle.sms_field.specs.Reading.{Reads};
-ghost use Rattle.sms_field.specs.ReadValues.{Has, ChainHas};
-ghost use Rattle.sms_field.specs.Reasons.{ChainNever};
-ghost use Rattle.sms_field.specs.SameAddress.{SameIsEqual, SameIsReflexive, SameIsSymmetric, SameIsTransitive};
-ghost use Rattle.sms_field.specs.Times.{end_of_2099, StampIsOne, StampIsThere, MomentIsOne, MomentIsThere, EndIsOne, MomentComesBack, MomentComesBackOfZone0};
+ghost use Rattle.sms_field.specs.Reading.Readable.{HasOneReading, IsDecided, IsUnread};
+ghost use Rattle.sms_field.specs.Reading.Values.{Has, ChainHas};
+ghost use Rattle.sms_field.specs.Reading.Reasons.{ChainNever};
+ghost use Rattle.sms_field.specs.Address.Same.{SameIsEqual, SameIsReflexive, SameIsSymmetric, SameIsTransitive};
+ghost use Rattle.sms_field.specs.Time.Computed.{end_of_2099, StampIsOne, StampIsThere, MomentIsOne, MomentIsThere, EndIsOne, MomentComesBack, MomentComesBackOfZone0};
 
 use crate::chain::Chain;
 use crate::moment::END_OF_2099;
@@ -40,7 +39,7 @@ pub trait Known<A, B, W>: Chain<A, B, W> {
 pub fn law_of_readings<V, W, F: Lawful<V, W>>()
     ensures one { HasOneReading F.field }
     ensures decided { IsDecided F.field }
-    ensures unread { IsUnread (Reads F.field) F.field.reason F.short }
+    ensures unread { IsUnread F.field F.short }
 {}
 
 /// What neither of two fields is refused for, their chain is not.
@@ -55,8 +54,8 @@ pub fn law_of_values<A, B, W, K: Known<A, B, W>>()
 
 /// An input is refused as an address at one place and for one reason.
 pub fn addresses_are_refused_once()
-    ensures transfer { HasOneRefusal (Reads address) address.reason Short }
-    ensures relay { HasOneRefusal (Reads relay_address) relay_address.reason Short }
+    ensures transfer { HasOneRefusal address Short }
+    ensures relay { HasOneRefusal relay_address Short }
 {}
 
 /// What is read of octets as an address has a spelling.

@@ -1,11 +1,11 @@
 //! Time stamps as moments (3GPP TS 23.040, 9.2.3.11): seconds from 2000-01-01 00:00:00 UTC.
 
 ghost use Rattle.std.specs.Prelude.{◌≡◌, ◌↔◌, ◌+◌, ◌*◌, ◌<◌, ◌*ℤ◌, ◌≤ℤ◌, pos, negsuc, IsSome, IfSome};
-ghost use Rattle.sms_field.specs.StampDate.{HasTwoDigits, value_in};
-ghost use Rattle.sms_field.specs.Moment.{MomentIs};
-ghost use Rattle.sms_field.specs.Stamp.{IsStamp};
-ghost use Rattle.sms_field.specs.Times.{stamp_octets, moment_of};
-ghost use Rattle.sms_field.specs.Stamping.{HasStamp, IsStampAt, zone_octet};
+ghost use Rattle.sms_field.specs.Time.StampDate.{HasTwoDigits, value_in};
+ghost use Rattle.sms_field.specs.Time.Moment.{MomentIs};
+ghost use Rattle.sms_field.specs.Time.Stamp.{IsStamp};
+ghost use Rattle.sms_field.specs.Time.Computed.{stamp_octets, moment_of};
+ghost use Rattle.sms_field.specs.Time.Stamping.{HasStamp, IsStampAt, zone_octet};
 
 use crate::bit::bit_weight;
 use crate::calendar::{date_of, days_since_2000};

@@ -2,7 +2,7 @@
 
 ghost use Rattle.std.specs.Prelude.{◌≡◌, ℕ, ◌≤◌, ◌∷◌, ◌++◌, length, IfOk, OnOk, OnErr};
 ghost use Rattle.sms_text.specs.Bits.{AreSeptets};
-ghost use Rattle.sms_field.specs.Name.{IsName, name_octets};
+ghost use Rattle.sms_field.specs.Address.NameOctets.{IsName, name_octets};
 ghost use Rattle.std.specs.Prelude.{nat_eq};
 ghost use Rattle.std.specs.Cmp.Lexicographic.{pointwise};
 ghost use Rattle.std.specs.Cmp.Rules.{comparing, hashing};
@@ -29,7 +29,7 @@ impl Model for Name {
 
     ghost Value = { List ℕ };
 
-    ghost use Rattle.sms_field.specs.Name.{IsName};
+    ghost use Rattle.sms_field.specs.Address.NameOctets.{IsName};
 
     ghost view = { λ n. n.septets.items };
 

@@ -4,22 +4,22 @@ ghost use Rattle.std.specs.Prelude.{◌≡◌, ◌<◌, ◌++◌, IsOk, IfOk, If
 ghost use Rattle.std.specs.Str.{chars};
 ghost use Rattle.std.specs.String.{string_bytes};
 ghost use Rattle.sms_field.specs.Field.{IsLawful, IsSelfContained};
-ghost use Rattle.sms_field.specs.RelayAddressValue.{HasOptionalSpelling};
+ghost use Rattle.sms_field.specs.RelayAddress.Value.{HasOptionalSpelling};
 ghost use Rattle.sms_field.specs.RelayAddress.{relay_address, relay_address_octets, optional_address_octets};
-ghost use Rattle.sms_field.specs.DigitText.{digits_of_text};
-ghost use Rattle.sms_field.specs.AddressText.{few_digits};
-ghost use Rattle.sms_field.specs.RelayAddressText.{relay_address_text, relay_telephone_of, relay_address_of_text};
-ghost use Rattle.sms_field.specs.Written.{AreAtMost, AreOctetsOf, AreReadBack};
+ghost use Rattle.sms_field.specs.Address.DigitText.{digits_of_text};
+ghost use Rattle.sms_field.specs.Address.Text.{few_digits};
+ghost use Rattle.sms_field.specs.RelayAddress.Text.{relay_address_text, relay_telephone_of, relay_address_of_text};
+ghost use Rattle.sms_field.specs.Reading.Written.{AreAtMost, AreOctetsOf, AreReadBack};
 ghost use Rattle.sms_field.specs.declared.fault.FieldFault.TheVariants.{Short};
-ghost use Rattle.sms_field.specs.AddressFaults.{Gives};
-ghost use Rattle.sms_field.specs.Reading.{Reads};
-ghost use Rattle.sms_field.specs.WholeAnswer.{IsRefusedBy, ReadsExactly};
+ghost use Rattle.sms_field.specs.Address.Faults.{Gives};
+ghost use Rattle.sms_field.specs.Reading.{Reads, IsRefused};
+ghost use Rattle.sms_field.specs.Reading.WholeAnswer.{ReadsExactly};
 ghost use Rattle.std.specs.Prelude.{nat_eq, ◌&&◌};
 ghost use Rattle.std.specs.Cmp.Lexicographic.{pointwise};
 ghost use Rattle.std.specs.Cmp.Rules.{comparing, hashing};
 ghost use Rattle.std.specs.Hash as fed;
 ghost use Rattle.std.proofs.Common.{rules};
-ghost use Rattle.sms_field.specs.Answer.{Takes};
+ghost use Rattle.sms_field.specs.Reading.Answer.{Takes};
 
 use crate::address::OCTETS_MAX;
 use crate::address_text::{digits_of_telephone, international, text_of_telephone};
@@ -44,7 +44,7 @@ pub struct RpAddress {
 }
 
 impl Model for RpAddress {
-    ghost use Rattle.sms_field.specs.RelayAddressValue.{RelayAddressValue, HasRelaySpelling};
+    ghost use Rattle.sms_field.specs.RelayAddress.Value.{RelayAddressValue, HasRelaySpelling};
 
     ghost Value = { RelayAddressValue };
 
@@ -127,7 +127,7 @@ impl RpAddress {
     }
 
     /// The text of the address: its digits, after a `+` where the type of number is 1.
-    #[tactic(auto, unfolding(crate::specs::RelayAddressText::relay_address_text))]
+    #[tactic(auto, unfolding(crate::specs::RelayAddress::Text::relay_address_text))]
     pub fn to_text(&self, alloc: Global) -> Result<String, AllocError>
         ensures { IfOk result (λ text. chars (string_bytes text) ≡ relay_address_text self.now) }
     {
@@ -176,7 +176,7 @@ impl RpAddress {
         input: &[u8],
     ) -> Result<(Option<RpAddress>, usize), Refusal<FieldFault>>
         ensures found { IfOk result (λ x. Reads relay_address x.0 input.now x.1) }
-        ensures refused { IfErr result (IsRefusedBy relay_address Short input.now) }
+        ensures refused { IfErr result (IsRefused relay_address Short input.now) }
         ensures exact { ReadsExactly relay_address input.now result }
     {
         let (view, used) = RpAddressView::read(input)?;

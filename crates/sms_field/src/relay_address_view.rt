@@ -2,13 +2,13 @@
 
 ghost use Rattle.std.specs.Prelude.{◌≡◌, ◌≤◌, ◌/◌, ◌%◌, length, MatchResult, IsOk, IfOk, IfErr, None};
 ghost use Rattle.sms_field.specs.Field.{octet_by};
-ghost use Rattle.sms_field.specs.Answer.{Sees, SeesAs};
+ghost use Rattle.sms_field.specs.Reading.Answer.{Sees, SeesAs};
 ghost use Rattle.sms_field.specs.Reading.{Reads};
-ghost use Rattle.sms_field.specs.WholeAnswer.{IsFaultOf, SeesExactly};
-ghost use Rattle.sms_field.specs.Lies.{TakesOctets};
+ghost use Rattle.sms_field.specs.Reading.WholeAnswer.{IsFaultOf, SeesExactly};
+ghost use Rattle.sms_field.specs.Reading.Lies.{TakesOctets};
 ghost use Rattle.sms_field.specs.RelayAddress.{last_digits, relay_digits, relay_address};
-ghost use Rattle.sms_field.specs.Digits.{AreDigits};
-ghost use Rattle.sms_field.specs.RelayAddressSeen.{last_digits_in, relay_count, relay_digits_in, relay_address_in};
+ghost use Rattle.sms_field.specs.Address.DigitValues.{AreDigits};
+ghost use Rattle.sms_field.specs.Inside.RelayAddressSeen.{last_digits_in, relay_count, relay_digits_in, relay_address_in};
 ghost use Rattle.sms_field.specs.declared.fault.FieldFault.TheVariants.{Short};
 
 use crate::cursor::Cursor;
@@ -32,8 +32,8 @@ pub struct RpAddressView<'a> {
 }
 
 impl<'a> Model for RpAddressView<'a> {
-    ghost use Rattle.sms_field.specs.RelayAddressValue.{RelayAddressValue};
-    ghost use Rattle.sms_field.specs.RelayAddressSeen.{relay_address_in, IsRelayAddressIn};
+    ghost use Rattle.sms_field.specs.RelayAddress.Value.{RelayAddressValue};
+    ghost use Rattle.sms_field.specs.Inside.RelayAddressSeen.{relay_address_in, IsRelayAddressIn};
 
     ghost Value = { RelayAddressValue };
 

@@ -1,14 +1,14 @@
 //! Time stamps of a service centre (3GPP TS 23.040, 9.2.3.11).
 
 ghost use Rattle.std.specs.Prelude.{◌≡◌, ◌↔◌, ◌<◌, ◌/◌, ◌+◌, IsSome, IfSome, IfOk, IfErr};
-ghost use Rattle.sms_field.specs.Days.{IsDay};
+ghost use Rattle.sms_field.specs.Time.Days.{IsDay};
 ghost use Rattle.sms_field.specs.Field.{IsLawful};
 ghost use Rattle.sms_field.specs.declared.fault.FieldFault.TheVariants.{Short};
 ghost use Rattle.sms_field.specs.Reading.{Reads};
-ghost use Rattle.sms_field.specs.Answer.{Sees};
-ghost use Rattle.sms_field.specs.WholeAnswer.{IsFaultOf, SeesExactly};
-ghost use Rattle.sms_field.specs.Stamp.{stamp, IsStamp};
-ghost use Rattle.sms_field.specs.StampDate.{HasTwoDigits, value_in, quarters_in, date_in, IsDate};
+ghost use Rattle.sms_field.specs.Reading.Answer.{Sees};
+ghost use Rattle.sms_field.specs.Reading.WholeAnswer.{IsFaultOf, SeesExactly};
+ghost use Rattle.sms_field.specs.Time.Stamp.{stamp, IsStamp};
+ghost use Rattle.sms_field.specs.Time.StampDate.{HasTwoDigits, value_in, quarters_in, date_in, IsDate};
 
 use crate::bit::has_bit;
 use crate::calendar::is_day;
@@ -25,7 +25,7 @@ pub struct Stamp {
 
 impl Model for Stamp {
     ghost use Rattle.std.specs.Prelude.{List, ℕ};
-    ghost use Rattle.sms_field.specs.Stamp.{IsStamp};
+    ghost use Rattle.sms_field.specs.Time.Stamp.{IsStamp};
 
     ghost Value = { List ℕ };
 

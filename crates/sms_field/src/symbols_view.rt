@@ -2,9 +2,9 @@
 
 ghost use Rattle.std.specs.Prelude.{◌≡◌, ◌+◌, ◌*◌, ◌/◌, ◌<◌, ◌≤◌, length, slice_index, IfSome, MatchOption};
 ghost use Rattle.sms_text.specs.Bits.{unpacked};
-ghost use Rattle.sms_field.specs.Digits.{AreDigits};
-ghost use Rattle.sms_field.specs.AddressSeen.{digits_in};
-ghost use Rattle.sms_field.specs.SymbolsSeen.{seen_symbols};
+ghost use Rattle.sms_field.specs.Address.DigitValues.{AreDigits};
+ghost use Rattle.sms_field.specs.Inside.AddressSeen.{digits_in};
+ghost use Rattle.sms_field.specs.Address.Seen.{seen_symbols};
 
 use crate::digits::{DIGITS_MAX, Digits};
 use crate::name::{Name, SEPTETS_MAX};
@@ -24,7 +24,7 @@ pub struct DigitsView<'a> {
 
 impl<'a> Model for DigitsView<'a> {
     ghost use Rattle.std.specs.Prelude.{ℕ, List};
-    ghost use Rattle.sms_field.specs.AddressSeen.{digits_in, AreDigitsIn};
+    ghost use Rattle.sms_field.specs.Inside.AddressSeen.{digits_in, AreDigitsIn};
 
     ghost Value = { List ℕ };
 
@@ -95,7 +95,7 @@ pub struct NameView<'a> {
 impl<'a> Model for NameView<'a> {
     ghost use Rattle.std.specs.Prelude.{ℕ, List};
     ghost use Rattle.sms_text.specs.Bits.{unpacked};
-    ghost use Rattle.sms_field.specs.AddressSeen.{IsNameIn};
+    ghost use Rattle.sms_field.specs.Inside.AddressSeen.{IsNameIn};
 
     ghost Value = { List ℕ };
 

@@ -1,8 +1,8 @@
 //! Validity periods (3GPP TS 23.040, 9.2.3.12).
 
 ghost use Rattle.std.specs.Prelude.{◌≡◌, ◌<◌, ◌^◌};
-ghost use Rattle.sms_field.specs.Times.{end_of};
-ghost use Rattle.sms_field.specs.Validity.{relative_seconds, EndIs};
+ghost use Rattle.sms_field.specs.Time.Computed.{end_of};
+ghost use Rattle.sms_field.specs.Time.Validity.{relative_seconds, EndIs};
 
 use crate::stamp::Stamp;
 use thiserror::Error;

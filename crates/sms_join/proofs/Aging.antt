@@ -3,9 +3,9 @@ use Rattle.std.proofs.Common.{◌≡◌, ℕ, zero, suc, Bool, true, false, cond
 use Rattle.std.proofs.lemmas.Bool.{eqb-true, and_parts, or_right, false_from_ne_true}
 use Rattle.sms_join.specs.declared.key.Key.{Key}
 use Rattle.sms_join.specs.Arrivals.{Arrival, Texts, AllOf, has_text, has_piece, has_pieces, is_done, completed, open_pieces, remaining, OpenApart, IsOf}
-use Rattle.sms_join.specs.OpenTexts.{AgesOne}
+use Rattle.sms_join.specs.Arrivals.OpenTexts.{AgesOne}
 use Rattle.sms_join.proofs.Arrived.{has_pieces-same, has_pieces-more}
-use Rattle.sms_join.specs.Aging.{young, aged, is_old}
+use Rattle.sms_join.specs.Joiner.Aging.{young, aged, is_old}
 
 has_pieces-within : (past bs : List Arrival) (t n : ℕ) → ((i : ℕ) → has_piece past t i ≡ true → has_piece bs t i ≡ true)
     → has_pieces past t n ≡ true → has_pieces bs t n ≡ true

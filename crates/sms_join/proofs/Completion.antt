@@ -2,7 +2,7 @@
 use Rattle.std.proofs.Common.{◌≡◌, ℕ, zero, suc, ◌<◌, Bool, true, false, ◌||◌, eqb, List, [], ◌∷◌, ◌++◌, refl, sym, ap, ◌∙◌, subst, arith}
 use Rattle.std.proofs.lemmas.Bool.{eqb-true, or_right, false_from_ne_true}
 use Rattle.sms_join.specs.Arrivals.{Arrival, has_pieces, is_done, completed, is_listed}
-use Rattle.sms_join.specs.Completion.{StandsBefore, CameEarlier, CompletedAreWhole, CompleteInOrder}
+use Rattle.sms_join.specs.Arrivals.Completion.{StandsBefore, CameEarlier, CompletedAreWhole, CompleteInOrder}
 use Rattle.sms_join.proofs.Arrived.{is_done-other, listed_done}
 
 pub completed_are_whole : CompletedAreWhole

@@ -4,11 +4,11 @@ use Rattle.std.proofs.lemmas.Bool.{eqb-true, eq-eqb, eqb-false, ne_eqb, or_parts
 use Rattle.sms_join.specs.declared.key.Key.{Key}
 use Rattle.sms_join.specs.Key.{same_key, maximum_of}
 use Rattle.sms_join.specs.Piece.{Piece}
-use Rattle.sms_join.specs.Sets.{has, has_all, without, units_upto}
+use Rattle.sms_join.specs.Joiner.Sets.{has, has_all, without, units_upto}
 use Rattle.sms_join.specs.Joiner.{Joiner, is_among, is_repeat, is_whole, has_room, decided, answer, answered, offered, new_joiner}
-use Rattle.sms_join.specs.Aging.{is_old, young, aged}
-use Rattle.sms_join.specs.Acts.{Act, Brings, Ages, brought, acted_all}
-use Rattle.sms_join.specs.Counts.{count_of, IsInSet, AreInSets, WholeByCount}
+use Rattle.sms_join.specs.Joiner.Aging.{is_old, young, aged}
+use Rattle.sms_join.specs.Joiner.Acts.{Act, Brings, Ages, brought, acted_all}
+use Rattle.sms_join.specs.Joiner.Counts.{count_of, IsInSet, AreInSets, WholeByCount}
 use Rattle.sms_join.proofs.SameKeys.{same_key_refl, same_key_true}
 
 -- the pieces of the set have different sequences from 1 to n

@@ -9,7 +9,7 @@ use Rattle.sms_join.specs.declared.units.Units.TheVariants.{Gsm, Ucs2}
 use Rattle.sms_join.specs.declared.segment.Segment.{Segment}
 use Rattle.sms_join.specs.UnitsOfText.{numbers, alphabet_in, begins_pair}
 use Rattle.sms_join.specs.Segments.{AreNumbered}
-use Rattle.sms_join.specs.SegmentsValue.{RiseTo, part_of, pieces_at, segments_from, segments_at, start_at}
+use Rattle.sms_join.specs.Inside.SegmentsAt.{RiseTo, part_of, pieces_at, segments_from, segments_at, start_at}
 use Rattle.sms_join.proofs.CutPlaces.{PartedUpTo, IsEnd, end_after, one_piece_more, nothing_parted}
 
 -- ---- the loop

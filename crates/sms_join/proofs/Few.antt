@@ -3,8 +3,8 @@ use Rattle.std.proofs.Common.{◌≡◌, ℕ, zero, suc, ◌<◌, ◌≤◌, Boo
 use Rattle.std.specs.List.{filter, remove, slice_get}
 use Rattle.std.proofs.Math.ListN.{set}
 use Rattle.std.proofs.lemmas.List.{length-set}
-use Rattle.sms_join.specs.OpenSet.{SetValue}
-use Rattle.sms_join.specs.Slots.{At}
+use Rattle.sms_join.specs.Inside.OpenSet.{SetValue}
+use Rattle.sms_join.specs.Inside.Slots.{At}
 
 fewer_removed : {X : Type 0} (xs : List X) (i : ℕ) → length (remove xs i) ≤ length xs
 fewer_removed [] zero = omega arith

@@ -6,12 +6,12 @@ use Rattle.sms_join.specs.declared.units.Units.{Units}
 use Rattle.sms_join.specs.Key.{maximum_of}
 use Rattle.sms_join.specs.Piece.{Piece}
 use Rattle.sms_join.specs.Joiner.{Joiner, Answer, Repeat, Kept, Finished, TooManyOpen, is_repeat, is_whole, decided, answer, is_among}
-use Rattle.sms_join.specs.Same.{IsSame}
-use Rattle.sms_join.specs.OpenSet.{SetValue, AreOpen, is_in, has_set, with_piece}
-use Rattle.sms_join.specs.Finishing.{would_finish, is_finished, AnswerFinishes, SameIsEquivalence}
+use Rattle.sms_join.specs.Joiner.Same.{IsSame}
+use Rattle.sms_join.specs.Inside.OpenSet.{SetValue, AreOpen, is_in, has_set, with_piece}
+use Rattle.sms_join.specs.Joiner.Finishing.{would_finish, is_finished, AnswerFinishes, SameIsEquivalence}
 use Rattle.sms_join.proofs.Outcomes.{joiner_of, InPlace, finishes_alone, too_many}
-use Rattle.sms_join.specs.LastKeys.{LastKeysValue}
-use Rattle.sms_join.specs.Slots.{At}
+use Rattle.sms_join.specs.Inside.LastKeys.{LastKeysValue}
+use Rattle.sms_join.specs.Inside.Slots.{At}
 use Rattle.sms_join.proofs.Offers.{same_refl, Found, Knows, come, last, set_repeats, set_keeps, set_finishes}
 
 told : (repeat whole room : Bool) (units : List Units) → is_finished (decided repeat whole room units) ≡ (not repeat && whole)

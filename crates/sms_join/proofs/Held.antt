@@ -3,10 +3,10 @@ use Rattle.std.proofs.Common.{◌≡◌, ℕ, Bool, true, false, cond, not, ◌&
 use Rattle.std.proofs.lemmas.Bool.{eqb-true, eq-eqb, eqb-false, ne_eqb, and_parts, or_right, false_from_ne_true}
 use Rattle.sms_join.specs.declared.key.Key.{Key}
 use Rattle.sms_join.specs.Key.{same_key}
-use Rattle.sms_join.specs.Sets.{has, units_at, without}
+use Rattle.sms_join.specs.Joiner.Sets.{has, units_at, without}
 use Rattle.sms_join.specs.Joiner.{is_among}
 use Rattle.sms_join.specs.Arrivals.{Arrival, has_text, Texts, AllOf, has_piece, is_done, completed, open_pieces, is_listed}
-use Rattle.sms_join.specs.Joining.{is_clear}
+use Rattle.sms_join.specs.Arrivals.Joining.{is_clear}
 use Rattle.sms_join.proofs.SameKeys.{same_key_refl, same_key_true}
 use Rattle.sms_join.proofs.Arrived.{or_absorbs, listed_done, listed-of_take}
 

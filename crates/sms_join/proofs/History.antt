@@ -5,12 +5,12 @@ use Rattle.std.proofs.lemmas.List.{take-take}
 use Rattle.sms_join.specs.declared.key.Key.{Key}
 use Rattle.sms_join.specs.Key.{same_key}
 use Rattle.sms_join.specs.Piece.{Piece}
-use Rattle.sms_join.specs.Sets.{has, is_open, open_sets, opened_at, without, units_at, units_upto}
+use Rattle.sms_join.specs.Joiner.Sets.{has, is_open, open_sets, opened_at, without, units_at, units_upto}
 use Rattle.sms_join.specs.Joiner.{Joiner, Answer, Repeat, Kept, Finished, TooManyOpen, is_among, answer, answered, offered, new_joiner, decided, is_repeat, is_whole, has_room}
-use Rattle.sms_join.specs.Aging.{is_old, young, aged}
-use Rattle.sms_join.specs.Acts.{Act, Brings, Ages, acted_all}
-use Rattle.sms_join.specs.History.{history, told, since, kept_since, after_finish, finished_keys, offered_keys, open_among, comes_again, is_last, finds_room, answer_told, OffersTellAnswers, FinishesByHistory}
-use Rattle.sms_join.specs.Finishing.{is_finished}
+use Rattle.sms_join.specs.Joiner.Aging.{is_old, young, aged}
+use Rattle.sms_join.specs.Joiner.Acts.{Act, Brings, Ages, acted_all}
+use Rattle.sms_join.specs.Joiner.History.{history, told, since, kept_since, after_finish, finished_keys, offered_keys, open_among, comes_again, is_last, finds_room, answer_told, OffersTellAnswers, FinishesByHistory}
+use Rattle.sms_join.specs.Joiner.Finishing.{is_finished}
 use Rattle.sms_join.proofs.SameKeys.{same_key_refl, same_key_true}
 use Rattle.sms_join.proofs.Sets.{has_all-same}
 use Rattle.sms_join.proofs.Same.{open-without, open-without_same, sets-without}

@@ -4,13 +4,13 @@ use Rattle.std.proofs.lemmas.Bool.{eqb-true, eq-eqb, and_parts, or_right, false_
 use Rattle.std.proofs.lemmas.List.{take-map, take-take}
 use Rattle.sms_join.specs.declared.key.Key.{Key}
 use Rattle.sms_join.specs.Piece.{Piece}
-use Rattle.sms_join.specs.Sets.{has, has_all, units_at, units_upto}
+use Rattle.sms_join.specs.Joiner.Sets.{has, has_all, units_at, units_upto}
 use Rattle.sms_join.specs.Joiner.{Joiner, Repeat, Kept, Finished, TooManyOpen, is_among, answer, answered, offered, decided, is_repeat, is_whole, has_room, new_joiner}
-use Rattle.sms_join.specs.Aging.{is_old}
-use Rattle.sms_join.specs.Acts.{Act, Brings, Ages}
-use Rattle.sms_join.specs.Pieces.{finished_now}
+use Rattle.sms_join.specs.Joiner.Aging.{is_old}
+use Rattle.sms_join.specs.Joiner.Acts.{Act, Brings, Ages}
+use Rattle.sms_join.specs.Arrivals.Pieces.{finished_now}
 use Rattle.sms_join.specs.Arrivals.{Arrival, Texts, has_piece, has_pieces, is_done, completed, open_pieces, is_listed, IsOf, AllOf, units_of, whole_text}
-use Rattle.sms_join.specs.Joining.{is_clear, is_recent, HoldsOpen, Delivers, Whole, Nothing, JoinsOne, joined, counting, delivered, AllInOrder, JoinsInOrder}
+use Rattle.sms_join.specs.Arrivals.Joining.{is_clear, is_recent, HoldsOpen, Delivers, Whole, Nothing, JoinsOne, joined, counting, delivered, AllInOrder, JoinsInOrder}
 use Rattle.sms_join.proofs.SameKeys.{same_key_refl}
 use Rattle.sms_join.proofs.Arrived.{has_piece-of_all, is_done-other, is_done-repeat, open_pieces-same, is_among-listed}
 use Rattle.sms_join.proofs.Aging.{all_remaining, ages_one}

@@ -4,8 +4,8 @@ use Rattle.std.proofs.lemmas.Bool.{eqb-true, and_parts, or_parts}
 use Rattle.sms_join.specs.declared.key.Key.{Key}
 use Rattle.sms_join.specs.Key.{same_key}
 use Rattle.sms_join.specs.Piece.{Piece}
-use Rattle.sms_join.specs.Sets.{has, is_open, opened_at, open_sets, units_at, without}
-use Rattle.sms_join.specs.Same.{IsSame}
+use Rattle.sms_join.specs.Joiner.Sets.{has, is_open, opened_at, open_sets, units_at, without}
+use Rattle.sms_join.specs.Joiner.Same.{IsSame}
 use Rattle.sms_join.proofs.SameKeys.{same_key_refl, same_key_true}
 use Rattle.sms_join.proofs.Same.{sets-without}
 use Rattle.sms_join.proofs.SetPieces.{has-append, open-append, units-append, opened-append, without-append}

@@ -7,7 +7,7 @@ use Rattle.std.proofs.lemmas.Option.{get_or_from_slice_get}
 use Rattle.std.specs.List.{remove, position}
 use Rattle.std.specs.Str.{chars}
 use Rattle.std.specs.String.{string_bytes}
-use Rattle.sms_field.specs.AddressValue.{AddressValue}
+use Rattle.sms_field.specs.Address.Value.{AddressValue}
 use Rattle.sms_tpdu.specs.declared.user_data.concat.Concat.{Concat}
 use Rattle.sms_join.specs.declared.key.Key.{Key}
 use Rattle.sms_join.specs.declared.units.Units.{Units}
@@ -16,15 +16,15 @@ use Rattle.sms_join.specs.declared.offer.OfferFault.TheVariants as faults
 use Rattle.sms_join.specs.Key.{same_key, maximum_of}
 use Rattle.sms_join.specs.Piece.{Piece, piece_of, key_of, size_of}
 use Rattle.sms_tpdu.specs.UserData.ConcatenationFound.{IsPlace}
-use Rattle.sms_join.specs.Sets.{is_open}
+use Rattle.sms_join.specs.Joiner.Sets.{is_open}
 use Rattle.sms_join.specs.Joiner.{Joiner, Answer, Repeat, Kept, Finished, TooManyOpen, is_among, is_repeat, answer, offered}
-use Rattle.sms_join.specs.Same.{IsSame}
-use Rattle.sms_join.specs.LastKeys.{LastKeysValue}
-use Rattle.sms_join.specs.JoinerValue.{JoinerValue}
-use Rattle.sms_join.specs.OpenSet.{SetValue, IsOpen, AreOpen, is_in, with_piece}
-use Rattle.sms_join.specs.Offering.{is_first, SaysAnswer, Says}
-use Rattle.sms_join.specs.Slots.{At, HasPlace}
-use Rattle.sms_join.specs.Finishing.{lacks_only}
+use Rattle.sms_join.specs.Joiner.Same.{IsSame}
+use Rattle.sms_join.specs.Inside.LastKeys.{LastKeysValue}
+use Rattle.sms_join.specs.Joiner.Value.{JoinerValue}
+use Rattle.sms_join.specs.Inside.OpenSet.{SetValue, IsOpen, AreOpen, is_in, with_piece}
+use Rattle.sms_join.specs.Joiner.Offering.{is_first, SaysAnswer, Says}
+use Rattle.sms_join.specs.Inside.Slots.{At, HasPlace}
+use Rattle.sms_join.specs.Joiner.Finishing.{lacks_only}
 use Rattle.sms_join.specs.Reading.{text_of_segments}
 use Rattle.sms_join.proofs.SameKeys.{same_key_true}
 use Rattle.sms_join.proofs.OneSet.{with_piece_set, with_piece_length}

@@ -7,10 +7,10 @@ use Rattle.sms_join.specs.declared.units.Units.{Units}
 use Rattle.sms_join.specs.declared.units.Units.TheVariants.{Gsm}
 use Rattle.sms_join.specs.Key.{same_key, maximum_of}
 use Rattle.sms_join.specs.Piece.{Piece}
-use Rattle.sms_join.specs.Sets.{has, has_all, is_open, opened_at, open_sets, units_at, units_upto, without}
+use Rattle.sms_join.specs.Joiner.Sets.{has, has_all, is_open, opened_at, open_sets, units_at, units_upto, without}
 use Rattle.sms_join.proofs.Counts.{AreDistinct}
-use Rattle.sms_join.specs.Same.{IsSame}
-use Rattle.sms_join.specs.OpenSet.{is_in, SetValue, Rises, IsSet, AreOpen, pieces_with, pieces_in, all_pieces, has_set, place_of, with_piece}
+use Rattle.sms_join.specs.Joiner.Same.{IsSame}
+use Rattle.sms_join.specs.Inside.OpenSet.{is_in, SetValue, Rises, IsSet, AreOpen, pieces_with, pieces_in, all_pieces, has_set, place_of, with_piece}
 use Rattle.sms_join.proofs.SameKeys.{same_key_refl}
 use Rattle.sms_join.proofs.Pieces.{units_upto_is}
 use Rattle.sms_join.proofs.SetPieces.{has-append, open-append, opened-append, without-append, all-append, closed_has, closed_without, others_closed, own_has, own_open, own_opened, own_without, set_has, set_units}

@@ -5,11 +5,11 @@ use Rattle.sms_join.specs.declared.key.Key.{Key}
 use Rattle.sms_join.specs.declared.units.Units.{Units}
 use Rattle.sms_join.specs.Key.{same_key, maximum_of}
 use Rattle.sms_join.specs.Piece.{Piece}
-use Rattle.sms_join.specs.Sets.{has, has_all, is_open, units_upto, without}
+use Rattle.sms_join.specs.Joiner.Sets.{has, has_all, is_open, units_upto, without}
 use Rattle.sms_join.specs.Joiner.{Joiner, Repeat, Kept, Finished, TooManyOpen, is_among, is_repeat, is_whole, has_room, decided, answer, answered, offered}
-use Rattle.sms_join.specs.Counts.{count_of}
-use Rattle.sms_join.specs.Same.{IsSame}
-use Rattle.sms_join.specs.OpenSet.{is_in, SetValue, IsOpen, AreOpen, all_pieces, has_set, with_piece}
+use Rattle.sms_join.specs.Joiner.Counts.{count_of}
+use Rattle.sms_join.specs.Joiner.Same.{IsSame}
+use Rattle.sms_join.specs.Inside.OpenSet.{is_in, SetValue, IsOpen, AreOpen, all_pieces, has_set, with_piece}
 use Rattle.sms_join.proofs.SameKeys.{same_key_refl}
 use Rattle.sms_join.proofs.Sets.{has_all-same, units_upto-same}
 use Rattle.sms_join.proofs.Counts.{AreDistinct, whole_if_many}

@@ -7,11 +7,11 @@ use Rattle.sms_join.specs.declared.units.Units.{Units}
 use Rattle.sms_join.specs.declared.units.Units.TheVariants.{Gsm}
 use Rattle.sms_join.specs.Key.{same_key}
 use Rattle.sms_join.specs.Piece.{Piece}
-use Rattle.sms_join.specs.Sets.{has, has_all, units_at, units_upto, without, is_open}
+use Rattle.sms_join.specs.Joiner.Sets.{has, has_all, units_at, units_upto, without, is_open}
 use Rattle.sms_join.specs.Joiner.{Joiner, Repeat, Finished, TooManyOpen, is_among, answer, answered, offered, decided, is_repeat, is_whole, has_room}
-use Rattle.sms_join.specs.Aging.{is_old, young, aged}
-use Rattle.sms_join.specs.Acts.{Act, Brings, Ages, brought, acted, acted_all}
-use Rattle.sms_join.specs.Pieces.{IsPiece, ArePieces, finished_now, finishes, others_finished, NoneRefused, NoneDropped, FinishesOnce, FinishesText}
+use Rattle.sms_join.specs.Joiner.Aging.{is_old, young, aged}
+use Rattle.sms_join.specs.Joiner.Acts.{Act, Brings, Ages, brought, acted, acted_all}
+use Rattle.sms_join.specs.Arrivals.Pieces.{IsPiece, ArePieces, finished_now, finishes, others_finished, NoneRefused, NoneDropped, FinishesOnce, FinishesText}
 use Rattle.sms_join.specs.Reading.{text_of_segments}
 use Rattle.sms_join.proofs.ReadingLaws.{cut_read}
 use Rattle.sms_join.proofs.SameKeys.{same_key_refl, same_key_true}

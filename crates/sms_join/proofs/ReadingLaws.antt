@@ -11,7 +11,7 @@ use Rattle.std.specs.Char.Escape.{encode_utf16}
 use Rattle.std.specs.Char.Utf16.{utf16_chars, utf16_lossy_chars, surrogate_pair_char, lone_unit_char}
 use Rattle.sms_text.specs.SeptetsOfText.{septets_of_text}
 use Rattle.sms_text.specs.TextOfSeptets.{text_of_septets}
-use Rattle.sms_text.specs.TextLaws.{text_again}
+use Rattle.sms_text.specs.Inside.TextLaws.{text_again}
 use Rattle.sms_tpdu.specs.declared.user_data.concat.Width.{Width}
 use Rattle.sms_join.specs.declared.units.Units.{Units}
 use Rattle.sms_join.specs.declared.units.Units.TheVariants.{Gsm, Ucs2}

@@ -3,10 +3,10 @@ use Rattle.std.proofs.Common.{◌≡◌, ℕ, suc, Bool, true, false, cond, ◌&
 use Rattle.std.proofs.lemmas.Bool.{eqb-true, eq-eqb, or_right, false_from_ne_true}
 use Rattle.sms_join.specs.declared.key.Key.{Key}
 use Rattle.sms_join.specs.Key.{same_key}
-use Rattle.sms_join.specs.Sets.{is_open, open_sets}
+use Rattle.sms_join.specs.Joiner.Sets.{is_open, open_sets}
 use Rattle.sms_join.specs.Arrivals.{Arrival, Texts, AllOf, has_piece, is_done, open_pieces, IsOf}
-use Rattle.sms_join.specs.Joining.{is_clear}
-use Rattle.sms_join.specs.OpenTexts.{OpenSetsAreOpenTexts, StayApart}
+use Rattle.sms_join.specs.Arrivals.Joining.{is_clear}
+use Rattle.sms_join.specs.Arrivals.OpenTexts.{OpenSetsAreOpenTexts, StayApart}
 use Rattle.sms_join.proofs.SameKeys.{same_key_refl, same_key_true}
 use Rattle.sms_join.proofs.Arrived.{has_pieces-more}
 use Rattle.sms_join.proofs.Held.{clear_text}

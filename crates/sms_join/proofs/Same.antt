@@ -4,9 +4,9 @@ use Rattle.std.proofs.lemmas.Bool.{or_parts, false_from_ne_true}
 use Rattle.sms_join.specs.declared.key.Key.{Key}
 use Rattle.sms_join.specs.Key.{same_key}
 use Rattle.sms_join.specs.Piece.{Piece}
-use Rattle.sms_join.specs.Sets.{has, has_all, units_at, units_upto, is_open, opened_at, open_sets, without}
+use Rattle.sms_join.specs.Joiner.Sets.{has, has_all, units_at, units_upto, is_open, opened_at, open_sets, without}
 use Rattle.sms_join.specs.Joiner.{Joiner, Answer, Repeat, Kept, Finished, TooManyOpen, answer, answered, offered, decided, is_repeat, is_whole, has_room}
-use Rattle.sms_join.specs.Same.{IsSame, AnswersAlike}
+use Rattle.sms_join.specs.Joiner.Same.{IsSame, AnswersAlike}
 use Rattle.sms_join.proofs.SameKeys.{same_key_refl, same_key_true}
 use Rattle.sms_join.proofs.Sets.{has-without, has-without_same, units_at-without, has_all-same, units_upto-same}
 

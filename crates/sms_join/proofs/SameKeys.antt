@@ -3,17 +3,17 @@ use Rattle.std.proofs.Common.{◌≡◌, ℕ, true, ◌&&◌, eqb, List, refl}
 use Rattle.std.proofs.lemmas.Bool.{eqb-true, eq-eqb, and_parts, and_from}
 use Rattle.std.proofs.lemmas.Slice.Eq.{bytes_eq-Decides}
 use Rattle.std.specs.Str.{bytes_eq}
-use Rattle.sms_field.specs.AddressValue.{AddressValue}
+use Rattle.sms_field.specs.Address.Value.{AddressValue}
 use Rattle.sms_field.specs.declared.symbols.Symbols.{Symbols}
 use Rattle.sms_field.specs.declared.symbols.Symbols.TheVariants.{Digits, Name}
-use Rattle.sms_field.specs.SameAddress.{same_address}
-use Rattle.sms_field.specs.SameAddressLaws.{same_address_refl, same_address_true}
+use Rattle.sms_field.specs.Address.Same.{same_address}
+use Rattle.sms_field.specs.Inside.SameAddressLaws.{same_address_refl, same_address_true}
 use Rattle.sms_tpdu.specs.declared.user_data.concat.Width.{Width}
 use Rattle.sms_tpdu.specs.declared.user_data.concat.Width.TheVariants.{Eight, Sixteen}
 use Rattle.sms_join.specs.declared.key.Key.{Key}
 use Rattle.sms_join.specs.declared.key.Key.TheVariants.{Single, Segmented}
 use Rattle.sms_join.specs.Key.{same_width, same_key}
-use Rattle.sms_join.specs.Slots.{key_eq}
+use Rattle.sms_join.specs.Inside.Slots.{key_eq}
 
 bytes_refl : (xs : List ℕ) → bytes_eq xs xs ≡ true
 bytes_refl xs = (bytes_eq-Decides xs xs).1 refl

@@ -5,7 +5,7 @@ use Rattle.std.proofs.lemmas.Bool.{cases_lt}
 use Rattle.std.proofs.lemmas.Bool.Decides.{eqb_tells}
 use Rattle.std.proofs.lemmas.List.Elements.{All-from_recursion}
 use Rattle.std.specs.List.{flat_map, AllByRecursion, range_with_len}
-use Rattle.sms_text.specs.Utf16Laws.{length-octets_high_first}
+use Rattle.sms_text.specs.Inside.Utf16Laws.{length-octets_high_first}
 use Rattle.sms_tpdu.specs.declared.user_data.concat.Width.{Width}
 use Rattle.sms_tpdu.specs.declared.user_data.concat.Width.TheVariants.{Eight, Sixteen}
 use Rattle.sms_tpdu.specs.UserData.Elements.{element_octets}
@@ -17,7 +17,7 @@ use Rattle.sms_join.specs.declared.segment.Segment.{Segment}
 use Rattle.sms_join.specs.UnitsOfText.{Alphabet, Default, Wide, alphabet_of, units_of_character, units_of_text, units_in, numbers, alphabet_in}
 use Rattle.sms_join.specs.Cut.{room_alone, room_beside, IsCut}
 use Rattle.sms_join.specs.Segments.{AreNumbered}
-use Rattle.sms_join.specs.SegmentUser.{IsSendable, HasRange, coding_of, body_of, header_of}
+use Rattle.sms_join.specs.Segments.User.{IsSendable, HasRange, coding_of, body_of, header_of}
 use Rattle.sms_join.proofs.CutPlaces.{alphabet-in, numbers-in}
 
 -- there is room for the units of a piece, as many as given

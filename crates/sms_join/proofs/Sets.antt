@@ -4,7 +4,7 @@ use Rattle.std.proofs.lemmas.Bool.{eqb-true, eqb-false, and_parts, or_parts}
 use Rattle.sms_join.specs.declared.key.Key.{Key}
 use Rattle.sms_join.specs.Key.{same_key}
 use Rattle.sms_join.specs.Piece.{Piece}
-use Rattle.sms_join.specs.Sets.{has, has_all, units_at, units_upto, without}
+use Rattle.sms_join.specs.Joiner.Sets.{has, has_all, units_at, units_upto, without}
 use Rattle.sms_join.specs.Joiner.{is_among}
 use Rattle.sms_join.proofs.SameKeys.{same_key_true}
 

@@ -9,9 +9,9 @@ use Rattle.indexmap.specs.IndexMap.{set_value_at, insert_entry}
 use Rattle.sms_join.specs.declared.key.Key.{Key}
 use Rattle.sms_join.specs.declared.units.Units.{Units}
 use Rattle.sms_join.specs.Key.{same_key, maximum_of}
-use Rattle.sms_join.specs.OpenSet.{SetValue, has_set, is_in, place_of, with_piece}
-use Rattle.sms_join.specs.Finishing.{lacks_only}
-use Rattle.sms_join.specs.Slots.{SlotValue, At, HasPlace, AreSlots, key_eq, filled, filled_from, filled_with, first_places, set_of, sets_of}
+use Rattle.sms_join.specs.Inside.OpenSet.{SetValue, has_set, is_in, place_of, with_piece}
+use Rattle.sms_join.specs.Joiner.Finishing.{lacks_only}
+use Rattle.sms_join.specs.Inside.Slots.{SlotValue, At, HasPlace, AreSlots, key_eq, filled, filled_from, filled_with, first_places, set_of, sets_of}
 use Rattle.sms_join.proofs.SameKeys.{key_eq_is}
 use Rattle.sms_join.proofs.Same.{flip}
 

@@ -2,12 +2,12 @@
 use Rattle.std.proofs.Common.{◌≡◌, ℕ, ◌≤◌, Bool, true, false, ltb, ◌∷◌, refl, sym, ap, ◌∙◌, subst}
 use Rattle.std.proofs.lemmas.Bool.{or_parts, false_from_ne_true, ltb-false}
 use Rattle.sms_join.specs.Piece.{Piece}
-use Rattle.sms_join.specs.Sets.{is_open, open_sets, units_upto}
+use Rattle.sms_join.specs.Joiner.Sets.{is_open, open_sets, units_upto}
 use Rattle.sms_join.specs.Joiner.{Joiner, Repeat, TooManyOpen, answer, decided, is_repeat, is_whole, has_room}
 use Rattle.sms_join.specs.Arrivals.{has_piece, is_done, open_pieces}
 use Rattle.sms_join.proofs.Arrived.{has_piece-of_all, listed_done}
 use Rattle.sms_join.proofs.Joining.{repeated, new_piece}
-use Rattle.sms_join.specs.OpenTexts.{IsFresh, NewIsFresh, TurnsAway}
+use Rattle.sms_join.specs.Arrivals.OpenTexts.{IsFresh, NewIsFresh, TurnsAway}
 use Rattle.sms_join.proofs.Rooms.{text_is_open, open_sets_count}
 
 pub no_repeat : NewIsFresh

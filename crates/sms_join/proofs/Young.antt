@@ -4,10 +4,10 @@ use Rattle.std.proofs.lemmas.Bool.{false_from_ne_true, ltb-true}
 use Rattle.sms_join.specs.declared.key.Key.{Key}
 use Rattle.sms_join.specs.Key.{same_key}
 use Rattle.sms_join.specs.Piece.{Piece}
-use Rattle.sms_join.specs.Sets.{has, units_at, units_upto, is_open, opened_at, open_sets, without}
+use Rattle.sms_join.specs.Joiner.Sets.{has, units_at, units_upto, is_open, opened_at, open_sets, without}
 use Rattle.sms_join.specs.Joiner.{Joiner, is_repeat, is_whole, has_room, decided, answer, answered, offered}
-use Rattle.sms_join.specs.Same.{IsSame}
-use Rattle.sms_join.specs.Aging.{is_old, young, aged, AgesAlike, SetsStayFew}
+use Rattle.sms_join.specs.Joiner.Same.{IsSame}
+use Rattle.sms_join.specs.Joiner.Aging.{is_old, young, aged, AgesAlike, SetsStayFew}
 use Rattle.sms_join.proofs.SameKeys.{same_key_refl, same_key_true}
 use Rattle.sms_join.proofs.Same.{open-without, open-without_same, opened_at-closed, sets-without}
 

@@ -1,5 +1,9 @@
 -- Pieces of texts that arrive at one joiner, each with the text that it is of: which texts have
 -- arrived whole, and which in part. Texts are numbers. All lists have the newest entry first.
+pub mod Completion
+pub mod Joining
+pub mod OpenTexts
+pub mod Pieces
 use Rattle.std.specs.Prelude.{◌≡◌, ℕ, zero, suc, ◌<◌, ◌≤◌, Bool, true, false, not, ◌&&◌, ◌||◌, if◌then◌else◌, ◌==◌, List, [], ◌∷◌, ◌++◌}
 use Rattle.sms_join.specs.declared.key.Key.{Key}
 use Rattle.sms_join.specs.declared.units.Units.{Units}

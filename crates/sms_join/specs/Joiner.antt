@@ -1,11 +1,20 @@
 -- What a joiner answers to a piece that is offered, and what it holds then. Both its lists have the
 -- newest entry first.
+pub mod Acts
+pub mod Aging
+pub mod Counts
+pub mod Finishing
+pub mod History
+pub mod Offering
+pub mod Same
+pub mod Sets
+pub mod Value
 use Rattle.std.specs.Prelude.{ℕ, Bool, true, false, ◌||◌, nat_lt, List, [], ◌∷◌, take}
 use Rattle.sms_join.specs.declared.key.Key.{Key}
 use Rattle.sms_join.specs.declared.units.Units.{Units}
 use Rattle.sms_join.specs.Key.{same_key}
 use Rattle.sms_join.specs.Piece.{Piece}
-use Rattle.sms_join.specs.Sets.{has, has_all, is_open, open_sets, units_upto, without}
+use Rattle.sms_join.specs.Joiner.Sets.{has, has_all, is_open, open_sets, units_upto, without}
 
 -- The pieces of all open sets, and the keys of the sets that finished last.
 pub record Joiner : Type 0 where

@@ -1,7 +1,7 @@
 -- When two pieces are of one set (3GPP TS 23.040, 9.2.3.24.1 and 9.2.3.24.8).
 use Rattle.std.specs.Prelude.{ℕ, Bool, true, false, ◌&&◌, ◌==◌}
 use Rattle.std.specs.Str.{bytes_eq}
-use Rattle.sms_field.specs.SameAddress.{same_address}
+use Rattle.sms_field.specs.Address.Same.{same_address}
 use Rattle.sms_tpdu.specs.declared.user_data.concat.Width.{Width}
 use Rattle.sms_tpdu.specs.declared.user_data.concat.Width.TheVariants.{Eight, Sixteen}
 use Rattle.sms_join.specs.declared.key.Key.{Key}

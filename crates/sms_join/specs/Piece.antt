@@ -1,6 +1,6 @@
 -- What is offered to a joiner: one piece of a message (3GPP TS 23.040, 9.2.3.24.1 and 9.2.3.24.8).
 use Rattle.std.specs.Prelude.{ℕ, List, Option, None, Some}
-use Rattle.sms_field.specs.AddressValue.{AddressValue}
+use Rattle.sms_field.specs.Address.Value.{AddressValue}
 use Rattle.sms_tpdu.specs.declared.user_data.concat.Concat.{Concat}
 use Rattle.sms_join.specs.declared.key.Key.{Key}
 use Rattle.sms_join.specs.declared.key.Key.TheVariants.{Single, Segmented}

@@ -7,8 +7,8 @@ ghost use Rattle.sms_join.specs.declared.cut.SplitFault.TheVariants.{TooManySegm
 ghost use Rattle.sms_join.specs.UnitsOfText.{IsText, units_of_text, numbers};
 ghost use Rattle.sms_join.specs.Cut.{IsParted, IsCut};
 ghost use Rattle.sms_join.specs.Segments.{AreSegments};
-ghost use Rattle.sms_join.specs.SegmentsValue.{RiseTo, pieces_at};
-ghost use Rattle.sms_join.specs.SegmentUser.{IsSendable};
+ghost use Rattle.sms_join.specs.Inside.SegmentsAt.{RiseTo, pieces_at};
+ghost use Rattle.sms_join.specs.Segments.User.{IsSendable};
 
 use crate::segment::Segment;
 use crate::segments::Segments;

@@ -2,15 +2,15 @@
 
 ghost use Rattle.std.specs.Prelude.{◌≡◌, ℕ, ◌<◌, ◌≤◌, false, IfOk, OnOk, OnErr};
 ghost use Rattle.sms_join.specs.declared.units.Units.{Units as TheUnits};
-ghost use Rattle.sms_join.specs.Aging.{aged};
-ghost use Rattle.sms_join.specs.Finishing.{would_finish};
+ghost use Rattle.sms_join.specs.Joiner.Aging.{aged};
+ghost use Rattle.sms_join.specs.Joiner.Finishing.{would_finish};
 ghost use Rattle.sms_join.specs.Piece.{piece_of, key_of, sequence_of, size_of};
 ghost use Rattle.sms_tpdu.specs.UserData.ConcatenationFound.{IsPlace};
-ghost use Rattle.sms_join.specs.Sets.{is_open, open_sets};
+ghost use Rattle.sms_join.specs.Joiner.Sets.{is_open, open_sets};
 ghost use Rattle.sms_join.specs.Joiner.{new_joiner, is_among, offered};
-ghost use Rattle.sms_join.specs.JoinerValue.{SameLimits};
-ghost use Rattle.sms_join.specs.Same.{IsSame};
-ghost use Rattle.sms_join.specs.Offering.{Says};
+ghost use Rattle.sms_join.specs.Joiner.Value.{SameLimits};
+ghost use Rattle.sms_join.specs.Joiner.Same.{IsSame};
+ghost use Rattle.sms_join.specs.Joiner.Offering.{Says};
 
 use crate::key::Key;
 use crate::last_keys::LastKeys;
@@ -37,8 +37,8 @@ pub struct Joiner {
 
 impl Model for Joiner {
     ghost use Rattle.std.specs.Prelude.{◌≤◌, length};
-    ghost use Rattle.sms_join.specs.JoinerValue.{JoinerValue};
-    ghost use Rattle.sms_join.specs.OpenSet.{all_pieces, AreOpen};
+    ghost use Rattle.sms_join.specs.Joiner.Value.{JoinerValue};
+    ghost use Rattle.sms_join.specs.Inside.OpenSet.{all_pieces, AreOpen};
 
     ghost Value = { JoinerValue };
 

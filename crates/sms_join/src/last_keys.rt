@@ -22,7 +22,7 @@ pub(crate) struct LastKeys {
 
 impl Model for LastKeys {
     ghost use Rattle.std.specs.Prelude.{◌<◌, reverse};
-    ghost use Rattle.sms_join.specs.LastKeys.{LastKeysValue};
+    ghost use Rattle.sms_join.specs.Inside.LastKeys.{LastKeysValue};
 
     ghost Value = { LastKeysValue };
 

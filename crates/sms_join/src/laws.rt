@@ -1,17 +1,17 @@
 //! What holds of every joiner, whatever comes, and of every cut of a text. Each function is empty:
 //! its contract is the law.
 
-ghost use Rattle.sms_join.specs.Aging.{AgesAlike, SetsStayFew};
-ghost use Rattle.sms_join.specs.Completion.{CompletedAreWhole, CompleteInOrder};
-ghost use Rattle.sms_join.specs.Counts.{WholeByCount};
+ghost use Rattle.sms_join.specs.Joiner.Aging.{AgesAlike, SetsStayFew};
+ghost use Rattle.sms_join.specs.Arrivals.Completion.{CompletedAreWhole, CompleteInOrder};
+ghost use Rattle.sms_join.specs.Joiner.Counts.{WholeByCount};
 ghost use Rattle.sms_join.specs.Cut.{HasOneCut};
-ghost use Rattle.sms_join.specs.Finishing.{AnswerFinishes, SameIsEquivalence};
-ghost use Rattle.sms_join.specs.History.{FinishesByHistory, OffersTellAnswers};
-ghost use Rattle.sms_join.specs.Joining.{JoinsInOrder, JoinsOne};
-ghost use Rattle.sms_join.specs.OpenTexts.{AgesOne, NewIsFresh, OpenSetsAreOpenTexts, StayApart, TurnsAway};
-ghost use Rattle.sms_join.specs.Pieces.{FinishesOnce, FinishesText};
+ghost use Rattle.sms_join.specs.Joiner.Finishing.{AnswerFinishes, SameIsEquivalence};
+ghost use Rattle.sms_join.specs.Joiner.History.{FinishesByHistory, OffersTellAnswers};
+ghost use Rattle.sms_join.specs.Arrivals.Joining.{JoinsInOrder, JoinsOne};
+ghost use Rattle.sms_join.specs.Arrivals.OpenTexts.{AgesOne, NewIsFresh, OpenSetsAreOpenTexts, StayApart, TurnsAway};
+ghost use Rattle.sms_join.specs.Arrivals.Pieces.{FinishesOnce, FinishesText};
 ghost use Rattle.sms_join.specs.Reading.{CutIsReadAsText};
-ghost use Rattle.sms_join.specs.Same.{AnswersAlike};
+ghost use Rattle.sms_join.specs.Joiner.Same.{AnswersAlike};
 
 /// Where only the pieces of a message are offered under its key, which is at first neither open nor
 /// remembered, none is refused or dropped by age, and fewer other keys finish after it than are

@@ -6,12 +6,12 @@ ghost use Rattle.std.specs.List.{filter, remove};
 ghost use Rattle.std.specs.Str.{chars};
 ghost use Rattle.std.specs.String.{string_bytes};
 ghost use Rattle.indexmap.specs.IndexMap.{keys};
-ghost use Rattle.sms_join.specs.Finishing.{lacks_only};
+ghost use Rattle.sms_join.specs.Joiner.Finishing.{lacks_only};
 ghost use Rattle.sms_join.specs.Key.{same_key, maximum_of};
-ghost use Rattle.sms_join.specs.OpenSet.{has_set, is_in, with_piece};
+ghost use Rattle.sms_join.specs.Inside.OpenSet.{has_set, is_in, with_piece};
 ghost use Rattle.sms_join.specs.Piece.{key_of};
 ghost use Rattle.sms_join.specs.Reading.{text_of_segments};
-ghost use Rattle.sms_join.specs.Slots.{At, HasPlace};
+ghost use Rattle.sms_join.specs.Inside.Slots.{At, HasPlace};
 
 use crate::key::Key;
 use crate::slot::Slot;
@@ -30,8 +30,8 @@ pub(crate) struct OpenSets {
 
 impl Model for OpenSets {
     ghost use Rattle.std.specs.Prelude.{List};
-    ghost use Rattle.sms_join.specs.OpenSet.{SetValue};
-    ghost use Rattle.sms_join.specs.Slots.{AreSlots, sets_of};
+    ghost use Rattle.sms_join.specs.Inside.OpenSet.{SetValue};
+    ghost use Rattle.sms_join.specs.Inside.Slots.{AreSlots, sets_of};
 
     ghost Value = { List SetValue };
 

@@ -7,8 +7,8 @@ ghost use Rattle.sms_field.specs.Coding.{alphabet_at};
 ghost use Rattle.sms_tpdu.specs.UserData.{FitsAlphabet, SpellsUserData, header_octets};
 ghost use Rattle.sms_tpdu.specs.UserData.Lent.{place_header, IsReferenceInRange};
 ghost use Rattle.sms_tpdu.specs.UserData.Concatenation.{IsInOrder, IsConcatOf};
-ghost use Rattle.sms_join.specs.SegmentUser.{IsSendable, HasRange, coding_of, dcs_of, body_of, header_of, user_of, TellsPlace};
-ghost use Rattle.sms_join.specs.SegmentsValue.{seen_units, AreLent};
+ghost use Rattle.sms_join.specs.Segments.User.{IsSendable, HasRange, coding_of, dcs_of, body_of, header_of, user_of, TellsPlace};
+ghost use Rattle.sms_join.specs.Segments.Value.{seen_units, AreLent};
 
 use crate::units::Units;
 use sms_text::octets_of_units;
@@ -52,7 +52,7 @@ pub struct SegmentView<'a> {
 
 impl<'a> Model for SegmentView<'a> {
     ghost use Rattle.sms_join.specs.declared.segment.Segment.{Segment};
-    ghost use Rattle.sms_join.specs.SegmentsValue.{seen_units, AreLent};
+    ghost use Rattle.sms_join.specs.Segments.Value.{seen_units, AreLent};
 
     ghost Value = { Segment };
 

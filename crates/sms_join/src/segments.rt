@@ -1,7 +1,7 @@
 //! The segments of a text.
 
 ghost use Rattle.std.specs.Prelude.{◌≡◌, ◌<◌, ◌≤◌, ◌↔◌, [], IfOk, IfSome, IsTrue, length, slice_get, slice_index_or};
-ghost use Rattle.sms_join.specs.SegmentsValue.{AreEnds, segments_at, start_at};
+ghost use Rattle.sms_join.specs.Inside.SegmentsAt.{AreEnds, segments_at, start_at};
 
 use crate::segment::{Segment, SegmentView};
 use crate::units::Units;
@@ -20,7 +20,7 @@ pub struct Segments {
 impl Model for Segments {
     ghost use Rattle.std.specs.Prelude.{List};
     ghost use Rattle.sms_join.specs.declared.segment.Segment.{Segment};
-    ghost use Rattle.sms_join.specs.SegmentsValue.{AreEnds, segments_at};
+    ghost use Rattle.sms_join.specs.Inside.SegmentsAt.{AreEnds, segments_at};
 
     ghost Value = { List Segment };
 

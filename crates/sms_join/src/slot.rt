@@ -4,9 +4,9 @@ ghost use Rattle.std.specs.Prelude.{◌≡◌, suc, ◌-◌, ◌<◌, ◌≤◌,
 ghost use Rattle.std.proofs.Math.ListN.{set, replicate};
 ghost use Rattle.std.specs.Str.{chars};
 ghost use Rattle.std.specs.String.{string_bytes};
-ghost use Rattle.sms_join.specs.OpenSet.{is_in};
+ghost use Rattle.sms_join.specs.Inside.OpenSet.{is_in};
 ghost use Rattle.sms_join.specs.Reading.{text_of_segments};
-ghost use Rattle.sms_join.specs.Slots.{filled, filled_from, filled_with, first_places};
+ghost use Rattle.sms_join.specs.Inside.Slots.{filled, filled_from, filled_with, first_places};
 
 use crate::reading::{lend_with, read_lent};
 use crate::units::Units;
@@ -28,7 +28,7 @@ pub(crate) struct Slot {
 
 impl Model for Slot {
     ghost use Rattle.std.specs.Prelude.{◌≡◌, length};
-    ghost use Rattle.sms_join.specs.Slots.{SlotValue, filled as come};
+    ghost use Rattle.sms_join.specs.Inside.Slots.{SlotValue, filled as come};
 
     ghost Value = { SlotValue };
 

@@ -1,13 +1,20 @@
 //! The units of a text: septets of the default alphabet, or 16-bit units.
 
 ghost use Rattle.std.specs.Prelude.{◌≡◌, ◌+◌, ◌-◌, ◌<◌, ◌≤◌, ◌↔◌, [], length, slice_index, IfOk, IsTrue, if◌then◌else◌};
+ghost use Rattle.sms_text.specs.Utf16.{units_high_first};
+ghost use Rattle.sms_join.specs.declared.units.Units.TheVariants.{Gsm, Ucs2};
+ghost use Rattle.sms_join.specs.BodyUnits.{units_of_body};
 ghost use Rattle.sms_join.specs.UnitsOfText.{numbers, alphabet_in, begins_pair};
+ghost use Rattle.sms_tpdu.specs.UserData.BodySeen.{seen_body};
 ghost use Rattle.sms_join.specs.Cut.{room_alone, room_beside};
-ghost use Rattle.sms_join.specs.SegmentsValue.{seen_units, AreLent, part_of};
+ghost use Rattle.sms_join.specs.Segments.Value.{seen_units, AreLent};
+ghost use Rattle.sms_join.specs.Inside.SegmentsAt.{part_of};
 
 use sms_field::Alphabet;
-use sms_text::ESCAPE;
-use sms_tpdu::{Septets, UnitsView, Width, greatest_length, length_of_header};
+use sms_text::{ESCAPE, units_of_octets, unpack};
+use sms_tpdu::{
+    Body, BodyView, Septets, SeptetsView, UnitsView, Width, greatest_length, length_of_header,
+};
 use std::alloc::{AllocError, Global};
 use std::marker::Model;
 
@@ -48,7 +55,57 @@ pub enum Units {
     Ucs2(Ucs2Units),
 }
 
+/// The septets that lie packed in a unit.
+fn septets_of(alloc: Global, septets: &SeptetsView<'_>) -> Result<Units, AllocError>
+    ensures { IfOk result (λ units. units ≡ Gsm septets.now) }
+{
+    let (octets, fill) = septets.packed();
+    match unpack(alloc, octets, fill, usize::from(septets.count()))? {
+        Some(septets) => Ok(Units::Gsm(Septets::new(septets))),
+        None => unreachable!(),
+    }
+}
+
+/// The 16-bit units of octets.
+fn ucs2_of(alloc: Global, octets: &[u8]) -> Result<Units, AllocError>
+    ensures { IfOk result (λ units. units ≡ Ucs2 (units_high_first octets.now)) }
+{
+    let units = units_of_octets(alloc, octets)?;
+    Ok(Units::Ucs2(Ucs2Units::new(units)))
+}
+
 impl Units {
+    /// The units of the body of user data under an alphabet; none where the alphabet is no text's.
+    /// Septets are not copied.
+    pub fn of_body(
+        alloc: Global,
+        alphabet: Alphabet,
+        body: Body,
+    ) -> Result<Option<Units>, AllocError>
+        ensures { IfOk result (λ units. units ≡ units_of_body alphabet body) }
+    {
+        match (alphabet, body) {
+            (Alphabet::Gsm7, Body::Septets(septets)) => Ok(Some(Units::Gsm(septets))),
+            (Alphabet::Ucs2, Body::Octets(octets)) => Ok(Some(ucs2_of(alloc, octets.as_slice())?)),
+            _ => Ok(None),
+        }
+    }
+
+    /// The same of a body that is seen where it lies.
+    pub fn of_body_view(
+        alloc: Global,
+        alphabet: Alphabet,
+        body: &BodyView<'_>,
+    ) -> Result<Option<Units>, AllocError>
+        ensures { IfOk result (λ units. units ≡ units_of_body alphabet (seen_body body.now)) }
+    {
+        match (alphabet, body) {
+            (Alphabet::Gsm7, BodyView::Septets(septets)) => Ok(Some(septets_of(alloc, septets)?)),
+            (Alphabet::Ucs2, BodyView::Octets(octets)) => Ok(Some(ucs2_of(alloc, octets)?)),
+            _ => Ok(None),
+        }
+    }
+
     /// How many units there are.
     pub fn len(&self) -> usize
         ensures { result ≡ length (numbers self.now) }

@@ -4,22 +4,16 @@ use Rattle.std.proofs.lemmas.List.{append-nil}
 use Rattle.sms_field.specs.Field.{Field}
 use Rattle.sms_field.specs.Reading.{Reads}
 use Rattle.sms_tpdu.specs.Submit.{submit}
-use Rattle.sms_tpdu.specs.Submit.Laws.{submit_laws}
+use Rattle.sms_tpdu.specs.Inside.SubmitLaws.{submit_laws}
 use Rattle.sms_tpdu.specs.Deliver.{deliver}
-use Rattle.sms_tpdu.specs.Deliver.Laws.{deliver_laws}
-use Rattle.sms_tpdu.specs.Report.SubmitAck.{submit_ack}
-use Rattle.sms_tpdu.specs.Report.SubmitAckLaws.{submit_ack_laws}
-use Rattle.sms_tpdu.specs.Report.SubmitError.{submit_error}
-use Rattle.sms_tpdu.specs.Report.SubmitErrorLaws.{submit_error_laws}
-use Rattle.sms_tpdu.specs.Report.DeliverAck.{deliver_ack}
-use Rattle.sms_tpdu.specs.Report.DeliverAckLaws.{deliver_ack_laws}
-use Rattle.sms_tpdu.specs.Report.DeliverError.{deliver_error}
-use Rattle.sms_tpdu.specs.Report.DeliverErrorLaws.{deliver_error_laws}
-use Rattle.sms_relay.specs.RpValue.{RpValue}
+use Rattle.sms_tpdu.specs.Inside.DeliverLaws.{deliver_laws}
+use Rattle.sms_tpdu.specs.Report.{submit_ack, submit_error, deliver_ack, deliver_error}
+use Rattle.sms_tpdu.specs.Report.Laws.{submit_ack_laws, submit_error_laws, deliver_ack_laws, deliver_error_laws}
+use Rattle.sms_relay.specs.Rp.Value.{RpValue}
 use Rattle.sms_text.specs.Octets.{IsOctets}
 use Rattle.sms_relay.specs.Rp.{SpellsRp}
-use Rattle.sms_relay.specs.RpLaws.{rp_laws}
-use Rattle.sms_relay.specs.CarriedLaws.{read_alone, packet_read}
+use Rattle.sms_relay.specs.Inside.RpLaws.{rp_laws}
+use Rattle.sms_relay.specs.Inside.CarriedLaws.{read_alone, packet_read}
 use Rattle.sms_relay.specs.declared.side.Side.{Side}
 use Rattle.sms_relay.specs.declared.side.Side.TheVariants.{FromPhone, ToPhone}
 use Rattle.sms_relay.specs.declared.cp.CpBody.TheVariants as cp

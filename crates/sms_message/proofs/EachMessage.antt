@@ -4,25 +4,19 @@ use Rattle.sms_text.specs.Octets.{IsOctets}
 use Rattle.sms_field.specs.Reading.{Reads}
 use Rattle.sms_tpdu.specs.Submit.{submit}
 use Rattle.sms_tpdu.specs.Submit.Flags.{submit_flags}
-use Rattle.sms_tpdu.specs.Submit.Laws.{submit_lawful}
+use Rattle.sms_tpdu.specs.Inside.SubmitLaws.{submit_lawful}
 use Rattle.sms_tpdu.specs.Deliver.{deliver}
 use Rattle.sms_tpdu.specs.Deliver.Flags.{deliver_flags}
-use Rattle.sms_tpdu.specs.Deliver.Laws.{deliver_lawful}
-use Rattle.sms_tpdu.specs.Report.SubmitAck.{submit_ack}
-use Rattle.sms_tpdu.specs.Report.SubmitAckLaws.{submit_ack_lawful}
-use Rattle.sms_tpdu.specs.Report.SubmitError.{submit_error}
-use Rattle.sms_tpdu.specs.Report.SubmitErrorLaws.{submit_error_lawful}
-use Rattle.sms_tpdu.specs.Report.DeliverAck.{deliver_ack}
-use Rattle.sms_tpdu.specs.Report.DeliverAckLaws.{deliver_ack_lawful}
-use Rattle.sms_tpdu.specs.Report.DeliverError.{deliver_error}
-use Rattle.sms_tpdu.specs.Report.DeliverErrorLaws.{deliver_error_lawful}
+use Rattle.sms_tpdu.specs.Inside.DeliverLaws.{deliver_lawful}
+use Rattle.sms_tpdu.specs.Report.{submit_ack, submit_error, deliver_ack, deliver_error}
+use Rattle.sms_tpdu.specs.Report.Laws.{submit_ack_lawful, submit_error_lawful, deliver_ack_lawful, deliver_error_lawful}
 use Rattle.sms_tpdu.specs.declared.fault.UnitFault.{UnitFault}
 use Rattle.sms_tpdu.specs.declared.fault.UnitFault.TheVariants as unit
 use Rattle.sms_relay.specs.Cp.{cp_message}
-use Rattle.sms_relay.specs.CpLaws.{cp_laws}
-use Rattle.sms_relay.specs.RpKind.{rp_type}
+use Rattle.sms_relay.specs.Inside.CpLaws.{cp_laws}
+use Rattle.sms_relay.specs.Rp.Kind.{rp_type}
 use Rattle.sms_relay.specs.Rp.{rp_message}
-use Rattle.sms_relay.specs.RpLaws.{rp_laws}
+use Rattle.sms_relay.specs.Inside.RpLaws.{rp_laws}
 use Rattle.sms_relay.specs.declared.side.Side.{Side}
 use Rattle.sms_relay.specs.declared.side.Side.TheVariants.{FromPhone, ToPhone}
 use Rattle.sms_relay.specs.declared.cp.CpBody.{CpBody}
@@ -40,14 +34,14 @@ use Rattle.sms_message.specs.declared.message.Relay.{Relay}
 use Rattle.sms_message.specs.declared.message.Relay.TheVariants.{Transfer, Answer, UnknownType, Unreadable}
 use Rattle.sms_message.specs.declared.message.Message.{Message}
 use Rattle.sms_message.specs.declared.message.Message.TheVariants.{NotCp, Note, Tiny, Data}
-use Rattle.sms_field.specs.Reasons.{StartsAs}
-use Rattle.sms_field.specs.ReadValues.{AreOptionalOctets}
+use Rattle.sms_field.specs.Reading.Reasons.{StartsAs}
+use Rattle.sms_field.specs.Reading.Values.{AreOptionalOctets}
 use Rattle.sms_message.specs.Message.Reading.{ReadsUnit, ReadsReport, ReadsRelay, ReadsAs}
 use Rattle.sms_message.specs.Message.Laws.{EachIsRead}
-use Rattle.sms_relay.specs.TypeLaws.{reference_is}
-use Rattle.sms_field.specs.ReadableLaws.{decided}
+use Rattle.sms_relay.specs.Inside.TypeLaws.{reference_is}
+use Rattle.sms_field.specs.Inside.ReadableLaws.{decided, read_as}
 use Rattle.sms_relay.specs.ReadOctets.{HasCpOctets, HasRpOctets}
-use Rattle.sms_relay.specs.ReadOctetLaws.{cp_octets_are, rp_octets_are}
+use Rattle.sms_relay.specs.Inside.ReadOctetLaws.{cp_octets_are, rp_octets_are}
 
 -- an octet has a meaning or is refused; whether for this reason
 starts_by : {V : Type 0} (r : Result V UnitFault) → (r ≡ Err unit.WrongType) ⊎ (r ≡ Err unit.WrongType → ⊥)
@@ -83,11 +77,11 @@ record SomeUnit (side : Side) (octets : List ℕ) : Type 0 where
 
 each_unit : (side : Side) (octets : List ℕ) → IsOctets octets → SomeUnit side octets
 each_unit FromPhone octets are =
-    ⊎_elim {C = SomeUnit FromPhone octets} (λ r. record { unit = Submit r.value; read = (r.used, r.read) })
+    ⊎_elim {C = SomeUnit FromPhone octets} (λ r. record { unit = Submit r.value; read = (_, read_as _ _ r) })
     (λ n. ⊎_elim {C = SomeUnit FromPhone octets} (λ s. record { unit = OtherUnit; read = s }) (λ m. record { unit = BadUnit; read = (n, m) }) (starts_unit submit_flags octets))
     (decided unit.Short submit submit_lawful octets are)
 each_unit ToPhone octets are =
-    ⊎_elim {C = SomeUnit ToPhone octets} (λ r. record { unit = Deliver r.value; read = (r.used, r.read) })
+    ⊎_elim {C = SomeUnit ToPhone octets} (λ r. record { unit = Deliver r.value; read = (_, read_as _ _ r) })
     (λ n. ⊎_elim {C = SomeUnit ToPhone octets} (λ s. record { unit = OtherUnit; read = s }) (λ m. record { unit = BadUnit; read = (n, m) }) (starts_unit deliver_flags octets))
     (decided unit.Short deliver deliver_lawful octets are)
 
@@ -97,13 +91,13 @@ record SomeReport (side : Side) (cause : Option ℕ) (user : Option (List ℕ)) 
 
 each_some : (side : Side) (cause : Option ℕ) (octets : List ℕ) → IsOctets octets → SomeReport side cause (Some octets)
 each_some ToPhone None octets are =
-    ⊎_elim {C = SomeReport ToPhone None (Some octets)} (λ r. record { report = Some (SubmitAck r.value); read = (are, (r.used, r.read)) }) (λ n. record { report = None; read = (are, n) }) (decided unit.Short submit_ack submit_ack_lawful octets are)
+    ⊎_elim {C = SomeReport ToPhone None (Some octets)} (λ r. record { report = Some (SubmitAck r.value); read = (are, (_, read_as _ _ r)) }) (λ n. record { report = None; read = (are, n) }) (decided unit.Short submit_ack submit_ack_lawful octets are)
 each_some ToPhone (Some c) octets are =
-    ⊎_elim {C = SomeReport ToPhone (Some c) (Some octets)} (λ r. record { report = Some (SubmitError r.value); read = (are, (r.used, r.read)) }) (λ n. record { report = None; read = (are, n) }) (decided unit.Short submit_error submit_error_lawful octets are)
+    ⊎_elim {C = SomeReport ToPhone (Some c) (Some octets)} (λ r. record { report = Some (SubmitError r.value); read = (are, (_, read_as _ _ r)) }) (λ n. record { report = None; read = (are, n) }) (decided unit.Short submit_error submit_error_lawful octets are)
 each_some FromPhone None octets are =
-    ⊎_elim {C = SomeReport FromPhone None (Some octets)} (λ r. record { report = Some (DeliverAck r.value); read = (are, (r.used, r.read)) }) (λ n. record { report = None; read = (are, n) }) (decided unit.Short deliver_ack deliver_ack_lawful octets are)
+    ⊎_elim {C = SomeReport FromPhone None (Some octets)} (λ r. record { report = Some (DeliverAck r.value); read = (are, (_, read_as _ _ r)) }) (λ n. record { report = None; read = (are, n) }) (decided unit.Short deliver_ack deliver_ack_lawful octets are)
 each_some FromPhone (Some c) octets are =
-    ⊎_elim {C = SomeReport FromPhone (Some c) (Some octets)} (λ r. record { report = Some (DeliverError r.value); read = (are, (r.used, r.read)) }) (λ n. record { report = None; read = (are, n) }) (decided unit.Short deliver_error deliver_error_lawful octets are)
+    ⊎_elim {C = SomeReport FromPhone (Some c) (Some octets)} (λ r. record { report = Some (DeliverError r.value); read = (are, (_, read_as _ _ r)) }) (λ n. record { report = None; read = (are, n) }) (decided unit.Short deliver_error deliver_error_lawful octets are)
 
 each_report : (side : Side) (cause : Option ℕ) (user : Option (List ℕ)) → AreOptionalOctets user → SomeReport side cause user
 each_report side cause None are = record { report = None; read = refl }
@@ -127,8 +121,8 @@ relay_body octets reference side (rp.Fail cause added user) used are r =
 each_relay : (first second : ℕ) (rest : List ℕ) → IsOctets (first ∷ second ∷ rest) → SomeRelay (first ∷ second ∷ rest) second
 each_relay first second rest are =
     ⊎_elim {C = SomeRelay (first ∷ second ∷ rest) second}
-    (λ r. subst (λ n. SomeRelay (first ∷ second ∷ rest) n) (reference_is r.value first second rest r.used r.read)
-    (relay_body (first ∷ second ∷ rest) r.value.reference r.value.side r.value.body r.used (rp_octets_are r.value (first ∷ second ∷ rest) r.used are r.read) r.read))
+    (λ r. subst (λ n. SomeRelay (first ∷ second ∷ rest) n) (reference_is r.value first second rest _ (read_as _ _ r))
+    (relay_body (first ∷ second ∷ rest) r.value.reference r.value.side r.value.body _ (rp_octets_are r.value (first ∷ second ∷ rest) _ are (read_as _ _ r)) (read_as _ _ r)))
     (λ n. ⊎_elim {C = SomeRelay (first ∷ second ∷ rest) second} (λ s. record { relay = UnknownType; read = s }) (λ m. record { relay = Unreadable; read = (n, m) }) (starts_relay (first ∷ second ∷ rest)))
     (decided fault.Short rp_message rp_laws.lawful (first ∷ second ∷ rest) are)
 
@@ -151,7 +145,7 @@ message_by packet flag value (cp.Fail cause) used are r = record { message = Not
 some_message : (packet : List ℕ) → IsOctets packet → SomeMessage packet
 some_message packet are =
     ⊎_elim {C = SomeMessage packet}
-    (λ r. message_by packet r.value.flag r.value.value r.value.body r.used (cp_octets_are r.value packet r.used are r.read) r.read)
+    (λ r. message_by packet r.value.flag r.value.value r.value.body _ (cp_octets_are r.value packet _ are (read_as _ _ r)) (read_as _ _ r))
     (λ n. record { message = NotCp; read = n })
     (decided fault.Short cp_message cp_laws.lawful packet are)
 

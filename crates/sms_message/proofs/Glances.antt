@@ -1,17 +1,18 @@
 -- What octets are at a glance is what the message is as which they are read.
 use Rattle.std.proofs.Common.{◌≡◌, ℕ, ◌<◌, ◌≤◌, get_or, Bool, List, [], ◌∷◌, length, Option, Some, None, refl, sym, ap, ◌∙◌, subst, arith}
 use Rattle.sms_text.specs.Octets.{IsOctets}
-use Rattle.sms_field.specs.Reading.{Reads, IsReadable}
-use Rattle.sms_field.specs.ReadableLaws.{unread}
+use Rattle.sms_field.specs.Field.{HasReading}
+use Rattle.sms_field.specs.Reading.{Reads}
+use Rattle.sms_field.specs.Inside.ReadableLaws.{reading_of, unread}
 use Rattle.sms_relay.specs.Cp.{cp_message}
-use Rattle.sms_relay.specs.CpValue.{CpValue}
+use Rattle.sms_relay.specs.Cp.Value.{CpValue}
 use Rattle.sms_relay.specs.Rp.{rp_message}
-use Rattle.sms_relay.specs.RpValue.{RpValue}
+use Rattle.sms_relay.specs.Rp.Value.{RpValue}
 use Rattle.sms_relay.specs.Carried.{in_transaction}
-use Rattle.sms_relay.specs.CpSeen.{seen_cp_body}
+use Rattle.sms_relay.specs.Cp.Seen.{seen_cp_body}
 use Rattle.sms_relay.specs.declared.cp.view.CpBodyView.{CpBodyView}
 use Rattle.sms_relay.specs.declared.cp.view.CpBodyView.TheVariants as seen
-use Rattle.sms_relay.specs.Unwrapped.{IsReadAs, Holds}
+use Rattle.sms_relay.specs.Carried.Unwrapped.{IsReadAs, Holds}
 use Rattle.sms_relay.specs.declared.side.Side.{Side}
 use Rattle.sms_relay.specs.declared.cp.CpBody.{CpBody}
 use Rattle.sms_relay.specs.declared.cp.CpBody.TheVariants as cp
@@ -41,12 +42,12 @@ relay_seen octets reference (Answer side None report) (inner.Relay v) are h k =
     sym (ap (λ (m : RpValue). body_glance m.side m.body) (one_rp octets _ v h.used k.0 are h.relay k.1))
 relay_seen octets reference (Answer side (Some cause) report) (inner.Relay v) are h k =
     sym (ap (λ (m : RpValue). body_glance m.side m.body) (one_rp octets _ v h.used k.0 are h.relay k.1))
-relay_seen octets reference UnknownType (inner.Relay v) are h k = absurd (rp_apart octets h (record { value = v; used = k.0; read = k.1 }))
-relay_seen octets reference Unreadable (inner.Relay v) are h k = absurd (h.0 (record { value = v; used = k.0; read = k.1 }))
+relay_seen octets reference UnknownType (inner.Relay v) are h k = absurd (rp_apart octets h (reading_of _ _ v k.0 k.1))
+relay_seen octets reference Unreadable (inner.Relay v) are h k = absurd (h.0 (reading_of _ _ v k.0 k.1))
 relay_seen octets reference (Transfer side unit) (inner.Bad place why) are h k =
-    absurd (unread (Reads rp_message) rp_message.reason fault.Short octets place why are k (record { value = _; used = h.used; read = h.relay }))
+    absurd (unread rp_message fault.Short octets place why are k (reading_of _ _ _ h.used h.relay))
 relay_seen octets reference (Answer side cause report) (inner.Bad place why) are h k =
-    absurd (unread (Reads rp_message) rp_message.reason fault.Short octets place why are k (record { value = _; used = h.used; read = h.relay }))
+    absurd (unread rp_message fault.Short octets place why are k (reading_of _ _ _ h.used h.relay))
 relay_seen octets reference UnknownType (inner.Bad place why) are h k = refl
 relay_seen octets reference Unreadable (inner.Bad place why) are h k = refl
 
@@ -84,7 +85,7 @@ data_seen flag tag r (first ∷ second ∷ rest) found are s h k =
 
 pub message_seen : (packet : List ℕ) (x : CpValue) (used : ℕ) (found : Inner) (m : Message) → IsOctets packet → Reads cp_message x packet used → Holds x.body found → ReadsAs packet m
     → glance_of m ≡ glance_by x.flag x.value x.body found
-message_seen packet x used found NotCp are r h k = absurd (k (record { value = x; used = used; read = r }))
+message_seen packet x used found NotCp are r h k = absurd (k (reading_of _ _ x used r))
 message_seen packet x used found (Note flag value) are r h k =
     let e : x ≡ in_transaction flag value k.0 = one_cp packet (in_transaction flag value k.0) x k.1 used are k.3 r in
     subst (λ (y : CpValue). glance.Note flag value ≡ glance_by y.flag y.value y.body found) (sym e) (note_seen flag value k.0 found k.2)
@@ -96,11 +97,11 @@ message_seen packet x used found (Data flag tag relay) are r h k =
     let held : IsReadAs k.0 found = subst (λ (y : CpValue). Holds y.body found) e h in
     subst (λ (y : CpValue). glance.Data flag tag (relay_glance relay) ≡ glance_by y.flag y.value y.body found) (sym e) (data_seen flag tag relay k.0 found k.1.are_octets k.2 k.3 held)
 
-pub none_seen : (packet : List ℕ) (m : Message) → (¬ IsReadable (Reads cp_message) packet) → ReadsAs packet m → glance_of m ≡ glance.NotCp
+pub none_seen : (packet : List ℕ) (m : Message) → (¬ HasReading cp_message packet) → ReadsAs packet m → glance_of m ≡ glance.NotCp
 none_seen packet NotCp n k = refl
-none_seen packet (Note flag value) n k = absurd (n (record { value = _; used = k.1; read = k.3 }))
-none_seen packet (Tiny flag value) n k = absurd (n (record { value = _; used = k.1.used; read = k.1.connection }))
-none_seen packet (Data flag tag relay) n k = absurd (n (record { value = _; used = k.1.used; read = k.1.connection }))
+none_seen packet (Note flag value) n k = absurd (n (reading_of _ _ _ k.1 k.3))
+none_seen packet (Tiny flag value) n k = absurd (n (reading_of _ _ _ k.1.used k.1.connection))
+none_seen packet (Data flag tag relay) n k = absurd (n (reading_of _ _ _ k.1.used k.1.connection))
 
 -- ---- as the views are
 

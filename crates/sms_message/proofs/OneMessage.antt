@@ -1,31 +1,27 @@
 -- Octets are read as one message.
 use Rattle.std.proofs.Common.{◌≡◌, ℕ, ◌<◌, Bool, List, [], ◌∷◌, length, Option, Some, None, refl, sym, ap, ◌∙◌, subst, arith}
 use Rattle.sms_text.specs.Octets.{IsOctets}
-use Rattle.sms_field.specs.Reading.{Reads, IsReadable}
-use Rattle.sms_field.specs.ReadingLaws.{one_reading}
-use Rattle.sms_field.specs.ReasonLaws.{starts_apart}
-use Rattle.sms_tpdu.specs.RefusalLaws.{submit_tells, deliver_tells}
-use Rattle.sms_field.specs.RelayAddressValue.{RelayAddressValue}
+use Rattle.sms_field.specs.Field.{HasReading}
+use Rattle.sms_field.specs.Inside.ReadableLaws.{reading_of}
+use Rattle.sms_field.specs.Reading.{Reads}
+use Rattle.sms_field.specs.Inside.ReadingLaws.{one_reading}
+use Rattle.sms_field.specs.Inside.ReasonLaws.{starts_apart}
+use Rattle.sms_tpdu.specs.Inside.RefusalLaws.{submit_tells, deliver_tells}
+use Rattle.sms_field.specs.RelayAddress.Value.{RelayAddressValue}
 use Rattle.sms_tpdu.specs.Submit.{submit}
-use Rattle.sms_tpdu.specs.Submit.Laws.{submit_lawful}
+use Rattle.sms_tpdu.specs.Inside.SubmitLaws.{submit_lawful}
 use Rattle.sms_tpdu.specs.Deliver.{deliver}
-use Rattle.sms_tpdu.specs.Deliver.Laws.{deliver_lawful}
-use Rattle.sms_tpdu.specs.Report.SubmitAck.{submit_ack}
-use Rattle.sms_tpdu.specs.Report.SubmitAckLaws.{submit_ack_lawful}
-use Rattle.sms_tpdu.specs.Report.SubmitError.{submit_error}
-use Rattle.sms_tpdu.specs.Report.SubmitErrorLaws.{submit_error_lawful}
-use Rattle.sms_tpdu.specs.Report.DeliverAck.{deliver_ack}
-use Rattle.sms_tpdu.specs.Report.DeliverAckLaws.{deliver_ack_lawful}
-use Rattle.sms_tpdu.specs.Report.DeliverError.{deliver_error}
-use Rattle.sms_tpdu.specs.Report.DeliverErrorLaws.{deliver_error_lawful}
+use Rattle.sms_tpdu.specs.Inside.DeliverLaws.{deliver_lawful}
+use Rattle.sms_tpdu.specs.Report.{submit_ack, submit_error, deliver_ack, deliver_error}
+use Rattle.sms_tpdu.specs.Report.Laws.{submit_ack_lawful, submit_error_lawful, deliver_ack_lawful, deliver_error_lawful}
 use Rattle.sms_tpdu.specs.declared.fault.UnitFault.TheVariants as unit
-use Rattle.sms_relay.specs.CpValue.{CpValue}
+use Rattle.sms_relay.specs.Cp.Value.{CpValue}
 use Rattle.sms_relay.specs.Cp.{cp_message}
-use Rattle.sms_relay.specs.CpLaws.{cp_laws}
-use Rattle.sms_relay.specs.RpValue.{RpValue}
-use Rattle.sms_relay.specs.RpKind.{rp_type}
+use Rattle.sms_relay.specs.Inside.CpLaws.{cp_laws}
+use Rattle.sms_relay.specs.Rp.Value.{RpValue}
+use Rattle.sms_relay.specs.Rp.Kind.{rp_type}
 use Rattle.sms_relay.specs.Rp.{rp_message}
-use Rattle.sms_relay.specs.RpLaws.{rp_laws}
+use Rattle.sms_relay.specs.Inside.RpLaws.{rp_laws}
 use Rattle.sms_relay.specs.Carried.{in_transaction}
 use Rattle.sms_relay.specs.declared.side.Side.{Side}
 use Rattle.sms_relay.specs.declared.side.Side.TheVariants.{FromPhone, ToPhone}
@@ -42,7 +38,7 @@ use Rattle.sms_message.specs.declared.message.Relay.TheVariants.{Transfer, Answe
 use Rattle.sms_message.specs.declared.message.Tag.{Tag}
 use Rattle.sms_message.specs.declared.message.Message.{Message}
 use Rattle.sms_message.specs.declared.message.Message.TheVariants.{NotCp, Note, Tiny, Data}
-use Rattle.sms_field.specs.Reasons.{StartsAs}
+use Rattle.sms_field.specs.Reading.Reasons.{StartsAs}
 use Rattle.sms_message.specs.Message.Reading.{ReadsUnit, ReadsSomeReport, ReadsReport, answer_body, ReadsTransfer, ReadsAnswer, ReadsRelay, IsSecond, IsNote, ReadsData, ReadsAs}
 use Rattle.sms_message.specs.Message.Laws.{OneMessageIsRead}
 
@@ -50,23 +46,23 @@ use Rattle.sms_message.specs.Message.Laws.{OneMessageIsRead}
 
 one_unit : (side : Side) (octets : List ℕ) (u v : TransferUnit) → IsOctets octets → ReadsUnit side octets u → ReadsUnit side octets v → v ≡ u
 one_unit FromPhone octets (Submit s) (Submit t) are h k = ap Submit (one_reading submit unit.Short submit_lawful s t octets h.0 k.0 are h.1 k.1).0
-one_unit FromPhone octets (Submit s) OtherUnit are h k = absurd (submit_tells.unread octets k (record { value = s; used = h.0; read = h.1 }))
-one_unit FromPhone octets (Submit s) BadUnit are h k = absurd (k.0 (record { value = s; used = h.0; read = h.1 }))
-one_unit FromPhone octets OtherUnit (Submit t) are h k = absurd (submit_tells.unread octets h (record { value = t; used = k.0; read = k.1 }))
+one_unit FromPhone octets (Submit s) OtherUnit are h k = absurd (submit_tells.unread octets k (reading_of _ _ s h.0 h.1))
+one_unit FromPhone octets (Submit s) BadUnit are h k = absurd (k.0 (reading_of _ _ s h.0 h.1))
+one_unit FromPhone octets OtherUnit (Submit t) are h k = absurd (submit_tells.unread octets h (reading_of _ _ t k.0 k.1))
 one_unit FromPhone octets OtherUnit OtherUnit are h k = refl
 one_unit FromPhone octets OtherUnit BadUnit are h k = absurd (k.1 h)
-one_unit FromPhone octets BadUnit (Submit t) are h k = absurd (h.0 (record { value = t; used = k.0; read = k.1 }))
+one_unit FromPhone octets BadUnit (Submit t) are h k = absurd (h.0 (reading_of _ _ t k.0 k.1))
 one_unit FromPhone octets BadUnit OtherUnit are h k = absurd (h.1 k)
 one_unit FromPhone octets BadUnit BadUnit are h k = refl
 one_unit FromPhone octets (Deliver d) v are h k = absurd h
 one_unit FromPhone octets u (Deliver d) are h k = absurd k
 one_unit ToPhone octets (Deliver s) (Deliver t) are h k = ap Deliver (one_reading deliver unit.Short deliver_lawful s t octets h.0 k.0 are h.1 k.1).0
-one_unit ToPhone octets (Deliver s) OtherUnit are h k = absurd (deliver_tells.unread octets k (record { value = s; used = h.0; read = h.1 }))
-one_unit ToPhone octets (Deliver s) BadUnit are h k = absurd (k.0 (record { value = s; used = h.0; read = h.1 }))
-one_unit ToPhone octets OtherUnit (Deliver t) are h k = absurd (deliver_tells.unread octets h (record { value = t; used = k.0; read = k.1 }))
+one_unit ToPhone octets (Deliver s) OtherUnit are h k = absurd (deliver_tells.unread octets k (reading_of _ _ s h.0 h.1))
+one_unit ToPhone octets (Deliver s) BadUnit are h k = absurd (k.0 (reading_of _ _ s h.0 h.1))
+one_unit ToPhone octets OtherUnit (Deliver t) are h k = absurd (deliver_tells.unread octets h (reading_of _ _ t k.0 k.1))
 one_unit ToPhone octets OtherUnit OtherUnit are h k = refl
 one_unit ToPhone octets OtherUnit BadUnit are h k = absurd (k.1 h)
-one_unit ToPhone octets BadUnit (Deliver t) are h k = absurd (h.0 (record { value = t; used = k.0; read = k.1 }))
+one_unit ToPhone octets BadUnit (Deliver t) are h k = absurd (h.0 (reading_of _ _ t k.0 k.1))
 one_unit ToPhone octets BadUnit OtherUnit are h k = absurd (h.1 k)
 one_unit ToPhone octets BadUnit BadUnit are h k = refl
 one_unit ToPhone octets (Submit s) v are h k = absurd h
@@ -79,14 +75,14 @@ one_some ToPhone None octets (Some (SubmitAck r)) (Some (SubmitAck q)) are h k =
 one_some ToPhone (Some c) octets (Some (SubmitError r)) (Some (SubmitError q)) are h k = ap (λ v. Some (SubmitError v)) (one_reading submit_error unit.Short submit_error_lawful r q octets h.0 k.0 are h.1 k.1).0
 one_some FromPhone None octets (Some (DeliverAck r)) (Some (DeliverAck q)) are h k = ap (λ v. Some (DeliverAck v)) (one_reading deliver_ack unit.Short deliver_ack_lawful r q octets h.0 k.0 are h.1 k.1).0
 one_some FromPhone (Some c) octets (Some (DeliverError r)) (Some (DeliverError q)) are h k = ap (λ v. Some (DeliverError v)) (one_reading deliver_error unit.Short deliver_error_lawful r q octets h.0 k.0 are h.1 k.1).0
-one_some ToPhone None octets (Some (SubmitAck r)) None are h k = absurd (k (record { value = r; used = h.0; read = h.1 }))
-one_some ToPhone (Some c) octets (Some (SubmitError r)) None are h k = absurd (k (record { value = r; used = h.0; read = h.1 }))
-one_some FromPhone None octets (Some (DeliverAck r)) None are h k = absurd (k (record { value = r; used = h.0; read = h.1 }))
-one_some FromPhone (Some c) octets (Some (DeliverError r)) None are h k = absurd (k (record { value = r; used = h.0; read = h.1 }))
-one_some ToPhone None octets None (Some (SubmitAck r)) are h k = absurd (h (record { value = r; used = k.0; read = k.1 }))
-one_some ToPhone (Some c) octets None (Some (SubmitError r)) are h k = absurd (h (record { value = r; used = k.0; read = k.1 }))
-one_some FromPhone None octets None (Some (DeliverAck r)) are h k = absurd (h (record { value = r; used = k.0; read = k.1 }))
-one_some FromPhone (Some c) octets None (Some (DeliverError r)) are h k = absurd (h (record { value = r; used = k.0; read = k.1 }))
+one_some ToPhone None octets (Some (SubmitAck r)) None are h k = absurd (k (reading_of _ _ r h.0 h.1))
+one_some ToPhone (Some c) octets (Some (SubmitError r)) None are h k = absurd (k (reading_of _ _ r h.0 h.1))
+one_some FromPhone None octets (Some (DeliverAck r)) None are h k = absurd (k (reading_of _ _ r h.0 h.1))
+one_some FromPhone (Some c) octets (Some (DeliverError r)) None are h k = absurd (k (reading_of _ _ r h.0 h.1))
+one_some ToPhone None octets None (Some (SubmitAck r)) are h k = absurd (h (reading_of _ _ r k.0 k.1))
+one_some ToPhone (Some c) octets None (Some (SubmitError r)) are h k = absurd (h (reading_of _ _ r k.0 k.1))
+one_some FromPhone None octets None (Some (DeliverAck r)) are h k = absurd (h (reading_of _ _ r k.0 k.1))
+one_some FromPhone (Some c) octets None (Some (DeliverError r)) are h k = absurd (h (reading_of _ _ r k.0 k.1))
 one_some side cause octets None None are h k = refl
 one_some FromPhone None octets (Some (SubmitAck r)) q are h k = absurd h
 one_some FromPhone None octets (Some (SubmitError r)) q are h k = absurd h
@@ -108,7 +104,7 @@ one_report side cause (Some octets) r q h k = one_some side cause octets r q h.0
 
 -- ---- relay messages
 
-pub rp_apart : (octets : List ℕ) → StartsAs rp_type fault.UnknownType octets → ¬ IsReadable (Reads rp_message) octets
+pub rp_apart : (octets : List ℕ) → StartsAs rp_type fault.UnknownType octets → ¬ HasReading rp_message octets
 unfolding rp_message
 rp_apart octets h = starts_apart fault.Short fault.UnknownType rp_type _ octets h
 
@@ -152,18 +148,18 @@ same_answer octets reference s t c d r q are h k =
 one_relay : (octets : List ℕ) (reference : ℕ) (r q : Relay) → IsOctets octets → ReadsRelay octets reference r → ReadsRelay octets reference q → q ≡ r
 one_relay octets reference (Transfer s u) (Transfer t w) are h k = same_transfer octets reference s t u w are h k
 one_relay octets reference (Transfer s u) (Answer t d q) are h k = absurd (transfer_apart d h.address h.user k.diagnostic k.user (sym (ap (λ (m : RpValue). m.body) (one_rp octets _ _ h.used k.used are h.relay k.relay))))
-one_relay octets reference (Transfer s u) UnknownType are h k = absurd (rp_apart octets k (record { value = _; used = h.used; read = h.relay }))
-one_relay octets reference (Transfer s u) Unreadable are h k = absurd (k.0 (record { value = _; used = h.used; read = h.relay }))
+one_relay octets reference (Transfer s u) UnknownType are h k = absurd (rp_apart octets k (reading_of _ _ _ h.used h.relay))
+one_relay octets reference (Transfer s u) Unreadable are h k = absurd (k.0 (reading_of _ _ _ h.used h.relay))
 one_relay octets reference (Answer s c r) (Transfer t w) are h k = absurd (transfer_apart c k.address k.user h.diagnostic h.user (ap (λ (m : RpValue). m.body) (one_rp octets _ _ h.used k.used are h.relay k.relay)))
 one_relay octets reference (Answer s c r) (Answer t d q) are h k = same_answer octets reference s t c d r q are h k
-one_relay octets reference (Answer s c r) UnknownType are h k = absurd (rp_apart octets k (record { value = _; used = h.used; read = h.relay }))
-one_relay octets reference (Answer s c r) Unreadable are h k = absurd (k.0 (record { value = _; used = h.used; read = h.relay }))
-one_relay octets reference UnknownType (Transfer t w) are h k = absurd (rp_apart octets h (record { value = _; used = k.used; read = k.relay }))
-one_relay octets reference UnknownType (Answer t d q) are h k = absurd (rp_apart octets h (record { value = _; used = k.used; read = k.relay }))
+one_relay octets reference (Answer s c r) UnknownType are h k = absurd (rp_apart octets k (reading_of _ _ _ h.used h.relay))
+one_relay octets reference (Answer s c r) Unreadable are h k = absurd (k.0 (reading_of _ _ _ h.used h.relay))
+one_relay octets reference UnknownType (Transfer t w) are h k = absurd (rp_apart octets h (reading_of _ _ _ k.used k.relay))
+one_relay octets reference UnknownType (Answer t d q) are h k = absurd (rp_apart octets h (reading_of _ _ _ k.used k.relay))
 one_relay octets reference UnknownType UnknownType are h k = refl
 one_relay octets reference UnknownType Unreadable are h k = absurd (k.1 h)
-one_relay octets reference Unreadable (Transfer t w) are h k = absurd (h.0 (record { value = _; used = k.used; read = k.relay }))
-one_relay octets reference Unreadable (Answer t d q) are h k = absurd (h.0 (record { value = _; used = k.used; read = k.relay }))
+one_relay octets reference Unreadable (Transfer t w) are h k = absurd (h.0 (reading_of _ _ _ k.used k.relay))
+one_relay octets reference Unreadable (Answer t d q) are h k = absurd (h.0 (reading_of _ _ _ k.used k.relay))
 one_relay octets reference Unreadable UnknownType are h k = absurd (h.1 k)
 one_relay octets reference Unreadable Unreadable are h k = refl
 
@@ -215,10 +211,10 @@ same_data packet f g t u r q are h k =
 
 pub one_message_is_read : OneMessageIsRead
 one_message_is_read packet NotCp NotCp are h k = refl
-one_message_is_read packet NotCp (Note g w) are h k = absurd (h (record { value = _; used = k.1; read = k.3 }))
-one_message_is_read packet NotCp (Tiny g w) are h k = absurd (h (record { value = _; used = k.1.used; read = k.1.connection }))
-one_message_is_read packet NotCp (Data g u q) are h k = absurd (h (record { value = _; used = k.1.used; read = k.1.connection }))
-one_message_is_read packet (Note f v) NotCp are h k = absurd (k (record { value = _; used = h.1; read = h.3 }))
+one_message_is_read packet NotCp (Note g w) are h k = absurd (h (reading_of _ _ _ k.1 k.3))
+one_message_is_read packet NotCp (Tiny g w) are h k = absurd (h (reading_of _ _ _ k.1.used k.1.connection))
+one_message_is_read packet NotCp (Data g u q) are h k = absurd (h (reading_of _ _ _ k.1.used k.1.connection))
+one_message_is_read packet (Note f v) NotCp are h k = absurd (k (reading_of _ _ _ h.1 h.3))
 one_message_is_read packet (Note f v) (Note g w) are h k =
     let e = one_cp packet _ _ h.1 k.1 are h.3 k.3 in
     let flag : g ≡ f = ap (λ (m : CpValue). m.flag) e in
@@ -226,7 +222,7 @@ one_message_is_read packet (Note f v) (Note g w) are h k =
     cc
 one_message_is_read packet (Note f v) (Tiny g w) are h k = absurd (note_no_data packet f g v w h.1 h.0 k.0 are h.2 h.3 k.1)
 one_message_is_read packet (Note f v) (Data g u q) are h k = absurd (note_no_data packet f g v u.value h.1 h.0 k.0 are h.2 h.3 k.1)
-one_message_is_read packet (Tiny f v) NotCp are h k = absurd (k (record { value = _; used = h.1.used; read = h.1.connection }))
+one_message_is_read packet (Tiny f v) NotCp are h k = absurd (k (reading_of _ _ _ h.1.used h.1.connection))
 one_message_is_read packet (Tiny f v) (Note g w) are h k = absurd (note_no_data packet g f w v k.1 k.0 h.0 are k.2 k.3 h.1)
 one_message_is_read packet (Tiny f v) (Tiny g w) are h k =
     let d = one_data packet f g v w h.0 k.0 are h.1 k.1 in
@@ -235,7 +231,7 @@ one_message_is_read packet (Tiny f v) (Tiny g w) are h k =
     cc
 one_message_is_read packet (Tiny f v) (Data g u q) are h k =
     absurd (short_apart h.0 u.reference h.2 (subst (IsSecond u.reference) (one_data packet f g v u.value h.0 k.0 are h.1 k.1).octets k.2))
-one_message_is_read packet (Data f t r) NotCp are h k = absurd (k (record { value = _; used = h.1.used; read = h.1.connection }))
+one_message_is_read packet (Data f t r) NotCp are h k = absurd (k (reading_of _ _ _ h.1.used h.1.connection))
 one_message_is_read packet (Data f t r) (Note g w) are h k = absurd (note_no_data packet g f w t.value k.1 k.0 h.0 are k.2 k.3 h.1)
 one_message_is_read packet (Data f t r) (Tiny g w) are h k =
     absurd (short_apart k.0 t.reference k.2 (subst (IsSecond t.reference) (one_data packet g f w t.value k.0 h.0 are k.1 h.1).octets h.2))

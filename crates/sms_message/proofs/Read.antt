@@ -3,13 +3,13 @@ use Rattle.std.proofs.Common.{◌≡◌, ℕ, Bool, List, [], ◌∷◌, length,
 use Rattle.std.specs.Prelude.{◌≤◌, IfOk, OnErr}
 use Rattle.sms_text.specs.Octets.{IsOctets}
 use Rattle.sms_field.specs.Reading.{Reads}
-use Rattle.sms_relay.specs.TypeLaws.{reference_is}
-use Rattle.sms_relay.specs.RpValue.{RpValue}
+use Rattle.sms_relay.specs.Inside.TypeLaws.{reference_is}
+use Rattle.sms_relay.specs.Rp.Value.{RpValue}
 use Rattle.sms_relay.specs.Rp.{rp_message}
-use Rattle.sms_relay.specs.CpValue.{CpValue, IsCpBody}
+use Rattle.sms_relay.specs.Cp.Value.{CpValue, IsCpBody}
 use Rattle.sms_relay.specs.Cp.{cp_message}
 use Rattle.sms_relay.specs.Carried.{in_transaction}
-use Rattle.sms_relay.specs.Unwrapped.{IsReadAs, Holds}
+use Rattle.sms_relay.specs.Carried.Unwrapped.{IsReadAs, Holds}
 use Rattle.sms_relay.specs.declared.cp.CpBody.{CpBody}
 use Rattle.sms_relay.specs.declared.cp.CpBody.TheVariants as cp
 use Rattle.sms_relay.specs.declared.inner.Inner.{Inner}

@@ -1,6 +1,6 @@
 -- What a wrapped answer without a report carries.
 use Rattle.std.proofs.Common.{ℕ, true, List, Option, Some, None}
-use Rattle.sms_tpdu.specs.Report.SubmitError.{SpellsSubmitError}
+use Rattle.sms_tpdu.specs.Report.{SpellsSubmitError}
 use Rattle.sms_relay.specs.Carried as carried
 use Rattle.sms_relay.specs.declared.side.Side.{Side}
 use Rattle.sms_relay.specs.declared.side.Side.TheVariants.{FromPhone, ToPhone}

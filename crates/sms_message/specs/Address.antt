@@ -1,9 +1,9 @@
 -- Phones and their addresses. A phone is its number among them, from 0.
 use Rattle.std.specs.Prelude.{ℕ, zero, suc, ◌&&◌, Bool, true, not, List, [], ◌∷◌, Option, position}
 use Rattle.std.specs.List.{list_any}
-use Rattle.sms_field.specs.AddressValue.{AddressValue}
+use Rattle.sms_field.specs.Address.Value.{AddressValue}
 use Rattle.sms_field.specs.declared.symbols.Symbols.TheVariants.{Digits}
-use Rattle.sms_field.specs.SameAddress.{same_address}
+use Rattle.sms_field.specs.Address.Same.{same_address}
 
 -- No two of the phones have one address: type of number, plan, and digits or name.
 abbrev pub are_distinct : List AddressValue → Bool

@@ -1,5 +1,5 @@
 -- What a party does when it is called; and what it means that a call of the code did this.
-use Rattle.std.specs.Prelude.{◌≡◌, ℕ, List, [], ◌∷◌, map, Option, Some, Result, Ok, Err}
+use Rattle.std.specs.Prelude.{◌≡◌, ℕ, List, [], ◌∷◌, map, Option, Some, None, Result, Ok, Err}
 use Rattle.sms_relay.specs.declared.side.Side.{Side}
 use Rattle.sms_message.specs.Message.Carrying.{Carries}
 use Rattle.sms_message.specs.Message.Answers.{answers}
@@ -11,6 +11,8 @@ use Rattle.sms_message.specs.declared.outcome.Outcome.TheVariants.{Refused, Note
 use Rattle.sms_message.specs.declared.outcome.Dropped.{Dropped}
 use Rattle.sms_message.specs.declared.outcome.Dropped.TheVariants as dropped
 use Rattle.sms_message.specs.declared.outcome.Step.{Step}
+use Rattle.sms_message.specs.declared.request.NotTaken.{NotTaken}
+use Rattle.sms_message.specs.declared.request.NotTaken.TheVariants as not
 
 -- The answer of a call, what is put out, the first first, and the state of the party afterwards.
 pub record Does (S : Type 0) : Type 0 where
@@ -34,6 +36,13 @@ refuses_with s side tag cause failure report =
       put = answers side tag (Some cause) report;
       after = s;
     }
+
+-- What is not taken is dropped, or refused: with the report for its failure cause, if it has one.
+abbrev pub turns_away : {S : Type 0} → S → Side → Tag → (ℕ → Report) → NotTaken → Does S
+turns_away s side tag report not.Unmatched = drops s dropped.Unmatched
+turns_away s side tag report (not.Refused cause None) = refuses_with s side tag cause None None
+turns_away s side tag report (not.Refused cause (Some failure)) =
+    refuses_with s side tag cause (Some failure) (Some (report failure))
 
 -- ---- a call of the code
 

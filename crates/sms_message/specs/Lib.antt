@@ -1,10 +1,9 @@
 pub mod Changed
 pub mod More
-pub mod Short
 pub mod Address
 pub mod Message
-pub mod Splitting
 pub mod Does
 pub mod Drops
 pub mod Few
 pub mod Memory
+pub mod Inside

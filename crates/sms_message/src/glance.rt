@@ -1,7 +1,7 @@
 //! What octets are at a glance: as much of the message as is known without memory.
 
 ghost use Rattle.std.specs.Prelude.{◌≡◌};
-ghost use Rattle.sms_relay.specs.InnerSeen.{seen_inner};
+ghost use Rattle.sms_relay.specs.Carried.InnerSeen.{seen_inner};
 ghost use Rattle.sms_message.specs.Message.Glance.{relay_glance, glance_of, IsSeenAs, HasGlanceTag, glance_in, flag_of};
 
 use crate::message::{Message, Relay, Tag};

@@ -9,6 +9,7 @@ mod message;
 mod outcome;
 pub mod packets;
 mod reading;
+mod request;
 pub mod rp_cause;
 
 pub use glance::{Glance, RelayGlance, glance_at};
@@ -18,3 +19,4 @@ pub use laws::{
 pub use message::{Message, Relay, Report, Tag, TransferUnit};
 pub use outcome::{Dropped, Outcome, Step};
 pub use reading::read_message;
+pub use request::{NotTaken, delivery_from, submission_from, unit_from};

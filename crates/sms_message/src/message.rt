@@ -1,5 +1,8 @@
 //! What travels between a phone and the service centre, in one packet.
 
+ghost use Rattle.std.specs.Prelude.{◌≡◌, ◌<◌};
+ghost use Rattle.sms_message.specs.Message.{following, same_tag};
+
 use sms_relay::Side;
 use sms_tpdu::{Deliver, DeliverAck, DeliverError, Submit, SubmitAck, SubmitError};
 
@@ -53,6 +56,27 @@ pub struct Tag {
     pub value: u8,
     /// The RP-Message Reference.
     pub reference: u8,
+}
+
+impl Tag {
+    /// The tag of the putting out after this one.
+    pub fn following(self) -> Tag
+        requires { self.value < 7 }
+        ensures is { result ≡ following self }
+        ensures value { result.value < 7 }
+    {
+        Tag {
+            value: (self.value + 1) % 7,
+            reference: self.reference.wrapping_add(1),
+        }
+    }
+
+    /// Whether the two are the same.
+    pub fn is_same(self, other: Tag) -> bool
+        ensures { result ≡ same_tag self other }
+    {
+        self.value == other.value && self.reference == other.reference
+    }
 }
 
 /// What travels in one packet. `flag` is the TI flag: 1 where the packet goes to the side that

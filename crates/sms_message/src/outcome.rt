@@ -2,7 +2,7 @@
 
 ghost use Rattle.std.specs.Prelude.{◌≡◌};
 ghost use Rattle.sms_message.specs.declared.outcome.Dropped.TheVariants.{Memory};
-ghost use Rattle.sms_message.specs.Splitting.{dropped_of};
+ghost use Rattle.sms_message.specs.Inside.Splitting.{dropped_of};
 
 use sms_join::SplitFault;
 use std::alloc::{AllocError, AllocFailed};

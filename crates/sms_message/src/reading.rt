@@ -2,13 +2,14 @@
 
 ghost use Rattle.std.specs.Prelude.{◌≡◌, ◌<◌, ℕ, List, ◌∷◌, Option, is_some, IfOk, IfErr, OnErr, MatchOption, option_copied};
 ghost use Rattle.sms_text.specs.Octets.{IsOctets};
-ghost use Rattle.sms_field.specs.Reading.{Reads, IsReadable};
+ghost use Rattle.sms_field.specs.Field.{HasReading};
+ghost use Rattle.sms_field.specs.Reading.{Reads};
 ghost use Rattle.sms_relay.specs.Rp.{rp_message};
-ghost use Rattle.sms_relay.specs.Unwrapped.{IsReadAs};
+ghost use Rattle.sms_relay.specs.Carried.Unwrapped.{IsReadAs};
 ghost use Rattle.sms_relay.specs.declared.side.Side.TheVariants.{FromPhone, ToPhone};
 ghost use Rattle.sms_message.specs.declared.message.Report.{Report};
 ghost use Rattle.sms_message.specs.declared.message.Relay.TheVariants.{Answer};
-ghost use Rattle.sms_field.specs.ReadValues.{AreOptionalOctets};
+ghost use Rattle.sms_field.specs.Reading.Values.{AreOptionalOctets};
 ghost use Rattle.sms_message.specs.Message.Reading.{ReadsAs, ReadsUnit, ReadsSomeReport, ReadsReport, ReadsRelay, IsLongData, HasTag};
 ghost use Rattle.sms_message.specs.declared.outcome.Dropped.TheVariants.{Memory};
 
@@ -64,7 +65,7 @@ fn unit_in(alloc: Global, side: Side, octets: &[u8]) -> Result<TransferUnit, Dro
 
 /// A value that the octets are read as, if there is one.
 fn read_if<U: Unit>(alloc: Global, octets: &[u8]) -> Result<Option<U>, Dropped>
-    ensures read { IfOk result (λ o. MatchOption o (¬ IsReadable (Reads U.field) octets.now)
+    ensures read { IfOk result (λ o. MatchOption o (¬ HasReading U.field octets.now)
         (λ v. (used : ℕ) × Reads U.field v octets.now used)) }
     ensures err { IfErr result (λ e. e ≡ Memory) }
 {

@@ -4,7 +4,7 @@ use Rattle.std.specs.Prelude.{reverse}
 use Rattle.std.specs.Result.{OnErr}
 use Rattle.std.proofs.lemmas.List.{reverse-reverse}
 use Rattle.sms_relay.specs.declared.side.Side.TheVariants.{FromPhone, ToPhone}
-use Rattle.sms_join.specs.Finishing.{SameIsEquivalence}
+use Rattle.sms_join.specs.Joiner.Finishing.{SameIsEquivalence}
 use Rattle.sms_message.specs.declared.glance.Glance.{Glance}
 use Rattle.sms_message.specs.declared.glance.Glance.TheVariants as glance
 use Rattle.sms_message.specs.declared.message.Relay.{Relay}
@@ -26,7 +26,8 @@ use Rattle.sms_message.specs.Message.Glance.{glance_of, flag_of, IsSeenAs}
 use Rattle.sms_message.specs.Message.Reading.{ReadsAs}
 use Rattle.sms_party.specs.Sender.Putting.{sender_drops}
 use Rattle.sms_party.specs.Sender.Answers.{sender_receives, sender_takes}
-use Rattle.sms_party.specs.Sender.Value.{TextValue, SenderValue, Did, hears_at}
+use Rattle.sms_party.specs.Sender.Value.{TextValue, SenderValue}
+use Rattle.sms_party.specs.Inside.Sender.{Did, hears_at}
 use Rattle.sms_party.specs.Sender.Stands as sender
 use Rattle.sms_party.specs.Sender.Waits.{waits_for}
 use Rattle.sms_party.specs.Receiver.{receiver_opened, receiver_receives}

@@ -1,6 +1,6 @@
 -- Worked examples of the definitions: headers, and what a receiving phone does.
 use Rattle.std.proofs.Common.{◌≡◌, ℕ, false, List, [], ◌∷◌, Option, Some, None, Ok, Err, refl}
-use Rattle.sms_field.specs.AddressValue.{AddressValue}
+use Rattle.sms_field.specs.Address.Value.{AddressValue}
 use Rattle.sms_field.specs.Coding.{alphabet_at}
 use Rattle.sms_field.specs.declared.symbols.Symbols.TheVariants.{Digits}
 use Rattle.sms_text.specs.Tables.{character_of}
@@ -10,7 +10,7 @@ use Rattle.sms_tpdu.specs.Deliver.{Delivery}
 use Rattle.sms_tpdu.specs.declared.user_data.body.Body.{Body}
 use Rattle.sms_tpdu.specs.declared.user_data.body.Body.TheVariants.{Septets, Octets}
 use Rattle.sms_relay.specs.declared.side.Side.TheVariants.{FromPhone, ToPhone}
-use Rattle.sms_field.specs.SameAddress.{same_address}
+use Rattle.sms_field.specs.Address.Same.{same_address}
 use Rattle.sms_join.specs.Key.{same_width, same_key}
 use Rattle.sms_join.specs.Reading.{text_of_segments}
 use Rattle.sms_join.specs.Joiner.{new_joiner, is_repeat, is_whole, has_room, decided, answer, answered}

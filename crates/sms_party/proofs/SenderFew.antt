@@ -15,7 +15,8 @@ use Rattle.sms_message.specs.Few.{PutsFew, FewPackets, few_either, few_answered}
 use Rattle.sms_message.specs.Message.{same_tag}
 use Rattle.sms_join.specs.declared.segment.Segment.{Segment}
 use Rattle.sms_party.specs.declared.sender.Status.TheVariants.{Accepted, Failed}
-use Rattle.sms_party.specs.Sender.Value.{TextValue, SenderValue, Did, segment_put, text_put, puts_out, counted, entered, first_put, enters, settles, stepped, ended_with, hears_at}
+use Rattle.sms_party.specs.Sender.Value.{TextValue, SenderValue}
+use Rattle.sms_party.specs.Inside.Sender.{Did, segment_put, text_put, puts_out, counted, entered, first_put, enters, settles, stepped, ended_with, hears_at}
 use Rattle.std.specs.List.{slice_get}
 
 segment_few : (tag : Tag) (reject : Bool) (t : TextValue) (place : ℕ) (s : Option Segment) → length (segment_put tag reject t place s) ≤ 1

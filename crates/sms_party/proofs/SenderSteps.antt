@@ -4,7 +4,7 @@ use Rattle.std.specs.Prelude.{nat_le}
 use Rattle.std.specs.Result.{IsErrAnd}
 use Rattle.std.specs.List.{slice_get}
 use Rattle.std.proofs.lemmas.Bool.Decides.{nat_tests}
-use Rattle.sms_field.specs.AddressValue.{AddressValue}
+use Rattle.sms_field.specs.Address.Value.{AddressValue}
 use Rattle.std.specs.List.{concat, flat_map}
 use Rattle.sms_tpdu.specs.declared.user_data.concat.Width.{Width}
 use Rattle.sms_join.specs.UnitsOfText.{Alphabet, Default, Wide, alphabet_of, units_of_character, units_of_text, units_in, numbers}
@@ -25,7 +25,7 @@ use Rattle.sms_message.specs.declared.outcome.Dropped.{Dropped}
 use Rattle.sms_message.specs.declared.outcome.Dropped.TheVariants.{NotCp, Unmatched, Busy, Memory, TooManySegments}
 use Rattle.sms_party.specs.declared.sender.Status.TheVariants.{Accepted, Failed}
 use Rattle.sms_party.specs.declared.sender.Status.{Status}
-use Rattle.sms_message.specs.Splitting.{dropped_of}
+use Rattle.sms_message.specs.Inside.Splitting.{dropped_of}
 use Rattle.sms_message.specs.Message.{tag_of, same_tag}
 use Rattle.sms_message.specs.Does.{Does, CarriesEach, packets_of, Answered}
 use Rattle.sms_message.specs.Changed.{changed}
@@ -34,7 +34,8 @@ use Rattle.sms_party.specs.Sender.Texts.{Text, Sender, SenderState, new_sender, 
 use Rattle.sms_party.specs.Sender.Putting.{Puts, puts, with_sender, sender_drops, does}
 use Rattle.sms_party.specs.Sender.Calls.{appended, typed, composes, ends, repeats, times_out}
 use Rattle.sms_party.specs.Sender.Answers.{failure_of, accepts, advanced, noted, hears, matches}
-use Rattle.sms_party.specs.Sender.Value.{TextValue, SenderValue, Did, text_put, counted, puts_out, text_in, entered, number_in, enters, ended_with, repeated, waits_no_more, stepped, settles, hears_at}
+use Rattle.sms_party.specs.Sender.Value.{TextValue, SenderValue}
+use Rattle.sms_party.specs.Inside.Sender.{Did, text_put, counted, puts_out, text_in, entered, number_in, enters, ended_with, repeated, waits_no_more, stepped, settles, hears_at}
 use Rattle.sms_party.specs.Sender.Stands.{TextIs, ArePending, status_if, Keeps, HasTries, SenderStands, in_messages, Steps, Types}
 use Rattle.sms_party.proofs.Waiting.{pending_count, IsPut, AreReady, put_stands, ready_anew, both_pending, ended_keeps, stepped_keeps, entered_keeps, as_many}
 

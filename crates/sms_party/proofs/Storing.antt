@@ -4,7 +4,7 @@ use Rattle.std.specs.Prelude.{nat_le, reverse}
 use Rattle.std.proofs.lemmas.List.{length-reverse, reverse-append}
 use Rattle.std.specs.Str.{chars}
 use Rattle.std.specs.String.{string_bytes}
-use Rattle.sms_field.specs.AddressValue.{AddressValue}
+use Rattle.sms_field.specs.Address.Value.{AddressValue}
 use Rattle.sms_join.specs.declared.units.Units.{Units}
 use Rattle.sms_join.specs.declared.offer.Offer.TheVariants as offers
 use Rattle.sms_join.specs.declared.offer.OfferFault.TheVariants as faults
@@ -14,11 +14,11 @@ use Rattle.sms_join.specs.Piece.{Piece, piece_of}
 use Rattle.sms_tpdu.specs.UserData.ConcatenationFound.{concat_of_header}
 use Rattle.sms_join.specs.Reading.{text_of_segments}
 use Rattle.sms_join.specs.Joiner.{Joiner, new_joiner, Answer, Repeat, Kept, Finished, TooManyOpen, answer, answered, offered}
-use Rattle.sms_join.specs.JoinerValue.{JoinerValue, SameLimits}
-use Rattle.sms_join.specs.Same.{IsSame, AnswersAlike}
-use Rattle.sms_join.specs.Offering.{SaysAnswer, Says}
-use Rattle.sms_join.specs.Finishing.{would_finish, is_finished, AnswerFinishes, SameIsEquivalence}
-use Rattle.sms_join.specs.Aging.{AgesAlike, aged}
+use Rattle.sms_join.specs.Joiner.Value.{JoinerValue, SameLimits}
+use Rattle.sms_join.specs.Joiner.Same.{IsSame}
+use Rattle.sms_join.specs.Joiner.Offering.{SaysAnswer, Says}
+use Rattle.sms_join.specs.Joiner.Finishing.{would_finish, is_finished, SameIsEquivalence}
+use Rattle.sms_join.specs.Joiner.Aging.{AgesAlike, aged}
 use Rattle.sms_relay.specs.declared.side.Side.TheVariants.{FromPhone}
 use Rattle.sms_message.specs.declared.message.Message.{Message}
 use Rattle.sms_message.specs.declared.message.Tag.{Tag}
@@ -36,6 +36,7 @@ use Rattle.sms_party.specs.Receiver.Offers.{refuses, settles, is_full_for, offer
 use Rattle.sms_party.specs.Receiver.{receiver_receives}
 use Rattle.sms_party.specs.Receiver.Aging.{ages}
 use Rattle.sms_party.specs.Receiver.Standing.{ReceiverValue, StandsFor, ReceiverAnswers, Steps, ReceivesAs}
+use Rattle.sms_party.specs.Receiver.JoinerLaws.{JoinerLaws}
 
 -- an answer that changes nothing
 pub puts_answer : (limits : ReceiverLimits) (v : ReceiverValue) (s : ReceiverState) (word : Outcome) (messages : List Message) (r : Result Step Dropped)
@@ -88,12 +89,6 @@ says_text (Finished us) first text h = record { units = us; is = refl; reads = h
 says_text TooManyOpen first text h = absurd h
 
 -- ---- the code's joiner and store, and those of the state
-
--- what the joiner's crate says of joiners that hold the same
-pub record JoinerLaws : Type 0 where
-  pub alike : AnswersAlike
-  pub finishes : AnswerFinishes
-  pub same : SameIsEquivalence
 
 -- the store has room, or the piece would not finish its set
 abbrev pub Room : ReceiverValue → Piece → Type 0

@@ -3,7 +3,7 @@ use Rattle.std.proofs.Common.{◌≡◌, ℕ, zero, suc, ◌+◌, ◌-◌, ◌%�
 use Rattle.std.specs.List.{slice_get, AllByRecursion, range_with_len}
 use Rattle.std.proofs.lemmas.Bool.Decides.{nat_tests}
 use Rattle.std.proofs.lemmas.List.{length-append}
-use Rattle.sms_field.specs.AddressValue.{AddressValue}
+use Rattle.sms_field.specs.Address.Value.{AddressValue}
 use Rattle.sms_tpdu.specs.Submit.{Submission}
 use Rattle.sms_relay.specs.declared.side.Side.TheVariants.{FromPhone}
 use Rattle.sms_join.specs.declared.segment.Segment.{Segment}
@@ -16,14 +16,16 @@ use Rattle.sms_message.specs.declared.message.Message.{Message}
 use Rattle.sms_message.specs.declared.message.Message.TheVariants.{Data}
 use Rattle.sms_message.specs.declared.message.Tag.{Tag}
 use Rattle.sms_party.specs.declared.sender.Status.{Status}
-use Rattle.sms_message.specs.Message.{tag_of}
+use Rattle.sms_message.specs.Message.{tag_of, following}
+use Rattle.sms_message.specs.Message.Tags.{following_is}
 use Rattle.sms_party.specs.Sent.{nth, messages_of}
 use Rattle.sms_party.specs.Sender.Texts.{Text, Sender, sets_of, width_of, new_text, size_of}
 use Rattle.sms_party.specs.Sender.Segments.{submission_of}
 use Rattle.sms_party.specs.Sender.Putting.{Puts, puts_text, puts_first, puts}
 use Rattle.sms_party.specs.Sender.Calls.{appended, ends}
 use Rattle.sms_party.specs.Sender.Answers.{advanced}
-use Rattle.sms_party.specs.Sender.Value.{TextValue, SenderValue, submission_in, segment_put, text_put, following, counted, next_set, text_in, entered, ended_with, stepped}
+use Rattle.sms_party.specs.Sender.Value.{TextValue, SenderValue}
+use Rattle.sms_party.specs.Inside.Sender.{submission_in, segment_put, text_put, counted, next_set, text_in, entered, ended_with, stepped}
 use Rattle.sms_party.specs.Sender.Stands.{TextIs, ArePending, IsUnaccepted, status_if, Keeps, HasTries}
 
 -- ---- a segment is a piece of its text
@@ -104,19 +106,11 @@ module _ (phone : ℕ) (wide reject : Bool) (texts : List Text) (v : SenderValue
       count = k.count;
       message_reference_is = k.message_reference_is;
       set_reference_is = k.set_reference_is;
-      next_is = following_is s.outs v.next k.next_is;
+      next_is = ap following k.next_is ∙ following_is s.outs;
       latest_is = k.next_is ∙ ap tag_of (sub_one s.outs);
     };
     tries = subst (λ (l : List ℕ). HasTries l v.repeats (suc s.tries)) (sym q) (ap suc tries);
   } where
-    following_is : (outs : ℕ) (tag : Tag) → tag ≡ tag_of outs → following tag ≡ tag_of (suc outs)
-    following_is outs tag e =
-        let value : tag.value ≡ outs % 7 = ap (λ (t : Tag). t.value) e in
-        let reference : tag.reference ≡ outs % 256 = ap (λ (t : Tag). t.reference) e in
-        let f : (tag.value + 1) % 7 ≡ suc outs % 7 = omega arith in
-        let g : (tag.reference + 1) % 256 ≡ suc outs % 256 = omega arith in
-        cc
-
     sub_one : (outs : ℕ) → outs ≡ suc outs - 1
     sub_one outs = omega arith
 

@@ -1,6 +1,6 @@
 -- What a phone drops puts nothing out: where its answer is an error, there is no message.
 use Rattle.std.specs.Prelude.{◌≡◌, ℕ, List, [], Option, Err}
-use Rattle.sms_field.specs.AddressValue.{AddressValue}
+use Rattle.sms_field.specs.Address.Value.{AddressValue}
 use Rattle.sms_join.specs.declared.units.Units.{Units}
 use Rattle.sms_message.specs.Message.{Origin}
 use Rattle.sms_message.specs.Drops.{DoesOrDrops}

@@ -4,3 +4,4 @@ pub mod Sent
 pub mod Sender
 pub mod Phone
 pub mod Drops
+pub mod Inside

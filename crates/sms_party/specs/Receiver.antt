@@ -5,44 +5,48 @@ pub mod Offers
 pub mod Aging
 pub mod Standing
 pub mod Waits
-use Rattle.std.specs.Prelude.{ℕ, true, false, Option, Some, None}
+pub mod JoinerLaws
+use Rattle.std.specs.Prelude.{ℕ, true, false, Option, Result, Ok, Err}
 use Rattle.sms_field.specs.Coding.{alphabet_at}
-use Rattle.sms_relay.specs.declared.side.Side.TheVariants.{FromPhone, ToPhone}
+use Rattle.sms_tpdu.specs.Deliver.{Delivery}
+use Rattle.sms_relay.specs.declared.side.Side.TheVariants.{ToPhone}
 use Rattle.sms_message.specs.Message.{Origin}
-use Rattle.sms_message.specs.Does.{Does, drops, notes, refuses_with}
+use Rattle.sms_message.specs.Message.Request.{unit_from, delivery_from}
+use Rattle.sms_message.specs.Does.{Does, drops, notes}
 use Rattle.sms_party.specs.Receiver.State.{ReceiverLimits, ReceiverState}
 use Rattle.sms_party.specs.Receiver.Pieces.{units_in}
-use Rattle.sms_party.specs.Receiver.Offers.{refuses, offers_units}
+use Rattle.sms_party.specs.Receiver.Offers.{turned_away, offers_units}
 use Rattle.sms_message.specs.declared.message.TransferUnit.{TransferUnit}
-use Rattle.sms_message.specs.declared.message.TransferUnit.TheVariants.{Submit, Deliver, OtherUnit, BadUnit}
 use Rattle.sms_message.specs.declared.message.Relay.{Relay}
-use Rattle.sms_message.specs.declared.message.Relay.TheVariants.{Transfer, Answer, UnknownType, Unreadable}
 use Rattle.sms_message.specs.declared.message.Message.{Message}
 use Rattle.sms_message.specs.declared.message.Message.TheVariants.{NotCp, Note, Tiny, Data}
 use Rattle.sms_message.specs.declared.message.Tag.{Tag}
 use Rattle.sms_message.specs.declared.outcome.Dropped.TheVariants as dropped
+use Rattle.sms_message.specs.declared.request.NotTaken.{NotTaken}
 
--- The text of an SMS-DELIVER is offered. Another type of unit: B0, TPDU not supported. A unit with
--- another fault: FF, unspecified. The RP-Cause is 111, protocol error (3GPP TS 24.011, 8.2.5.4; TS
--- 23.040, 9.2.3.22).
+abbrev pub delivered : ReceiverLimits → ReceiverState → ℕ → Tag → Option Origin
+    → Result Delivery NotTaken → Does ReceiverState
+delivered limits s now tag origin (Ok d) =
+    offers_units limits s now tag d origin (units_in (alphabet_at d.dcs) d.user.body)
+delivered limits s now tag origin (Err why) = turned_away s tag why
+
+-- The text of an SMS-DELIVER is offered. What is none is refused with RP-Cause 111, protocol error
+-- (3GPP TS 24.011, 8.2.5.4).
 unfoldable pub receiver_takes : ReceiverLimits → ReceiverState → ℕ → Tag → TransferUnit
     → Option Origin → Does ReceiverState
-receiver_takes limits s now tag (Deliver d) origin =
-    offers_units limits s now tag d origin (units_in (alphabet_at d.dcs) d.user.body)
-receiver_takes limits s now tag BadUnit origin = refuses s tag 111 0xFF
-receiver_takes limits s now tag _ origin = refuses s tag 111 0xB0
+receiver_takes limits s now tag unit origin =
+    delivered limits s now tag origin (delivery_from 111 unit)
 
--- The centre has opened the transaction (flag 0). The unit of an RP-DATA to a phone is taken. What
--- is no RP message is refused with 97, message type non-existent, where its type is unknown, and
--- else with 96, invalid mandatory information (3GPP TS 24.011, 8.2.5.4). Nothing else is waited
--- for.
+abbrev pub requested : ReceiverLimits → ReceiverState → ℕ → Tag → Option Origin
+    → Result TransferUnit NotTaken → Does ReceiverState
+requested limits s now tag origin (Ok unit) = receiver_takes limits s now tag unit origin
+requested limits s now tag origin (Err why) = turned_away s tag why
+
+-- The centre has opened the transaction (flag 0): the unit of an RP-DATA to the phone is taken.
 unfoldable pub receiver_opened : ReceiverLimits → ReceiverState → ℕ → Tag → Relay → Option Origin
     → Does ReceiverState
-receiver_opened limits s now tag (Transfer ToPhone unit) origin =
-    receiver_takes limits s now tag unit origin
-receiver_opened limits s now tag UnknownType origin = refuses_with s FromPhone tag 97 None None
-receiver_opened limits s now tag Unreadable origin = refuses_with s FromPhone tag 96 None None
-receiver_opened limits s now tag _ origin = drops s dropped.Unmatched
+receiver_opened limits s now tag relay origin =
+    requested limits s now tag origin (unit_from ToPhone relay)
 
 -- The arguments are the limits, the phone, the moment, the message, and the segment that it is of.
 -- With flag 1 the phone has opened the transaction: that is its sender's.

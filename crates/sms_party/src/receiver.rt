@@ -6,18 +6,19 @@ ghost use Rattle.sms_field.specs.Coding.{alphabet_at};
 ghost use Rattle.sms_join.specs.declared.units.Units.{Units as TheUnits};
 ghost use Rattle.sms_join.specs.Piece.{piece_of};
 ghost use Rattle.sms_tpdu.specs.UserData.ConcatenationFound.{IsPlace, concat_of_header};
-ghost use Rattle.sms_join.specs.Finishing.{would_finish};
+ghost use Rattle.sms_join.specs.Joiner.Finishing.{would_finish};
 ghost use Rattle.sms_message.specs.Few.{FewPackets};
 ghost use Rattle.sms_message.specs.Memory.{MemoryOnlyFor};
 ghost use Rattle.sms_message.specs.Message.Glance.{glance_of};
-ghost use Rattle.sms_message.specs.Message.Tests.{is_transfer};
+ghost use Rattle.sms_message.specs.Message.Request.{HasCause};
 ghost use Rattle.sms_message.specs.Message.Reading.{HasTag};
 ghost use Rattle.sms_party.specs.Receiver.State.{limits_of};
 ghost use Rattle.sms_party.specs.Receiver.Pieces.{units_in};
-ghost use Rattle.sms_party.specs.Receiver.Offers.{offers_units, receiver_offers};
+ghost use Rattle.sms_party.specs.Receiver.Offers.{turned_away, offers_units, receiver_offers};
 ghost use Rattle.sms_party.specs.Receiver.{receiver_takes, receiver_opened, receiver_receives};
 ghost use Rattle.sms_party.specs.Receiver.Standing.{IsNew, AgesTo, Steps, ReceivesAs};
 ghost use Rattle.sms_party.specs.Receiver.Waits.{takes_up};
+ghost use Rattle.sms_party.specs.Receiver.JoinerLaws.{JoinerLaws};
 ghost use Rattle.sms_message.specs.declared.outcome.Dropped.TheVariants.{Memory};
 ghost use Rattle.sms_message.specs.declared.message.Message.{Message as MessageValue};
 
@@ -29,8 +30,9 @@ use sms_join::laws::{agings_keep_same, answer_finishes, answers_alike, same_is_e
 use sms_join::{Joiner, Offer, OfferFault, Ucs2Units, Units};
 use sms_message::packets::relay_refusal;
 use sms_message::{
-    Dropped, Glance, Message, Outcome, Relay, RelayGlance, Step, Tag, TransferUnit, failure_cause,
-    glance_at, octets_are_read_as_a_message, read_message, rp_cause,
+    Dropped, Glance, Message, NotTaken, Outcome, Relay, RelayGlance, Step, Tag, TransferUnit,
+    delivery_from, failure_cause, glance_at, octets_are_read_as_a_message, read_message, rp_cause,
+    unit_from,
 };
 use sms_relay::Side;
 use sms_text::units_of_octets;
@@ -76,6 +78,16 @@ impl Model for Receiver {
     ghost view = { λ r. record { limit = r.limit; joiner = r.joiner; store = r.store.items } };
 
     ghost invariant = { λ r. length r.store.items ≤ r.limit };
+}
+
+/// The laws of the joiner on which the others stand. It does nothing.
+fn laws_of_joiners()
+    ensures { JoinerLaws }
+{
+    agings_keep_same();
+    answers_alike();
+    answer_finishes();
+    same_is_equivalence();
 }
 
 /// The place of a segment that the header tells, if there is one and it tells one.
@@ -137,7 +149,7 @@ impl Receiver {
         requires keys { 0 < remembered }
         ensures { IfOk result (λ receiver. IsNew (limits_of open_max remembered store) receiver) }
     {
-        same_is_equivalence();
+        laws_of_joiners();
         Ok(Receiver {
             alloc,
             limit: store,
@@ -159,8 +171,7 @@ impl Receiver {
     pub fn age(&mut self, now: u64)
         ensures { AgesTo now self.old self.new }
     {
-        agings_keep_same();
-        same_is_equivalence();
+        laws_of_joiners();
         self.joiner.age(now);
     }
 
@@ -176,7 +187,7 @@ impl Receiver {
         ensures refused { OnErr result (self.new ≡ self.old) }
     {
         octets_are_read_as_a_message();
-        same_is_equivalence();
+        laws_of_joiners();
         let seen = glance_at(octets);
         if !takes_up(seen) {
             return self.pass(now, seen);
@@ -236,44 +247,24 @@ impl Receiver {
             self.old result self.new }
         ensures refused { OnErr result (self.new ≡ self.old) }
     {
-        match relay {
-            Relay::Transfer { side, unit } => match side {
-                Side::FromPhone => {
-                    drop(unit);
-                    Err(Dropped::Unmatched)
-                }
-                Side::ToPhone => self.take_unit(now, tag, unit),
-            },
-            other => {
-                let step = self.refuse(now, tag, &other);
-                drop(other);
-                step
-            }
+        match unit_from(Side::ToPhone, relay) {
+            Ok(unit) => self.take_unit(now, tag, unit),
+            Err(why) => self.turn_away(tag, why),
         }
     }
 
-    /// Refuses what is no transfer.
-    fn refuse(&self, now: u64, tag: Tag, relay: &Relay) -> Result<Step, Dropped>
+    /// Drops what is not taken, or refuses it.
+    fn turn_away(&self, tag: Tag, why: NotTaken) -> Result<Step, Dropped>
         requires tag { tag.value < 7 }
-        requires other { is_transfer relay.now ≡ false }
-        ensures { Steps (λ limits s origin. receiver_opened limits s now tag relay.now origin)
-            self.now result self.now }
+        requires cause { HasCause why }
+        ensures { Steps (λ limits s origin. turned_away s tag why) self.now result self.now }
     {
-        match relay {
-            Relay::UnknownType => relay_refusal(
-                self.alloc,
-                Side::FromPhone,
-                tag,
-                rp_cause::MESSAGE_TYPE_NON_EXISTENT,
-            ),
-            Relay::Unreadable => relay_refusal(
-                self.alloc,
-                Side::FromPhone,
-                tag,
-                rp_cause::INVALID_MANDATORY_INFORMATION,
-            ),
-            Relay::Answer { .. } => Err(Dropped::Unmatched),
-            Relay::Transfer { .. } => Err(Dropped::Unmatched),
+        match why {
+            NotTaken::Unmatched => Err(Dropped::Unmatched),
+            NotTaken::Refused { cause, failure } => match failure {
+                None => relay_refusal(self.alloc, Side::FromPhone, tag, cause),
+                Some(failure) => refusal(self.alloc, tag, cause, failure),
+            },
         }
     }
 
@@ -284,26 +275,9 @@ impl Receiver {
             self.old result self.new }
         ensures refused { OnErr result (self.new ≡ self.old) }
     {
-        match unit {
-            TransferUnit::Deliver(delivery) => self.take_delivery(now, tag, delivery),
-            TransferUnit::Submit(_) => refusal(
-                self.alloc,
-                tag,
-                rp_cause::PROTOCOL_ERROR,
-                failure_cause::UNIT_NOT_SUPPORTED,
-            ),
-            TransferUnit::OtherUnit => refusal(
-                self.alloc,
-                tag,
-                rp_cause::PROTOCOL_ERROR,
-                failure_cause::UNIT_NOT_SUPPORTED,
-            ),
-            TransferUnit::BadUnit => refusal(
-                self.alloc,
-                tag,
-                rp_cause::PROTOCOL_ERROR,
-                failure_cause::UNSPECIFIED,
-            ),
+        match delivery_from(rp_cause::PROTOCOL_ERROR, unit) {
+            Ok(delivery) => self.take_delivery(now, tag, delivery),
+            Err(why) => self.turn_away(tag, why),
         }
     }
 
@@ -359,9 +333,7 @@ impl Receiver {
         ensures refused { OnErr result (self.new ≡ self.old) }
     {
         if self.is_full_for(&origin, stamp, concat) {
-            answers_alike();
-            answer_finishes();
-            same_is_equivalence();
+            laws_of_joiners();
             return no_room(self.alloc, tag);
         }
         self.offer(now, tag, origin, stamp, concat, units)
@@ -388,9 +360,7 @@ impl Receiver {
             self.old result self.new }
         ensures refused { OnErr result (self.new ≡ self.old) }
     {
-        answers_alike();
-        answer_finishes();
-        same_is_equivalence();
+        laws_of_joiners();
         make_room(
             &mut self.store,
             self.joiner.would_finish(&origin, stamp, concat),

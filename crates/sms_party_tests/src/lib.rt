@@ -1,11 +1,8 @@
-//! Worked rows of what the parties answer, against the public calls of `sms_centre` and
-//! `sms_party`.
+//! Worked rows of what the phones answer, against the public calls of `sms_party`.
 #![tactic(auto)]
 
 #[cfg(test)]
 mod answer;
-#[cfg(test)]
-mod centre;
 #[cfg(test)]
 mod phone;
 #[cfg(test)]

@@ -3,17 +3,17 @@ use Rattle.std.proofs.Common.{◌≡◌, ℕ, Bool, List, length, Option, Some, 
 use Rattle.sms_field.specs.Reading.{Reads}
 use Rattle.sms_field.specs.declared.refusal.Refusal.{Refusal}
 use Rattle.sms_field.specs.declared.refusal.Refusal.TheVariants.{Memory, At}
-use Rattle.sms_field.specs.RefusalLaws.{only_memory}
-use Rattle.sms_field.specs.ReadingLaws.{one_reading}
-use Rattle.sms_relay.specs.CpValue.{CpValue}
+use Rattle.sms_field.specs.Inside.RefusalLaws.{only_memory}
+use Rattle.sms_field.specs.Inside.ReadingLaws.{one_reading}
+use Rattle.sms_relay.specs.Cp.Value.{CpValue}
 use Rattle.sms_relay.specs.Cp.{cp_message, SpellsCp}
-use Rattle.sms_relay.specs.CpLaws.{cp_laws}
-use Rattle.sms_relay.specs.RpValue.{RpValue}
+use Rattle.sms_relay.specs.Inside.CpLaws.{cp_laws}
+use Rattle.sms_relay.specs.Rp.Value.{RpValue}
 use Rattle.sms_relay.specs.Rp.{rp_message, SpellsRp}
-use Rattle.sms_relay.specs.RpLaws.{rp_laws}
+use Rattle.sms_relay.specs.Inside.RpLaws.{rp_laws}
 use Rattle.sms_relay.specs.Carried.{in_transaction, CarriesRelay}
-use Rattle.sms_relay.specs.CarriedLaws.{read_alone, packet_read}
-use Rattle.sms_relay.specs.Unwrapped.{IsReadAs, Holds, IsUnwrapped}
+use Rattle.sms_relay.specs.Inside.CarriedLaws.{read_alone, packet_read}
+use Rattle.sms_relay.specs.Carried.Unwrapped.{IsReadAs, Holds, IsUnwrapped}
 use Rattle.sms_relay.specs.declared.cp.CpBody.TheVariants as cp
 use Rattle.sms_relay.specs.declared.inner.Inner.{Inner}
 use Rattle.sms_relay.specs.declared.inner.Inner.TheVariants.{Empty, Relay, Bad}
@@ -42,7 +42,7 @@ inner_is m octets Empty s h = absurd h
 inner_is m octets (Relay n) s h = ap Relay (one_reading rp_message Short rp_laws.lawful m n octets (length octets) h.0 (rp_laws.octets m octets s) (read_alone m octets s) h.1).0
 inner_is m octets (Bad place why) s h =
     let refusal : Refusal RelayFault = At place why in
-    let e : refusal ≡ Memory = only_memory (Reads rp_message) rp_message.reason Short octets octets m (length octets) (rp_laws.octets m octets s) refl (read_alone m octets s) (At place why) h in
+    let e : refusal ≡ Memory = only_memory rp_message Short octets octets m (length octets) (rp_laws.octets m octets s) refl (read_alone m octets s) (At place why) h in
     absurd cc
 
 pub unwrapped : (flag : Bool) (value : ℕ) (m : Option RpValue) (packet : List ℕ) (outer : CpValue) (used : ℕ) (inner : Inner) → CarriesRelay flag value m packet → Reads cp_message outer packet used → Holds outer.body inner → IsUnwrapped flag value m outer inner

@@ -4,17 +4,17 @@ use Rattle.std.proofs.lemmas.Bool.{eqb-false}
 use Rattle.sms_text.specs.Octets.{IsOctets}
 use Rattle.sms_field.specs.Bit.{bit}
 use Rattle.sms_field.specs.Field.{octet, octet_by, octets_of}
-use Rattle.sms_field.specs.Optional.{tagged}
-use Rattle.sms_field.specs.ReadAddressLaws.{has_octet, has_up_to, has_relay_address}
-use Rattle.sms_field.specs.ReadValues.{Has, Any}
-use Rattle.sms_field.specs.ReadValueLaws.{has_chain, has_mapped, has_part}
-use Rattle.sms_field.specs.RelayAddressValue.{HasOptionalSpelling}
+use Rattle.sms_field.specs.Field.Optional.{tagged}
+use Rattle.sms_field.specs.Inside.ReadAddressLaws.{has_octet, has_up_to, has_relay_address}
+use Rattle.sms_field.specs.Reading.Values.{Has, Any}
+use Rattle.sms_field.specs.Inside.ReadValueLaws.{has_chain, has_mapped, has_part}
+use Rattle.sms_field.specs.RelayAddress.Value.{HasOptionalSpelling}
 use Rattle.sms_relay.specs.Transaction.{transaction}
-use Rattle.sms_relay.specs.CpValue.{IsCpBody, IsCpMessage}
+use Rattle.sms_relay.specs.Cp.Value.{IsCpBody, IsCpMessage}
 use Rattle.sms_relay.specs.Cp.{cp_body, cp_message}
-use Rattle.sms_relay.specs.RpValue.{IsRpBody, IsRpMessage}
-use Rattle.sms_relay.specs.RpUserData.{user_data, user_data_tag, IsUserData, IsOptionalUserData}
-use Rattle.sms_relay.specs.RpCause.{rp_cause, IsCause}
+use Rattle.sms_relay.specs.Rp.Value.{IsRpBody, IsRpMessage}
+use Rattle.sms_relay.specs.Rp.UserData.{user_data, user_data_tag, IsUserData, IsOptionalUserData}
+use Rattle.sms_relay.specs.Rp.Cause.{rp_cause, IsCause}
 use Rattle.sms_relay.specs.Rp.{rp_message, rp_value, rp_data, rp_error, rp_body}
 use Rattle.sms_relay.specs.declared.side.Side.{Side}
 use Rattle.sms_relay.specs.declared.side.Side.TheVariants.{FromPhone, ToPhone}

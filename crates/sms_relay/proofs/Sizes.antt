@@ -1,11 +1,11 @@
 -- An RP message has at most 249 octets.
 use Rattle.std.proofs.Common.{◌≡◌, ℕ, ◌+◌, ◌*◌, ◌≤◌, List, [], ◌∷◌, length, length-append, Option, Some, None, sym, subst, arith}
-use Rattle.sms_field.specs.DigitOctets.{digit_octets}
-use Rattle.sms_field.specs.RelayAddressValue.{RelayAddressValue, HasRelaySpelling, HasOptionalSpelling}
+use Rattle.sms_field.specs.Address.DigitOctets.{digit_octets}
+use Rattle.sms_field.specs.RelayAddress.Value.{RelayAddressValue, HasRelaySpelling, HasOptionalSpelling}
 use Rattle.sms_field.specs.RelayAddress.{relay_address_octets, optional_address_octets}
-use Rattle.sms_relay.specs.RpUserData.{IsOptionalUserData, user_octets, optional_user_octets}
-use Rattle.sms_relay.specs.RpCause.{cause_octets}
-use Rattle.sms_relay.specs.RpValue.{RpValue, IsRpBody, IsRpMessage}
+use Rattle.sms_relay.specs.Rp.UserData.{IsOptionalUserData, user_octets, optional_user_octets}
+use Rattle.sms_relay.specs.Rp.Cause.{cause_octets}
+use Rattle.sms_relay.specs.Rp.Value.{RpValue, IsRpBody, IsRpMessage}
 use Rattle.sms_relay.specs.Rp.{rp_data_octets, rp_body_octets, rp_octets}
 use Rattle.sms_relay.specs.declared.side.Side.{Side}
 use Rattle.sms_relay.specs.declared.side.Side.TheVariants.{FromPhone, ToPhone}

@@ -1,10 +1,12 @@
 -- A packet carries a message: octets of the connection, and in them those of the relay (3GPP TS
 -- 24.011, 7.2 and 7.3).
+pub mod InnerSeen
+pub mod Unwrapped
 use Rattle.std.specs.Prelude.{◌≡◌, ℕ, Bool, List, Option, Some, None}
-use Rattle.sms_field.specs.RelayAddressValue.{RelayAddressValue}
-use Rattle.sms_relay.specs.CpValue.{CpValue}
+use Rattle.sms_field.specs.RelayAddress.Value.{RelayAddressValue}
+use Rattle.sms_relay.specs.Cp.Value.{CpValue}
 use Rattle.sms_relay.specs.Cp.{SpellsCp}
-use Rattle.sms_relay.specs.RpValue.{RpValue}
+use Rattle.sms_relay.specs.Rp.Value.{RpValue}
 use Rattle.sms_relay.specs.Rp.{SpellsRp}
 use Rattle.sms_relay.specs.declared.side.Side.{Side}
 use Rattle.sms_relay.specs.declared.cp.CpBody.{CpBody}

@@ -1,9 +1,12 @@
 -- CP messages in octets (3GPP TS 24.011, 7.2 and 8.1).
+pub mod Kind
+pub mod Seen
+pub mod Value
 use Rattle.std.specs.Prelude.{◌≡◌, ℕ, List, [], ◌∷◌, length}
 use Rattle.sms_field.specs.Field.{Field, ◌>>=◌, always, octet, octet_by, octets_of}
 use Rattle.sms_relay.specs.Transaction.{transaction, transaction_octet}
-use Rattle.sms_relay.specs.CpKind.{cp_kind, kind_octet}
-use Rattle.sms_relay.specs.CpValue.{CpValue, IsCpMessage}
+use Rattle.sms_relay.specs.Cp.Kind.{cp_kind, kind_octet}
+use Rattle.sms_relay.specs.Cp.Value.{CpValue, IsCpMessage}
 use Rattle.sms_relay.specs.declared.cp.CpBody.{CpBody}
 use Rattle.sms_relay.specs.declared.cp.CpBody.TheVariants as body
 use Rattle.sms_relay.specs.declared.cp_kind.CpKind.{CpKind}

@@ -1,14 +1,20 @@
 -- RP messages in octets (3GPP TS 24.011, 7.3 and 8.2).
+pub mod Cause
+pub mod Kind
+pub mod Seen
+pub mod Types
+pub mod UserData
+pub mod Value
 use Rattle.std.specs.Prelude.{◌≡◌, ℕ, List, ◌∷◌, ◌++◌, Option, Some, None}
 use Rattle.sms_field.specs.Field.{Field, ◌>>=◌, always, octet, octet_by, map_reason, up_to}
-use Rattle.sms_field.specs.Optional.{LacksTag}
+use Rattle.sms_field.specs.Field.Optional.{LacksTag}
 use Rattle.sms_field.specs.RelayAddress.{relay_address, optional_address_octets}
 use Rattle.sms_relay.specs.Fault.{relay_fault}
-use Rattle.sms_field.specs.Mapped.{mapped}
-use Rattle.sms_relay.specs.RpKind.{rp_type, type_octet}
-use Rattle.sms_relay.specs.RpUserData.{user_data, optional_user_data, user_data_tag, user_octets, optional_user_octets}
-use Rattle.sms_relay.specs.RpCause.{rp_cause, cause_octets}
-use Rattle.sms_relay.specs.RpValue.{RpValue, IsRpMessage}
+use Rattle.sms_field.specs.Field.Mapped.{mapped}
+use Rattle.sms_relay.specs.Rp.Kind.{rp_type, type_octet}
+use Rattle.sms_relay.specs.Rp.UserData.{user_data, optional_user_data, user_data_tag, user_octets, optional_user_octets}
+use Rattle.sms_relay.specs.Rp.Cause.{rp_cause, cause_octets}
+use Rattle.sms_relay.specs.Rp.Value.{RpValue, IsRpMessage}
 use Rattle.sms_relay.specs.declared.side.Side.{Side}
 use Rattle.sms_relay.specs.declared.side.Side.TheVariants.{FromPhone, ToPhone}
 use Rattle.sms_relay.specs.declared.rp.RpBody.{RpBody}

@@ -3,8 +3,8 @@
 ghost use Rattle.std.specs.Prelude.{◌≡◌, ◌++◌, IfOk, OnOk};
 ghost use Rattle.sms_field.specs.Field.{map_reason};
 ghost use Rattle.sms_field.specs.RelayAddress.{relay_address, optional_address_octets};
-ghost use Rattle.sms_field.specs.RelayAddressValue.{HasOptionalSpelling};
-ghost use Rattle.sms_field.specs.Answer.{Sees};
+ghost use Rattle.sms_field.specs.RelayAddress.Value.{HasOptionalSpelling};
+ghost use Rattle.sms_field.specs.Reading.Answer.{Sees};
 ghost use Rattle.sms_relay.specs.Fault.{relay_fault};
 
 use crate::fault::RelayFault;

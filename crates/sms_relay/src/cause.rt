@@ -1,9 +1,9 @@
 //! The cause of an RP-ERROR.
 
 ghost use Rattle.std.specs.Prelude.{◌≡◌, ◌++◌, IfOk, OnOk};
-ghost use Rattle.sms_field.specs.Answer.{SeesAs};
-ghost use Rattle.sms_relay.specs.RpCause as formats;
-ghost use Rattle.sms_relay.specs.RpCause.{rp_cause, cause_octets, IsCause};
+ghost use Rattle.sms_field.specs.Reading.Answer.{SeesAs};
+ghost use Rattle.sms_relay.specs.Rp.Cause as formats;
+ghost use Rattle.sms_relay.specs.Rp.Cause.{rp_cause, cause_octets, IsCause};
 
 use crate::fault::RelayFault;
 use sms_field::{Cursor, Fault};
@@ -21,7 +21,7 @@ fn has_diagnostic(length: u8) -> Result<bool, RelayFault>
 }
 
 /// A cause, 0 to 127, and its diagnostic if it has one.
-#[tactic(auto, unfolding(crate::specs::RpCause::rp_cause))]
+#[tactic(auto, unfolding(crate::specs::Rp::Cause::rp_cause))]
 pub fn cause_at(input: &mut Cursor) -> Result<(u8, Option<u8>), Fault<RelayFault>>
     ensures fits { IfOk result (λ x. IsCause x.0 x.1) }
     ensures read { SeesAs (λ x. (x.0, x.1)) rp_cause input.old result input.new }

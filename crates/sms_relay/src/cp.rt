@@ -1,7 +1,7 @@
 //! CP messages.
 
 ghost use Rattle.std.specs.Prelude.{◌≡◌, ◌≤◌, ◌++◌, length, OnOk};
-ghost use Rattle.sms_relay.specs.CpValue.{IsCpBody};
+ghost use Rattle.sms_relay.specs.Cp.Value.{IsCpBody};
 ghost use Rattle.sms_relay.specs.Cp.{kind_of, cp_body_octets};
 
 pub mod view;
@@ -39,7 +39,7 @@ pub struct CpMessage {
 }
 
 impl Model for CpMessage {
-    ghost use Rattle.sms_relay.specs.CpValue.{CpValue, IsCpMessage};
+    ghost use Rattle.sms_relay.specs.Cp.Value.{CpValue, IsCpMessage};
 
     ghost Value = { CpValue };
 
@@ -91,7 +91,7 @@ fn put_body(out: &mut Vec<u8>, body: &CpBody) -> Result<(), AllocError>
 
 impl Unit for CpMessage {
     ghost use Rattle.sms_relay.specs.Cp.{cp_message, SpellsCp};
-    ghost use Rattle.sms_relay.specs.CpLaws.{cp_laws};
+    ghost use Rattle.sms_relay.specs.Inside.CpLaws.{cp_laws};
 
     type Why = RelayFault;
 

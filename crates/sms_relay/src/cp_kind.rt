@@ -1,7 +1,7 @@
 //! The kinds of CP messages.
 
 ghost use Rattle.std.specs.Prelude.{◌≡◌};
-ghost use Rattle.sms_relay.specs.CpKind as kinds;
+ghost use Rattle.sms_relay.specs.Cp.Kind as kinds;
 
 use crate::fault::RelayFault;
 

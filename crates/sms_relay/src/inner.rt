@@ -1,7 +1,7 @@
 //! What is found in a CP message.
 
 ghost use Rattle.std.specs.Prelude.{◌≡◌, IfOk, IsOk};
-ghost use Rattle.sms_relay.specs.InnerSeen.{seen_inner};
+ghost use Rattle.sms_relay.specs.Carried.InnerSeen.{seen_inner};
 ghost use Rattle.sms_relay.specs.declared.inner.InnerView.TheVariants as seen;
 
 use crate::fault::RelayFault;

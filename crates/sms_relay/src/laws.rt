@@ -1,24 +1,24 @@
 //! What follows from the definitions alone. Each function is empty: its contract is the law.
 
 ghost use Rattle.sms_field.specs.Field.{octet_by};
-ghost use Rattle.sms_field.specs.ReadValues.{Has};
+ghost use Rattle.sms_field.specs.Reading.Values.{Has};
 ghost use Rattle.sms_tpdu.specs.Refusals.{IsRefusedOnce};
 ghost use Rattle.sms_tpdu.specs.Sizes.{HasEachSpelling};
 ghost use Rattle.sms_tpdu.specs.UnitLaws.{AreUnitLaws};
 ghost use Rattle.sms_relay.specs.Carried.{OneMessageIsCarried};
 ghost use Rattle.sms_relay.specs.Cp.{cp_message, SpellsCp};
-ghost use Rattle.sms_relay.specs.CpValue.{IsCpMessage};
+ghost use Rattle.sms_relay.specs.Cp.Value.{IsCpMessage};
 ghost use Rattle.sms_relay.specs.ReadOctets.{CpOctetsAre, RpOctetsAre};
 ghost use Rattle.sms_relay.specs.Rp.{rp_message, SpellsRp, LacksUserData, MayFollow};
-ghost use Rattle.sms_relay.specs.RpCause.{rp_cause, SpellsCause};
-ghost use Rattle.sms_relay.specs.RpUserData.{user_data, optional_user_data, SpellsUserData, SpellsOptionalUserData};
-ghost use Rattle.sms_relay.specs.RpValue.{IsRpMessage};
+ghost use Rattle.sms_relay.specs.Rp.Cause.{rp_cause, SpellsCause};
+ghost use Rattle.sms_relay.specs.Rp.UserData.{user_data, optional_user_data, SpellsUserData, SpellsOptionalUserData};
+ghost use Rattle.sms_relay.specs.Rp.Value.{IsRpMessage};
 ghost use Rattle.sms_relay.specs.Transaction.{transaction, SpellsTransaction};
-ghost use Rattle.sms_relay.specs.Types.{TellsUnknownTypes, ReferenceIsSecond};
+ghost use Rattle.sms_relay.specs.Rp.Types.{TellsUnknownTypes, ReferenceIsSecond};
 ghost use Rattle.sms_relay.specs.declared.fault.RelayFault.TheVariants.{Short};
 
 /// A packet carries at most one message.
-#[tactic(auto, using(crate::specs::CarriedLaws::one_message))]
+#[tactic(auto, using(crate::specs::Inside::CarriedLaws::one_message))]
 pub fn packets_carry_one_message()
     ensures { OneMessageIsCarried }
 {}

@@ -2,7 +2,7 @@
 
 ghost use Rattle.std.specs.Prelude.{◌≡◌, ◌≤◌, ◌++◌, length, OnOk};
 ghost use Rattle.sms_relay.specs.declared.side.Side.{Side};
-ghost use Rattle.sms_relay.specs.RpValue.{IsRpBody};
+ghost use Rattle.sms_relay.specs.Rp.Value.{IsRpBody};
 ghost use Rattle.sms_relay.specs.Rp.{kind_of, rp_body_octets};
 
 pub mod view;
@@ -58,7 +58,7 @@ pub struct RpMessage {
 }
 
 impl Model for RpMessage {
-    ghost use Rattle.sms_relay.specs.RpValue.{RpValue, IsRpMessage};
+    ghost use Rattle.sms_relay.specs.Rp.Value.{RpValue, IsRpMessage};
 
     ghost Value = { RpValue };
 
@@ -127,7 +127,7 @@ fn put_body(out: &mut Vec<u8>, side: Side, body: &RpBody) -> Result<(), AllocErr
 
 impl Unit for RpMessage {
     ghost use Rattle.sms_relay.specs.Rp.{rp_message, SpellsRp, MayFollow};
-    ghost use Rattle.sms_relay.specs.RpLaws.{rp_laws};
+    ghost use Rattle.sms_relay.specs.Inside.RpLaws.{rp_laws};
 
     type Why = RelayFault;
 

@@ -1,7 +1,7 @@
 //! The kinds of RP messages.
 
 ghost use Rattle.std.specs.Prelude.{◌≡◌};
-ghost use Rattle.sms_relay.specs.RpKind as kinds;
+ghost use Rattle.sms_relay.specs.Rp.Kind as kinds;
 
 use crate::fault::RelayFault;
 use crate::side::Side;

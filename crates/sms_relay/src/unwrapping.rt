@@ -1,11 +1,11 @@
 //! Reading a packet: a CP message, and the RP message in it.
 
 ghost use Rattle.std.specs.Prelude.{ℕ, IfOk, IfErr};
-ghost use Rattle.sms_field.specs.Reading.{Reads};
-ghost use Rattle.sms_field.specs.WholeAnswer.{IsRefusedBy, IsFaultOf};
+ghost use Rattle.sms_field.specs.Reading.{Reads, IsRefused};
+ghost use Rattle.sms_field.specs.Reading.WholeAnswer.{IsFaultOf};
 ghost use Rattle.sms_relay.specs.Cp.{cp_message};
-ghost use Rattle.sms_relay.specs.InnerSeen.{seen_inner};
-ghost use Rattle.sms_relay.specs.Unwrapped.{IsReadAs, Holds, UnwrapsCarried, SeesCarried};
+ghost use Rattle.sms_relay.specs.Carried.InnerSeen.{seen_inner};
+ghost use Rattle.sms_relay.specs.Carried.Unwrapped.{IsReadAs, Holds, UnwrapsCarried, SeesCarried};
 ghost use Rattle.sms_relay.specs.declared.fault.RelayFault.TheVariants.{Short};
 
 use crate::cp::CpMessage;
@@ -48,7 +48,7 @@ pub fn unwrap_view<'a>(octets: &'a [u8]) -> Result<(CpView<'a>, InnerView<'a>), 
 pub fn unwrap(alloc: Global, octets: &[u8]) -> Result<(CpMessage, Inner), Refusal<RelayFault>>
     ensures outer { IfOk result (λ x. (used : ℕ) × Reads cp_message x.0 octets.now used) }
     ensures inner { IfOk result (λ x. Holds x.0.body x.1) }
-    ensures refused { IfErr result (IsRefusedBy cp_message Short octets.now) }
+    ensures refused { IfErr result (IsRefused cp_message Short octets.now) }
 
     // what was wrapped comes back, and only want of memory can prevent it
     ensures carried { UnwrapsCarried octets.now result }

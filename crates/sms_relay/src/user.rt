@@ -3,8 +3,8 @@
 ghost use Rattle.std.specs.Prelude.{◌≡◌, ◌≤◌, ◌++◌, length, IfOk, OnOk};
 ghost use Rattle.sms_text.specs.Octets.{IsOctets};
 ghost use Rattle.sms_field.specs.Field.{octets_of};
-ghost use Rattle.sms_field.specs.Answer.{Sees};
-ghost use Rattle.sms_relay.specs.RpUserData.{user_data, optional_user_data, user_octets, optional_user_octets, IsUserData, IsOptionalUserData};
+ghost use Rattle.sms_field.specs.Reading.Answer.{Sees};
+ghost use Rattle.sms_relay.specs.Rp.UserData.{user_data, optional_user_data, user_octets, optional_user_octets, IsUserData, IsOptionalUserData};
 ghost use Rattle.sms_relay.specs.declared.fault.RelayFault.TheVariants.{Short};
 
 use crate::fault::RelayFault;
@@ -29,7 +29,7 @@ pub fn octets_at<'a>(input: &mut Cursor<'a>, count: u8) -> Result<OctetsView<'a>
 }
 
 /// User data.
-#[tactic(auto, unfolding(crate::specs::RpUserData::user_data))]
+#[tactic(auto, unfolding(crate::specs::Rp::UserData::user_data))]
 pub fn user_data_at<'a>(input: &mut Cursor<'a>) -> Result<OctetsView<'a>, Fault<RelayFault>>
     ensures fits { IfOk result IsUserData }
     ensures read { Sees user_data input.old result input.new }

@@ -2,7 +2,7 @@
 
 ghost use Rattle.std.specs.Prelude.{◌≡◌, ◌<◌, ◌↔◌, ℕ, List, length, Option, Some, Err, IfOk, IsSomeAnd, option_copied};
 ghost use Rattle.std.specs.Option.{ForSome};
-ghost use Rattle.sms_relay.specs.RpUserData.{IsUserData};
+ghost use Rattle.sms_relay.specs.Rp.UserData.{IsUserData};
 ghost use Rattle.sms_relay.specs.Carried.{acknowledgement, transfer, answer, relay_of, CarriesRelay, Carries, SpellsOptional};
 ghost use Rattle.sms_relay.specs.declared.fault.WrapFault.TheVariants.{DataTooLong};
 

@@ -2,7 +2,7 @@
 use Rattle.std.proofs.Common.{◌≡◌, ℕ, List, [], ◌++◌, length, Option, Some, None, Result, Ok, Err, Bool, refl, sym, ap, ◌∙◌, subst, inr}
 use Rattle.std.specs.Io.KnownBytes.{Appends}
 use Rattle.sms_script.proofs.PutLemmas.{Appends-both}
-use Rattle.sms_script.specs.Play.{Plays}
+use Rattle.sms_script.specs.Play.{Plays, Leaves}
 use Rattle.sms_script.specs.Play.Endings.{StopsUnbegun, PlaysToEnd}
 use Rattle.sms_script.specs.Play.Played.{Played, told, told_in_the_end}
 use Rattle.sms_script.specs.Play.Network.{Conduct}
@@ -10,7 +10,7 @@ use Rattle.sms_script.specs.Play.Puts.{Puts, IsPutOf, HasFailed}
 use Rattle.sms_script.specs.Play.Runs.{Starts, Ran}
 use Rattle.sms_script.specs.Script.{ScriptValue, script_of}
 use Rattle.sms_script.specs.Script.Settings.{SettingsValue}
-use Rattle.sms_script.specs.Play.Standing.{Follows, PlaysLines, OpensAt}
+use Rattle.sms_script.specs.Inside.Standing.{Follows, PlaysLines, OpensAt}
 use Rattle.sms_script.specs.declared.fault.PlayFault.{PlayFault}
 use Rattle.sms_script.specs.declared.fault.PlayFault.TheVariants as faults
 use Rattle.sms_script.specs.Lines.{lines}
@@ -49,41 +49,40 @@ pub end_phones : {N : Type 0} (net : Conduct N) (s : SettingsValue) (w : Option 
 end_phones net s w old new before now u h there =
     sym (end_there net (script_of (lines h.0)) s w h.4.0 u h.4.1.settings h.4.1.played h.4.1.follows there).1
 
--- the final lines, whatever came of them
-pub end_turn : {N : Type 0} (net : Conduct N) (s : SettingsValue) (w : Option N) (old new before now last : Option (List ℕ)) (u : N) (result : Result (Unit {0}) PlayFault) (failed : Bool)
-    → PlaysLines net old new s w before now (Ok tt) → OpensAt net s w u → Puts now last (told_in_the_end s (net.ends u)) result → HasFailed result failed
-    → Plays net old new before last result
-end_turn {N} net s w old new before now last u result failed h there puts fails = by_result result puts fails
-  where
-    t : ScriptValue
-    t = script_of (lines h.0)
+module _ {N : Type 0} (net : Conduct N) (s : SettingsValue) (w : Option N) (old new before now last : Option (List ℕ)) (u : N)
+    (h : PlaysLines net old new s w before now (Ok tt)) (there : OpensAt net s w u) where
+  played : Played net (script_of (lines h.0)) h.4.0 (Some u)
+  played = (end_there net (script_of (lines h.0)) s w h.4.0 u h.4.1.settings h.4.1.played h.4.1.follows there).0
 
-    hs : List Happened
-    hs = h.4.0
+  settings : s ≡ (script_of (lines h.0)).settings
+  settings = sym h.4.1.settings
 
-    played : Played net t hs (Some u)
-    played = (end_there net t s w hs u h.4.1.settings h.4.1.played h.4.1.follows there).0
+  end_told : (r : Result (Unit {0}) PlayFault) → Puts now last (told_in_the_end s (net.ends u)) r → PlaysToEnd net old new before last r
+  end_told r q = record {
+    read = h.0;
+    taken = h.2;
+    ended = h.3;
+    faultless = h.4.1.fault;
+    happened = h.4.0;
+    network = u;
+    played = played;
+    front = q.0;
+    told_is = subst (λ (y : SettingsValue). IsPutOf (told_in_the_end y (net.ends u)) q.0 r) settings q.1;
+    wrote = subst (λ (y : SettingsValue). Appends before last (told y h.4.0 ++ q.0)) settings (Appends-both before now last (told s h.4.0) q.0 h.4.1.wrote q.2);
+  }
 
-    settings : s ≡ t.settings
-    settings = sym h.4.1.settings
+  -- the final lines, whatever came of them
+  pub end_turn : (result : Result (Unit {0}) PlayFault) (failed : Bool) → Puts now last (told_in_the_end s (net.ends u)) result → HasFailed result failed
+      → Plays net old new before last result
+  end_turn (Ok done) failed q f = end_told (Ok done) q
+  end_turn (Err faults.Write) failed q f = inr (end_told (Err faults.Write) q)
+  end_turn (Err faults.Memory) failed q f = inr (inr (end_told (Err faults.Memory) q))
+  end_turn (Err faults.Read) failed q f = absurd f
+  end_turn (Err (faults.Script n why)) failed q f = absurd f
 
-    end_told : (r : Result (Unit {0}) PlayFault) → Puts now last (told_in_the_end s (net.ends u)) r → PlaysToEnd net old new before last r
-    end_told r q = record {
-      read = h.0;
-      taken = h.2;
-      ended = h.3;
-      faultless = h.4.1.fault;
-      happened = hs;
-      network = u;
-      played = played;
-      front = q.0;
-      told_is = subst (λ (y : SettingsValue). IsPutOf (told_in_the_end y (net.ends u)) q.0 r) settings q.1;
-      wrote = subst (λ (y : SettingsValue). Appends before last (told y hs ++ q.0)) settings (Appends-both before now last (told s hs) q.0 h.4.1.wrote q.2);
-    }
-
-    by_result : (r : Result (Unit {0}) PlayFault) → Puts now last (told_in_the_end s (net.ends u)) r → HasFailed r failed → Plays net old new before last r
-    by_result (Ok done) q f = end_told (Ok done) q
-    by_result (Err faults.Write) q f = inr (end_told (Err faults.Write) q)
-    by_result (Err faults.Memory) q f = inr (inr (end_told (Err faults.Memory) q))
-    by_result (Err faults.Read) q f = absurd f
-    by_result (Err (faults.Script n why)) q f = absurd f
+  -- what is left where all was played
+  pub end_left : (result : Result (Unit {0}) PlayFault) → Puts now last (told_in_the_end s (net.ends u)) result
+      → Leaves net old new before last s (Some u) result
+  unfolding end_told
+  end_left (Ok done) q = (end_told (Ok done) q, settings, refl)
+  end_left (Err fault) q = tt

@@ -4,8 +4,8 @@ use Rattle.std.specs.List.{list_any}
 use Rattle.std.specs.Prelude.{nat_lt, nat_le, IfOk}
 use Rattle.std.specs.Str.{bytes_eq}
 use Rattle.std.proofs.lemmas.Bool.{ltb-true, leb-true}
-use Rattle.sms_field.specs.AddressValue.{AddressValue}
-use Rattle.sms_field.specs.SameAddress.{same_address}
+use Rattle.sms_field.specs.Address.Value.{AddressValue}
+use Rattle.sms_field.specs.Address.Same.{same_address}
 use Rattle.sms_script.specs.Meaning.{phone, new_name, new_address, limit, new_phone, said, event_number, one_phone, said_by_words, last_second, Fits}
 use Rattle.sms_script.specs.Meaning.Commands.{command, is_setting}
 use Rattle.sms_script.specs.Meaning.Known.{KnownValue, phone_limit}

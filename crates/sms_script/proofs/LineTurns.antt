@@ -7,14 +7,14 @@ use Rattle.sms_script.proofs.PutLemmas.{Appends-both, puts_all}
 use Rattle.sms_script.proofs.RunLemmas.{lines_more, event_lines_more}
 use Rattle.sms_script.proofs.RunningLemmas.{IsNoSetting, running_says}
 use Rattle.sms_script.proofs.Turns.{with_statement, with_line-says, with_fault, with_line-fails}
-use Rattle.sms_script.specs.Play.Events.{TakesEvent}
+use Rattle.sms_script.specs.Inside.Events.{TakesEvent}
 use Rattle.sms_script.specs.Lines.{line_limit}
 use Rattle.sms_script.specs.Play.Played.{Played, told}
 use Rattle.sms_script.specs.Play.Network.{Conduct}
 use Rattle.sms_script.specs.Play.Puts.{Puts, PutsAtOnce, HasFailed}
 use Rattle.sms_script.specs.Script.{ScriptValue, TakesLine, no_lines, script_of, after, event_of, line_meaning, lines_limit}
 use Rattle.sms_script.specs.Script.Settings.{SettingsValue}
-use Rattle.sms_script.specs.Play.Standing.{put_count, Follows, Stands, at, BreaksOff, GoesOn, OpensAt}
+use Rattle.sms_script.specs.Inside.Standing.{put_count, Follows, Stands, at, BreaksOff, GoesOn, OpensAt}
 use Rattle.sms_script.specs.declared.fault.PlayFault.{PlayFault}
 use Rattle.sms_script.specs.declared.fault.PlayFault.TheVariants as faults
 use Rattle.sms_script.specs.Meaning.{meaning}

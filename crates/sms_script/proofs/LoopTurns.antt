@@ -12,8 +12,8 @@ use Rattle.sms_script.specs.Play.{Stops}
 use Rattle.sms_script.specs.Play.Endings.{IsFedLine, IsOneLine, IsPartOfLine, IsNextLine, IsCutOff, IsUnplayed, StopsInLine}
 use Rattle.sms_script.specs.Play.Played.{Played, LinesPlayed, told, told_of}
 use Rattle.sms_script.specs.Play.Network.{Conduct}
-use Rattle.sms_script.specs.Play.NextLine.{TakesNext, TakesWrong}
-use Rattle.sms_script.specs.Play.Standing.{Stands, At, at, StandsAt, GoesOn, PlaysLines}
+use Rattle.sms_script.specs.Inside.NextLine.{TakesNext, TakesWrong}
+use Rattle.sms_script.specs.Inside.Standing.{Stands, At, at, StandsAt, GoesOn, PlaysLines}
 use Rattle.sms_script.specs.Script.{script_of, before_all, line_meaning, lines_limit}
 use Rattle.sms_script.specs.Script.Settings.{SettingsValue}
 use Rattle.sms_script.specs.Transcript.{event_lines}

@@ -6,7 +6,7 @@ use Rattle.std.specs.List.{slice_get}
 use Rattle.std.specs.Io.KnownBytes.{Appends}
 use Rattle.sms_script.proofs.PacketLemmas.{drop-there}
 use Rattle.sms_script.specs.Meaning.Known.{name_of}
-use Rattle.sms_field.specs.AddressText.{address_text}
+use Rattle.sms_field.specs.Address.Text.{address_text}
 use Rattle.sms_script.proofs.LineLemmas.{EndsLine-front, AreLines-append}
 use Rattle.sms_script.specs.Lines.{EndsLine, AreLines}
 use Rattle.sms_script.specs.Play.Puts.{Puts, PutsAtOnce, IsFrontOf}

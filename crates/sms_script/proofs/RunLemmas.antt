@@ -4,7 +4,7 @@ use Rattle.sms_script.specs.Play.Network.{Conduct}
 use Rattle.sms_script.specs.Play.Runs.{Ran}
 use Rattle.sms_script.specs.Script.{ScriptValue, with_line, with_lines, after}
 use Rattle.sms_script.specs.Script.Settings.{SettingsValue}
-use Rattle.sms_script.specs.Play.Standing.{put_count}
+use Rattle.sms_script.specs.Inside.Standing.{put_count}
 use Rattle.sms_script.specs.declared.meaning.event.Event.{Event}
 use Rattle.sms_script.specs.declared.meaning.statement.Statement.{Statement}
 use Rattle.sms_script.specs.declared.meaning.statement.Statement.TheVariants as statements

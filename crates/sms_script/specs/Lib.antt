@@ -6,3 +6,4 @@ pub mod Meaning
 pub mod Script
 pub mod Transcript
 pub mod Play
+pub mod Inside

@@ -4,12 +4,12 @@ pub mod Runs
 pub mod Played
 pub mod Puts
 pub mod Endings
-pub mod Events
-pub mod NextLine
-pub mod Standing
-use Rattle.std.specs.Prelude.{ℕ, ◌⊎◌, List, Option, Result, Ok, Err}
+use Rattle.std.specs.Prelude.{◌≡◌, ℕ, ◌⊎◌, List, Option, Some, Result, Ok, Err}
+use Rattle.sms_script.specs.Lines.{lines}
 use Rattle.sms_script.specs.Play.Endings.{StopsInLine, StopsInEvent, StopsUnbegun, PlaysToEnd}
 use Rattle.sms_script.specs.Play.Network.{Conduct}
+use Rattle.sms_script.specs.Script.{script_of}
+use Rattle.sms_script.specs.Script.Settings.{SettingsValue}
 use Rattle.sms_script.specs.declared.fault.PlayFault.{PlayFault}
 use Rattle.sms_script.specs.declared.fault.PlayFault.TheVariants as faults
 
@@ -31,3 +31,13 @@ Plays c old new before now (Err faults.Memory) =
     StopsInLine c old new before now faults.Memory ⊎ StopsUnbegun old new before now
     ⊎ PlaysToEnd c old new before now (Err faults.Memory)
 Plays c old new before now (Err fault) = StopsInLine c old new before now fault
+
+-- Where all was played, this is what the lines have set, and this is the network in the end, the
+-- one that was played on.
+abbrev pub Leaves : {N : Type 0} → Conduct N
+    → (old new before now : Option (List ℕ)) → SettingsValue → Option N
+    → Result (Unit {0}) PlayFault → Type 0
+Leaves c old new before now s network (Ok done) =
+    (p : PlaysToEnd c old new before now (Ok done))
+    × (s ≡ (script_of (lines p.read)).settings) × (network ≡ Some p.network)
+Leaves c old new before now s network (Err fault) = Unit {0}

@@ -15,7 +15,7 @@ pub use devices::{DeviceFailed, Sink, Source, Watched, next_octet, write_whole};
 pub use fault::{MeaningFault, PlayFault, ScriptFault};
 pub use lines::{LINE_LIMIT, LineEnd, LineFault, read_line};
 pub use meaning::{Command, Event, Known, Limit, PHONE_LIMIT, Phone, Statement, Text, meaning_of};
-pub use playing::{Network, Next, play};
+pub use playing::{Network, Next, play, play_on};
 pub use script::{Limits, Script};
 pub use sms_field::Octets;
 pub use transcript::{Entry, Escape, Packet};

@@ -9,8 +9,8 @@ mod next_line;
 mod put;
 mod start;
 
-ghost use Rattle.std.specs.Prelude.{◌≡◌, ◌≢◌, Err, true, false};
-ghost use Rattle.sms_script.specs.Play.{Plays};
+ghost use Rattle.std.specs.Prelude.{◌≡◌, ◌≢◌, None, Err, true, false};
+ghost use Rattle.sms_script.specs.Play.{Plays, Leaves};
 ghost use Rattle.sms_script.specs.Script.{before_all};
 ghost use Rattle.sms_script.specs.declared.fault.PlayFault.TheVariants.{Read, Write};
 
@@ -24,30 +24,39 @@ pub use network::Network;
 pub use next_line::Next;
 use std::alloc::Global;
 
-/// Plays the script that a source gives, of which no line is taken yet, and writes its transcript
-/// into a sink.
-fn play_script<N: Network, S: Source, K: Sink>(
+/// Plays the script that a source gives, and writes its transcript into a sink: as `play`, which
+/// calls it. No line of the script is taken yet, and there is no network. Where all is played, the
+/// script is left with what its lines have said, and the network as it stands in the end.
+pub fn play_on<N: Network, S: Source, K: Sink>(
     alloc: Global,
     source: &mut S,
     script: &mut Script,
+    network: &mut Option<N>,
     sink: &mut K,
 ) -> Result<(), PlayFault>
     requires reads { S.has_failed source.old ≡ false }
     requires begins { S.has_ended source.old ≡ false }
     requires writes { K.has_failed sink.old ≡ false }
     requires script { script.old ≡ before_all }
+    requires network { network.old ≡ None }
     ensures plays { let left = S.remaining source.old in
         let now_left = S.remaining source.new in
         Plays N.conduct left now_left (K.contents sink.old) (K.contents sink.new) result }
+    ensures leaves { let left = S.remaining source.old in
+        let now_left = S.remaining source.new in
+        let had = K.contents sink.old in
+        let has = K.contents sink.new in
+        Leaves N.conduct left now_left had has script.new network.new result }
     ensures read_fails { result ≡ Err Read → S.has_failed source.new ≡ true }
     ensures read_works { result ≢ Err Read → S.has_failed source.new ≡ false }
     ensures write_fails { result ≡ Err Write → K.has_failed sink.new ≡ true }
     ensures write_works { result ≢ Err Write → K.has_failed sink.new ≡ false }
 {
-    let mut network: Option<N> = None;
-    play_lines(alloc, source, script, &mut network, sink)?;
-    let network = started(alloc, script, network)?;
-    put_phones(alloc, script, &network, sink)
+    play_lines(alloc, source, script, network, sink)?;
+    let last = started(alloc, script, network.take())?;
+    let put = put_phones(alloc, script, &last, sink);
+    *network = Some(last);
+    put
 }
 
 /// Plays the script that a source gives, and writes its transcript into a sink.
@@ -72,5 +81,6 @@ pub fn play<N: Network, S: Source, K: Sink>(
     ensures write_works { result ≢ Err Write → K.has_failed sink.new ≡ false }
 {
     let mut script = Script::new(alloc);
-    play_script::<N, S, K>(alloc, source, &mut script, sink)
+    let mut network: Option<N> = None;
+    play_on::<N, S, K>(alloc, source, &mut script, &mut network, sink)
 }

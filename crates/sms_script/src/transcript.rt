@@ -5,7 +5,7 @@ mod escapes;
 ghost use Rattle.std.specs.Prelude.{◌≡◌, ◌++◌, IfOk, OnOk, codes};
 ghost use Rattle.std.specs.String.{string_bytes};
 ghost use Rattle.std.specs.Str.{encode_utf8_all};
-ghost use Rattle.sms_field.specs.AddressText.{address_text};
+ghost use Rattle.sms_field.specs.Address.Text.{address_text};
 ghost use Rattle.sms_script.specs.Transcript.Appended.{◌⊕◌};
 ghost use Rattle.sms_script.specs.Transcript.Escapes.{escaped};
 ghost use Rattle.sms_script.specs.Transcript.Lines.{event_line, packet_line, sent_line, store_line, entry_line, octets_text, line_end};

@@ -3,8 +3,8 @@ use Rattle.std.proofs.Common.{◌≡◌, ℕ, zero, suc, ◌+◌, ◌*◌, ◌/�
 use Rattle.std.proofs.Math.Seq.{drop-nil}
 use Rattle.std.proofs.lemmas.List.{drop-drop, drop_at}
 use Rattle.sms_text.specs.Bits.{bits, from_bits, octet_bits, septets_of}
-use Rattle.sms_text.specs.Words.{low_octets, low_septets}
-use Rattle.sms_text.specs.PackingLaws.{length-bits}
+use Rattle.sms_text.specs.Inside.Words.{low_octets, low_septets}
+use Rattle.sms_text.specs.Inside.PackingLaws.{length-bits}
 use Rattle.sms_text.proofs.Words.{cut_last}
 
 -- the bits after as many octets as given

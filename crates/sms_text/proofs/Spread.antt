@@ -8,7 +8,7 @@ use Rattle.std.specs.Int.{to_le_bytes, from_le_bytes}
 use Rattle.std.specs.Int.Bits.{bit_and}
 use Rattle.std.proofs.lemmas.Nat.{and_mask, and_block, le_bytes_8}
 use Rattle.sms_text.specs.Bits.{AreSeptets}
-use Rattle.sms_text.specs.Words.{low_octets, low_septets}
+use Rattle.sms_text.specs.Inside.Words.{low_octets, low_septets}
 use Rattle.sms_text.proofs.Words.{low_octets-cons, low_septets-cons}
 
 -- ---- masks, a part of the word at a time

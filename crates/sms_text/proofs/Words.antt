@@ -8,9 +8,9 @@ use Rattle.std.proofs.lemmas.Grind.{flat_map-append}
 use Rattle.std.proofs.Math.Nat.{pow-le-pow_right}
 use Rattle.sms_text.specs.Bits.{bits, from_bits, octet_bits, septet_bits, septets_of, AreSeptets, PackedPlain}
 use Rattle.sms_text.specs.Octets.{IsOctets}
-use Rattle.sms_text.specs.Words.{low_octets, low_septets}
+use Rattle.sms_text.specs.Inside.Words.{low_octets, low_septets}
 use Rattle.sms_text.proofs.BitLists.{bits-of_zero, bits-more, doubled, low_same, high_more}
-use Rattle.sms_text.specs.PackingLaws.{length-bits, from_bits-bits, length-octet_bits, octet_bits-cons, septet_bits-cons}
+use Rattle.sms_text.specs.Inside.PackingLaws.{length-bits, from_bits-bits, length-octet_bits, octet_bits-cons, septet_bits-cons}
 
 -- ---- the bits of a word in two parts
 

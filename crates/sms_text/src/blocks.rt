@@ -2,7 +2,7 @@
 
 ghost use Rattle.std.specs.Prelude.{◌≡◌, ◌+◌, ◌*◌, ◌/◌, ◌%◌};
 ghost use Rattle.sms_text.specs.Bits.{AreSeptets};
-ghost use Rattle.sms_text.specs.Words.{low_octets, low_septets};
+ghost use Rattle.sms_text.specs.Inside.Words.{low_octets, low_septets};
 
 /// The lowest seven bits of the octets 0, 2, 4 and 6.
 fn low_of_pairs(word: u64) -> u64

@@ -1,12 +1,12 @@
 //! Texts written into octets that are there.
 
 ghost use Rattle.std.specs.Prelude.{◌≡◌, ◌≤◌, ◌+◌, ◌*◌, ◌/◌, ◌<◌, ◌++◌, length, take, MatchOption, IfOk, IfSome, []};
-ghost use Rattle.sms_text.specs.Same.{AreSame};
+ghost use Rattle.sms_text.specs.Inside.Same.{AreSame};
 ghost use Rattle.std.specs.Str.{chars, encode_utf8_all, IsUtf8};
 ghost use Rattle.std.specs.String.{string_bytes};
 ghost use Rattle.sms_text.specs.Bits.{AreSeptets, unpacked};
-ghost use Rattle.sms_text.specs.Words.{low_octets};
-ghost use Rattle.sms_text.specs.Spelled.{StartsText};
+ghost use Rattle.sms_text.specs.Inside.Words.{low_octets};
+ghost use Rattle.sms_text.specs.Inside.Spelled.{StartsText};
 ghost use Rattle.sms_text.specs.TextOfSeptets.{text_of_septets};
 
 use crate::alphabet::{all_same, are_same};

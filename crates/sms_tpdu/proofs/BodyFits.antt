@@ -1,12 +1,13 @@
 -- A body that is read goes with its alphabet.
 use Rattle.std.proofs.Common.{◌≡◌, ℕ, ◌+◌, ◌-◌, ◌≤◌, ◌<◌, List, length, refl, sym, ap, subst, arith}
 use Rattle.sms_text.specs.Bits.{unpacked}
-use Rattle.sms_text.specs.PackingLaws.{unpacked_septets}
+use Rattle.sms_text.specs.Inside.PackingLaws.{unpacked_septets}
 use Rattle.sms_text.specs.Octets.{IsOctets}
 use Rattle.sms_field.specs.declared.coding.Alphabet.{Alphabet}
 use Rattle.sms_field.specs.declared.coding.Alphabet.TheVariants.{Gsm7, EightBit, Ucs2, Compressed}
 use Rattle.sms_tpdu.specs.UserData.Lengths.{greatest_length, octets_of_length, length_of_header, fill_bits}
 use Rattle.sms_tpdu.specs.UserData.{BodyFits, body_of, data_length}
+use Rattle.sms_tpdu.specs.UserData.Spans.{body_count}
 use Rattle.sms_tpdu.specs.declared.user_data.body.Body.TheVariants as body
 
 pub septets_fit : (taken fill count number : ℕ) (octets septets : List ℕ) → length_of_header Gsm7 taken ≤ count → count ≤ 160 → number ≡ count - length_of_header Gsm7 taken → septets ≡ unpacked fill number octets → BodyFits Gsm7 taken (body.Septets septets)
@@ -46,3 +47,10 @@ length_is Gsm7 taken count octets room len = omega (arith, (unpacked_septets (fi
 length_is EightBit taken count octets room len = omega (arith, room, len)
 length_is Ucs2 taken count octets room len = omega (arith, room, len)
 length_is Compressed taken count octets room len = omega (arith, room, len)
+
+-- and as many septets or octets as are left after the header
+pub count_is : (alphabet : Alphabet) (taken count : ℕ) (octets : List ℕ) → length octets ≡ octets_of_length alphabet count - taken → body_count (body_of alphabet taken count octets) ≡ count - length_of_header alphabet taken
+count_is Gsm7 taken count octets len = (unpacked_septets (fill_bits taken) (count - length_of_header Gsm7 taken) octets).1
+count_is EightBit taken count octets len = len
+count_is Ucs2 taken count octets len = len
+count_is Compressed taken count octets len = len

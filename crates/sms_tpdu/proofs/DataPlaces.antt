@@ -2,27 +2,27 @@
 use Rattle.std.proofs.Common.{◌≡◌, ℕ, Bool, true, false, List, [], ◌∷◌, ◌++◌, length, drop, Option, inl, inr, refl, sym, ap, subst, ◌∙◌, append_assoc}
 use Rattle.std.proofs.lemmas.List.{append-nil, drop_at}
 use Rattle.sms_field.specs.Address.{address}
-use Rattle.sms_field.specs.AddressLaws.{address_self}
-use Rattle.sms_field.specs.AddressValue.{AddressValue}
-use Rattle.sms_field.specs.Lies.{LiesAt, TakesOctets, lies_at}
-use Rattle.sms_field.specs.Optional.{part_if}
+use Rattle.sms_field.specs.Inside.AddressLaws.{address_self}
+use Rattle.sms_field.specs.Address.Value.{AddressValue}
+use Rattle.sms_field.specs.Reading.Lies.{LiesAt, TakesOctets}
+use Rattle.sms_field.specs.Inside.Lies.{lies_at}
+use Rattle.sms_field.specs.Field.Optional.{part_if}
 use Rattle.sms_field.specs.Reading.{Reads}
 use Rattle.sms_field.specs.declared.coding.Alphabet.{Alphabet}
 use Rattle.sms_field.specs.declared.span.Span.{Span}
 use Rattle.sms_tpdu.specs.Command.{CommandValue, command}
 use Rattle.sms_tpdu.specs.Command.Spans.{CommandLies}
 use Rattle.sms_tpdu.specs.DataSpans.{DataLie, DataLieIf, data_before, data_before_if}
-use Rattle.sms_tpdu.specs.DataSpans.Laws.{EndsWith, after, data_lie, DataEnd, after_data, data_lie_if}
-use Rattle.sms_tpdu.specs.Report.{Parts, parts, report_data}
-use Rattle.sms_tpdu.specs.Report.DeliverAck.{DeliverAckValue, deliver_ack}
-use Rattle.sms_tpdu.specs.Report.DeliverError.{DeliverErrorValue, deliver_error}
+use Rattle.sms_tpdu.specs.Inside.DataSpansLaws.{EndsWith, after, data_lie, DataEnd, after_data, data_lie_if}
+use Rattle.sms_tpdu.specs.Report.AnnouncedParts.{Parts, parts, report_data}
+use Rattle.sms_tpdu.specs.Report.Octet.{FirstOctet}
+use Rattle.sms_tpdu.specs.Report.Kind.{KindPart}
+use Rattle.sms_tpdu.specs.Report.{ReportValue, report}
 use Rattle.sms_tpdu.specs.Report.Indicated.{indicated_parts, optional_parts}
-use Rattle.sms_tpdu.specs.Report.SubmitAck.{SubmitAckValue, submit_ack}
-use Rattle.sms_tpdu.specs.Report.SubmitError.{SubmitErrorValue, submit_error}
 use Rattle.sms_tpdu.specs.StatusReport.{StatusReportValue, status_report}
 use Rattle.sms_tpdu.specs.StatusReport.Spans.{StatusReportLies}
 use Rattle.sms_tpdu.specs.declared.command.spans.CommandSpans.{CommandSpans}
-use Rattle.sms_tpdu.specs.declared.report.ReportData.{ReportData}
+use Rattle.sms_tpdu.specs.declared.report.parts.ReportData.{ReportData}
 use Rattle.sms_tpdu.specs.declared.report.indicator.Indicator.{Indicator}
 use Rattle.sms_tpdu.specs.declared.status_report.spans.StatusReportSpans.{StatusReportSpans}
 
@@ -104,47 +104,15 @@ last_parts there those user front back octets rest parts none same r =
 
 -- ---- reports
 
-pub deliver_ack_lies : (x : DeliverAckValue) (input : List ℕ) (used : ℕ) → Reads deliver_ack x input used → DataLieIf x.has_header x.user input used (data_before_if used x.has_header x.user)
-unfolding deliver_ack
-deliver_ack_lies x input used r =
-    let o = r.read in
-    let p = o.of_second in
-    let q = p.of_second in
-    let last : DataEnd x.user p.back = last_parts p.choice q.choice x.user q.front q.back p.back r.rest q.parts q.of_second.1 (ap (λ (y : DeliverAckValue). y.user) q.of_second.0) q.of_first in
-    let e : DataEnd x.user r.octets = after_data x.user o.front o.back r.octets o.parts (after_data x.user p.front p.back o.back p.parts last) in
-    data_lie_if x.has_header x.user r.octets r.rest input used r.parts r.used_is e
-
-pub deliver_error_lies : (x : DeliverErrorValue) (input : List ℕ) (used : ℕ) → Reads deliver_error x input used → DataLieIf x.has_header x.user input used (data_before_if used x.has_header x.user)
-unfolding deliver_error
-deliver_error_lies x input used r =
-    let o = r.read in
-    let m = o.of_second in
-    let p = m.of_second in
-    let q = p.of_second in
-    let last : DataEnd x.user p.back = last_parts p.choice q.choice x.user q.front q.back p.back r.rest q.parts q.of_second.1 (ap (λ (y : DeliverErrorValue). y.user) q.of_second.0) q.of_first in
-    let e : DataEnd x.user r.octets = after_data x.user o.front o.back r.octets o.parts (after_data x.user m.front m.back o.back m.parts (after_data x.user p.front p.back m.back p.parts last)) in
-    data_lie_if x.has_header x.user r.octets r.rest input used r.parts r.used_is e
-
-pub submit_ack_lies : (x : SubmitAckValue) (input : List ℕ) (used : ℕ) → Reads submit_ack x input used → DataLieIf x.has_header x.user input used (data_before_if used x.has_header x.user)
-unfolding submit_ack
-submit_ack_lies x input used r =
-    let o = r.read in
-    let m = o.of_second in
-    let p = m.of_second in
-    let q = p.of_second in
-    let last : DataEnd x.user p.back = last_parts m.choice q.choice x.user q.front q.back p.back r.rest q.parts q.of_second.1 (ap (λ (y : SubmitAckValue). y.user) q.of_second.0) q.of_first in
-    let e : DataEnd x.user r.octets = after_data x.user o.front o.back r.octets o.parts (after_data x.user m.front m.back o.back m.parts (after_data x.user p.front p.back m.back p.parts last)) in
-    data_lie_if x.has_header x.user r.octets r.rest input used r.parts r.used_is e
-
-pub submit_error_lies : (x : SubmitErrorValue) (input : List ℕ) (used : ℕ) → Reads submit_error x input used → DataLieIf x.has_header x.user input used (data_before_if used x.has_header x.user)
-unfolding submit_error
-submit_error_lies x input used r =
+pub report_lies : {C S : Type 0} (first : FirstOctet) (cause : KindPart C) (stamp : KindPart S) (x : ReportValue C S) (input : List ℕ) (used : ℕ) → Reads (report first cause stamp) x input used → DataLieIf x.has_header x.user input used (data_before_if used x.has_header x.user)
+unfolding report
+report_lies {C} {S} first cause stamp x input used r =
     let o = r.read in
     let k = o.of_second in
     let m = k.of_second in
     let p = m.of_second in
     let q = p.of_second in
-    let last : DataEnd x.user p.back = last_parts m.choice q.choice x.user q.front q.back p.back r.rest q.parts q.of_second.1 (ap (λ (y : SubmitErrorValue). y.user) q.of_second.0) q.of_first in
+    let last : DataEnd x.user p.back = last_parts m.choice q.choice x.user q.front q.back p.back r.rest q.parts q.of_second.1 (ap (λ (y : ReportValue C S). y.user) q.of_second.0) q.of_first in
     let e : DataEnd x.user r.octets = after_data x.user o.front o.back r.octets o.parts (after_data x.user k.front k.back o.back k.parts (after_data x.user m.front m.back k.back m.parts (after_data x.user p.front p.back m.back p.parts last))) in
     data_lie_if x.has_header x.user r.octets r.rest input used r.parts r.used_is e
 

@@ -4,8 +4,8 @@ use Rattle.sms_field.specs.Address.{address}
 use Rattle.sms_field.specs.Bit.{bit}
 use Rattle.sms_field.specs.Coding.{alphabet_at}
 use Rattle.sms_field.specs.Field.{octet, map_reason, up_to}
-use Rattle.sms_field.specs.OneRefusal.{HasOneReason, ReadsOneWay, IsKnown}
-use Rattle.sms_field.specs.OneRefusalLaws.{one_way_always, one_way_octet, one_way_by, one_way_octets, one_way_chain, one_way_part, one_way_address, one_reason_by, one_reason_octet, one_reason_octets, one_reason_map_reason, one_reason_mapped, one_reason_chain, one_reason_part, one_reason_address, one_refusal}
+use Rattle.sms_field.specs.Inside.OneReason.{HasOneReason, ReadsOneWay, IsKnown}
+use Rattle.sms_field.specs.Inside.OneRefusalLaws.{one_way_always, one_way_octet, one_way_by, one_way_octets, one_way_chain, one_way_part, one_way_address, one_reason_by, one_reason_octet, one_reason_octets, one_reason_map_reason, one_reason_mapped, one_reason_chain, one_reason_part, one_reason_address, one_refusal}
 use Rattle.sms_field.specs.declared.coding.Alphabet.{Alphabet}
 use Rattle.sms_tpdu.specs.Refusals.{IsRefusedOnce}
 use Rattle.sms_tpdu.specs.Fault.{unit_fault}
@@ -17,14 +17,12 @@ use Rattle.sms_tpdu.specs.Submit.ValidityPeriod.{validity}
 use Rattle.sms_tpdu.specs.UserData.{user_data, length_with_header, header_length}
 use Rattle.sms_tpdu.specs.UserData.Header.{header}
 use Rattle.sms_tpdu.specs.UserData.Lengths.{greatest_length, octets_of_length}
-use Rattle.sms_tpdu.specs.Report.{report_length, report_data, report_alphabet, parts}
-use Rattle.sms_tpdu.specs.Report.Octet.{submit_report, deliver_report}
+use Rattle.sms_tpdu.specs.Report.AnnouncedParts.{report_length, report_data, report_alphabet, parts}
+use Rattle.sms_tpdu.specs.Report.Octet.{FirstOctet, on_submission, on_delivery}
+use Rattle.sms_tpdu.specs.Report.Kind.{KindPart, no_part, failure_cause, centre_stamp}
 use Rattle.sms_tpdu.specs.Report.ParameterIndicator.{AreFurther, further, indicator}
-use Rattle.sms_tpdu.specs.Report.SubmitAck.{submit_ack}
-use Rattle.sms_tpdu.specs.Report.SubmitError.{submit_error}
-use Rattle.sms_tpdu.specs.Report.DeliverAck.{deliver_ack}
-use Rattle.sms_tpdu.specs.Report.DeliverError.{deliver_error}
-use Rattle.sms_tpdu.specs.IfMoreLaws.{one_reason_if_more}
+use Rattle.sms_tpdu.specs.Report.{report, deliver_ack, deliver_error, submit_ack, submit_error}
+use Rattle.sms_tpdu.specs.Inside.IfMoreLaws.{one_reason_if_more}
 use Rattle.sms_tpdu.specs.Report.Indicated.{indicated_parts, no_parts, optional_parts}
 use Rattle.sms_tpdu.specs.StatusReport.{status_report, report_of}
 use Rattle.sms_tpdu.specs.StatusReport.Flags.{status_report_flags}
@@ -156,37 +154,32 @@ one_reason_parts there =
     one_reason_chain _ _ (one_way_part there.user (report_data (report_alphabet dcs)) (one_way_data (report_alphabet dcs))) (one_reason_part there.user (report_data (report_alphabet dcs)) (one_way_data (report_alphabet dcs)) (one_reason_data (report_alphabet dcs))) (λ user.
     λ f o w b p q. absurd p)))
 
-one_reason_submit_ack : HasOneReason submit_ack
-unfolding submit_ack
-one_reason_submit_ack =
-    one_reason_chain _ _ (one_way_by Short submit_report) (one_reason_by Short submit_report) (λ with_header.
+one_reason_report : {C S : Type 0} (first : FirstOctet) (cause : KindPart C) (stamp : KindPart S) → ReadsOneWay cause.field → HasOneReason cause.field → ReadsOneWay stamp.field → HasOneReason stamp.field → HasOneReason (report first cause stamp)
+unfolding report
+one_reason_report first cause stamp cause_way cause_reason stamp_way stamp_reason =
+    one_reason_chain _ _ (one_way_by Short first.meaning) (one_reason_by Short first.meaning) (λ with_header.
+    one_reason_chain _ _ cause_way cause_reason (λ why.
     one_reason_chain _ _ one_way_indicator one_reason_indicator (λ there.
-    one_reason_chain _ _ (one_way_octets Short 7) (one_reason_octets Short 7) (λ stamp.
-    one_reason_chain _ _ (one_way_parts there) (one_reason_parts there) (λ those. λ f o w b p q. absurd p))))
-
-one_reason_submit_error : HasOneReason submit_error
-unfolding submit_error
-one_reason_submit_error =
-    one_reason_chain _ _ (one_way_by Short submit_report) (one_reason_by Short submit_report) (λ with_header.
-    one_reason_chain _ _ (one_way_octet Short) (one_reason_octet Short) (λ cause.
-    one_reason_chain _ _ one_way_indicator one_reason_indicator (λ there.
-    one_reason_chain _ _ (one_way_octets Short 7) (one_reason_octets Short 7) (λ stamp.
+    one_reason_chain _ _ stamp_way stamp_reason (λ time.
     one_reason_chain _ _ (one_way_parts there) (one_reason_parts there) (λ those. λ f o w b p q. absurd p)))))
 
+one_way_no_part : ReadsOneWay no_part.field
+one_way_no_part = one_way_always UnitFault tt
+
+one_reason_no_part : HasOneReason no_part.field
+one_reason_no_part f o w b p q = absurd p
+
+one_reason_submit_ack : HasOneReason submit_ack
+one_reason_submit_ack = one_reason_report on_submission no_part centre_stamp one_way_no_part one_reason_no_part (one_way_octets Short 7) (one_reason_octets Short 7)
+
+one_reason_submit_error : HasOneReason submit_error
+one_reason_submit_error = one_reason_report on_submission failure_cause centre_stamp (one_way_octet Short) (one_reason_octet Short) (one_way_octets Short 7) (one_reason_octets Short 7)
+
 one_reason_deliver_ack : HasOneReason deliver_ack
-unfolding deliver_ack
-one_reason_deliver_ack =
-    one_reason_chain _ _ (one_way_by Short deliver_report) (one_reason_by Short deliver_report) (λ with_header.
-    one_reason_chain _ _ one_way_indicator one_reason_indicator (λ there.
-    one_reason_chain _ _ (one_way_parts there) (one_reason_parts there) (λ those. λ f o w b p q. absurd p)))
+one_reason_deliver_ack = one_reason_report on_delivery no_part no_part one_way_no_part one_reason_no_part one_way_no_part one_reason_no_part
 
 one_reason_deliver_error : HasOneReason deliver_error
-unfolding deliver_error
-one_reason_deliver_error =
-    one_reason_chain _ _ (one_way_by Short deliver_report) (one_reason_by Short deliver_report) (λ with_header.
-    one_reason_chain _ _ (one_way_octet Short) (one_reason_octet Short) (λ cause.
-    one_reason_chain _ _ one_way_indicator one_reason_indicator (λ there.
-    one_reason_chain _ _ (one_way_parts there) (one_reason_parts there) (λ those. λ f o w b p q. absurd p))))
+one_reason_deliver_error = one_reason_report on_delivery failure_cause no_part (one_way_octet Short) (one_reason_octet Short) one_way_no_part one_reason_no_part
 
 one_reason_optional_parts : HasOneReason optional_parts
 unfolding indicated_parts

@@ -4,21 +4,20 @@ use Rattle.std.specs.Prelude.{IfSome}
 use Rattle.std.proofs.lemmas.Bool.{leb-true}
 use Rattle.sms_text.specs.Octets.{IsOctets}
 use Rattle.sms_field.specs.Field.{octet, octet_by, octets_of}
-use Rattle.sms_field.specs.AddressValue.{HasSpelling}
+use Rattle.sms_field.specs.Address.Value.{HasSpelling}
 use Rattle.sms_field.specs.Coding.{alphabet_at}
-use Rattle.sms_field.specs.ReadAddressLaws.{has_octet, has_stamp, has_up_to, has_address}
-use Rattle.sms_field.specs.ReadValues.{Has, Any}
-use Rattle.sms_field.specs.ReadValueLaws.{has_chain, has_mapped, has_part}
-use Rattle.sms_field.specs.Stamp.{IsStamp}
+use Rattle.sms_field.specs.Inside.ReadAddressLaws.{has_octet, has_stamp, has_up_to, has_address}
+use Rattle.sms_field.specs.Reading.Values.{Has, Any}
+use Rattle.sms_field.specs.Inside.ReadValueLaws.{has_chain, has_mapped, has_part}
+use Rattle.sms_field.specs.Time.Stamp.{IsStamp}
 use Rattle.sms_field.specs.declared.coding.Alphabet.{Alphabet}
 use Rattle.sms_field.specs.declared.coding.Alphabet.TheVariants.{Gsm7, EightBit, Ucs2, Compressed}
 use Rattle.sms_tpdu.specs.Deliver.{deliver, IsDeliverable}
-use Rattle.sms_tpdu.specs.Report.{report_length, report_data, IsReportData, report_alphabet, parts, AreParts}
-use Rattle.sms_tpdu.specs.Report.DeliverAck.{deliver_ack, IsDeliverAck}
-use Rattle.sms_tpdu.specs.Report.DeliverError.{deliver_error, IsDeliverError}
-use Rattle.sms_tpdu.specs.Report.SubmitAck.{submit_ack, IsSubmitAck}
-use Rattle.sms_tpdu.specs.Report.SubmitError.{submit_error, IsSubmitError}
-use Rattle.sms_tpdu.specs.IfMoreLaws.{has_if_more}
+use Rattle.sms_tpdu.specs.Report.Octet.{FirstOctet, on_submission, on_delivery}
+use Rattle.sms_tpdu.specs.Report.Kind.{KindPart, no_part, failure_cause, centre_stamp}
+use Rattle.sms_tpdu.specs.Report.AnnouncedParts.{report_length, report_data, IsReportData, report_alphabet, parts, AreParts}
+use Rattle.sms_tpdu.specs.Report.{report, IsReport, deliver_ack, deliver_error, submit_ack, submit_error, IsDeliverAck, IsDeliverError, IsSubmitAck, IsSubmitError}
+use Rattle.sms_tpdu.specs.Inside.IfMoreLaws.{has_if_more}
 use Rattle.sms_tpdu.specs.Report.Indicated.{indicated_parts, no_parts, optional_parts}
 use Rattle.sms_tpdu.specs.StatusReport.{status_report, IsStatusReport}
 use Rattle.sms_tpdu.specs.Command.{command, IsCommand}
@@ -155,41 +154,30 @@ has_parts there =
     has_chain (λ o. IfSome o (IsReportData (report_alphabet dcs))) AreParts _ _ (has_part (IsReportData (report_alphabet dcs)) there.user (report_data (report_alphabet dcs)) (has_report_data (report_alphabet dcs))) (λ user u.
     λ v octets rest are r. subst AreParts (sym r.0) (record { pid = p; dcs = d; user = u }))))
 
+has_report : {C S : Type 0} (first : FirstOctet) (cause : KindPart C) (stamp : KindPart S) → Has cause.is cause.field → Has stamp.is stamp.field → Has (IsReport cause stamp) (report first cause stamp)
+unfolding report
+has_report first cause stamp of_cause of_stamp =
+    has_chain Any (IsReport cause stamp) _ _ (λ v octets rest are r. tt) (λ with_header _.
+    has_chain cause.is (IsReport cause stamp) _ _ of_cause (λ why is_cause.
+    has_chain Any (IsReport cause stamp) _ _ (λ v octets rest are r. tt) (λ there _.
+    has_chain stamp.is (IsReport cause stamp) _ _ of_stamp (λ time is_stamp.
+    has_chain AreParts (IsReport cause stamp) _ _ (has_parts there) (λ those fits.
+    λ v octets rest are r. subst (IsReport cause stamp) (sym r.0) (record { cause = is_cause; stamp = is_stamp; parts = fits }))))))
+
+has_no_part : Has no_part.is no_part.field
+has_no_part v octets rest are r = tt
+
 pub has_submit_ack : Has IsSubmitAck submit_ack
-unfolding submit_ack
-has_submit_ack =
-    has_chain Any IsSubmitAck _ _ (λ v octets rest are r. tt) (λ with_header _.
-    has_chain Any IsSubmitAck _ _ (λ v octets rest are r. tt) (λ there _.
-    has_chain IsStamp IsSubmitAck _ _ (has_stamp Short) (λ stamp is_stamp.
-    has_chain AreParts IsSubmitAck _ _ (has_parts there) (λ those fits.
-    λ v octets rest are r. subst IsSubmitAck (sym r.0) (record { stamp = is_stamp; parts = fits })))))
+has_submit_ack = has_report on_submission no_part centre_stamp has_no_part (has_stamp Short)
 
 pub has_submit_error : Has IsSubmitError submit_error
-unfolding submit_error
-has_submit_error =
-    has_chain Any IsSubmitError _ _ (λ v octets rest are r. tt) (λ with_header _.
-    has_chain (λ octet. octet < 256) IsSubmitError _ _ (has_octet Short) (λ cause small.
-    has_chain Any IsSubmitError _ _ (λ v octets rest are r. tt) (λ there _.
-    has_chain IsStamp IsSubmitError _ _ (has_stamp Short) (λ stamp is_stamp.
-    has_chain AreParts IsSubmitError _ _ (has_parts there) (λ those fits.
-    λ v octets rest are r. subst IsSubmitError (sym r.0) (record { cause = small; stamp = is_stamp; parts = fits }))))))
+has_submit_error = has_report on_submission failure_cause centre_stamp (has_octet Short) (has_stamp Short)
 
 pub has_deliver_ack : Has IsDeliverAck deliver_ack
-unfolding deliver_ack
-has_deliver_ack =
-    has_chain Any IsDeliverAck _ _ (λ v octets rest are r. tt) (λ with_header _.
-    has_chain Any IsDeliverAck _ _ (λ v octets rest are r. tt) (λ there _.
-    has_chain AreParts IsDeliverAck _ _ (has_parts there) (λ those fits.
-    λ v octets rest are r. subst IsDeliverAck (sym r.0) (record { parts = fits }))))
+has_deliver_ack = has_report on_delivery no_part no_part has_no_part has_no_part
 
 pub has_deliver_error : Has IsDeliverError deliver_error
-unfolding deliver_error
-has_deliver_error =
-    has_chain Any IsDeliverError _ _ (λ v octets rest are r. tt) (λ with_header _.
-    has_chain (λ octet. octet < 256) IsDeliverError _ _ (has_octet Short) (λ cause small.
-    has_chain Any IsDeliverError _ _ (λ v octets rest are r. tt) (λ there _.
-    has_chain AreParts IsDeliverError _ _ (has_parts there) (λ those fits.
-    λ v octets rest are r. subst IsDeliverError (sym r.0) (record { cause = small; parts = fits })))))
+has_deliver_error = has_report on_delivery failure_cause no_part (has_octet Short) has_no_part
 
 has_optional_parts : Has AreParts optional_parts
 unfolding indicated_parts

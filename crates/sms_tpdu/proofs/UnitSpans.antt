@@ -2,9 +2,10 @@
 use Rattle.std.proofs.Common.{◌≡◌, ℕ, ◌+◌, ◌≤◌, Bool, List, [], ◌∷◌, ◌++◌, length, drop, refl, sym, ap, subst, ◌∙◌, append_assoc, arith, length-append}
 use Rattle.std.proofs.lemmas.List.{append-nil, drop_at}
 use Rattle.sms_field.specs.Address.{address}
-use Rattle.sms_field.specs.AddressLaws.{address_self}
-use Rattle.sms_field.specs.AddressValue.{AddressValue}
-use Rattle.sms_field.specs.Lies.{LiesAt, TakesOctets, lies_at}
+use Rattle.sms_field.specs.Inside.AddressLaws.{address_self}
+use Rattle.sms_field.specs.Address.Value.{AddressValue}
+use Rattle.sms_field.specs.Reading.Lies.{LiesAt, TakesOctets}
+use Rattle.sms_field.specs.Inside.Lies.{lies_at}
 use Rattle.sms_field.specs.Reading.{Reads}
 use Rattle.sms_field.specs.declared.coding.Alphabet.{Alphabet}
 use Rattle.sms_field.specs.declared.span.Span.{Span}
@@ -19,10 +20,10 @@ use Rattle.sms_tpdu.specs.declared.submit.spans.SubmitSpans.{SubmitSpans}
 use Rattle.sms_tpdu.specs.declared.submit.validity.ValidityFormat.{ValidityFormat}
 use Rattle.sms_tpdu.specs.declared.submit.validity.ValidityFormat.TheVariants.{Absent, Relative, Enhanced, Absolute}
 use Rattle.sms_tpdu.specs.UserData.{user_data}
-use Rattle.sms_tpdu.specs.UserData.Laws.{user_data_self}
+use Rattle.sms_tpdu.specs.Inside.UserDataLaws.{user_data_self}
 use Rattle.sms_tpdu.specs.declared.user_data.spans.UserSpans.{UserSpans}
 use Rattle.sms_tpdu.specs.UserData.Spans.{UserLies, spans_before}
-use Rattle.sms_tpdu.specs.UserData.SpansLaws.{user_data_lie}
+use Rattle.sms_tpdu.specs.Inside.SpansLaws.{user_data_lie}
 use Rattle.sms_tpdu.specs.declared.deliver.spans.DeliverSpans.{DeliverSpans}
 use Rattle.sms_tpdu.specs.declared.user_data.UserData.{UserData}
 

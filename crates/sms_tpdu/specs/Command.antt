@@ -1,13 +1,12 @@
 -- SMS-COMMAND (3GPP TS 23.040, 9.2.2.4).
 pub mod Flags
 pub mod Kind
-pub mod Laws
 pub mod Spans
 use Rattle.std.specs.Prelude.{◌≡◌, ℕ, List, ◌∷◌, ◌++◌, ◌<◌, ◌≤◌, length, Bool}
 use Rattle.sms_text.specs.Octets.{IsOctets}
 use Rattle.sms_field.specs.Field.{Field, ◌>>=◌, always, octet, octet_by, octets_of, map_reason, up_to}
 use Rattle.sms_field.specs.Address.{address, address_octets}
-use Rattle.sms_field.specs.AddressValue.{AddressValue, HasSpelling}
+use Rattle.sms_field.specs.Address.Value.{AddressValue, HasSpelling}
 use Rattle.sms_tpdu.specs.Fault.{unit_fault}
 use Rattle.sms_tpdu.specs.Command.Flags.{command_flags, command_octet}
 use Rattle.sms_tpdu.specs.declared.command.flags.CommandFlags.{CommandFlags}

@@ -1,12 +1,11 @@
 -- Where data lie that a unit carries as octets, TP-UD of a report and TP-CD of a command, and the
 -- header at their front (3GPP TS 23.040, 9.2.3.24).
-pub mod Laws
 use Rattle.std.specs.Prelude.{◌≡◌, ℕ, ◌+◌, ◌-◌, Bool, true, false, List, [], ◌∷◌, length, take, Option, Some, None, option_map, nat_le, if◌then◌else◌}
 use Rattle.sms_field.specs.declared.span.Span.{Span}
-use Rattle.sms_field.specs.Lies.{octets_at}
+use Rattle.sms_field.specs.Reading.Lies.{octets_at}
 use Rattle.sms_tpdu.specs.UserData.Spans.{HeaderLies, span_of}
 use Rattle.sms_tpdu.specs.declared.data_spans.DataSpans.{DataSpans}
-use Rattle.sms_tpdu.specs.declared.report.ReportData.{ReportData}
+use Rattle.sms_tpdu.specs.declared.report.parts.ReportData.{ReportData}
 
 -- TP-UDH: where TP-UDHI says that there is one, as many octets as its length octet counts, if so
 -- many follow

@@ -1,20 +1,19 @@
 -- SMS-DELIVER (3GPP TS 23.040, 9.2.2.1).
 pub mod Flags
-pub mod Laws
 pub mod Spans
 use Rattle.std.specs.Prelude.{◌≡◌, ℕ, List, ◌∷◌, ◌++◌, ◌<◌, Bool}
 use Rattle.sms_field.specs.Field.{Field, ◌>>=◌, always, octet, octet_by, map_reason}
 use Rattle.sms_field.specs.Address.{address, address_octets}
 use Rattle.sms_field.specs.Coding.{alphabet_at}
-use Rattle.sms_field.specs.Stamp as time
+use Rattle.sms_field.specs.Time.Stamp as time
 use Rattle.sms_tpdu.specs.Fault.{unit_fault}
 use Rattle.sms_tpdu.specs.Deliver.Flags.{deliver_flags, deliver_octet}
 use Rattle.sms_tpdu.specs.UserData.{user_data, has_header, SpellsUserData, FitsAlphabet}
 use Rattle.sms_tpdu.specs.declared.deliver.flags.DeliverFlags.{DeliverFlags}
 use Rattle.sms_tpdu.specs.declared.fault.UnitFault.{UnitFault}
 use Rattle.sms_tpdu.specs.declared.fault.UnitFault.TheVariants.{Short}
-use Rattle.sms_field.specs.AddressValue.{AddressValue, HasSpelling}
-use Rattle.sms_field.specs.Stamp.{IsStamp}
+use Rattle.sms_field.specs.Address.Value.{AddressValue, HasSpelling}
+use Rattle.sms_field.specs.Time.Stamp.{IsStamp}
 use Rattle.sms_tpdu.specs.declared.user_data.UserData.{UserData}
 
 pub record Delivery : Type 0 where

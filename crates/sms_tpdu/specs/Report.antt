@@ -1,66 +1,34 @@
--- The parts of a report that its indicator says are there (3GPP TS 23.040, 9.2.2.1a, 9.2.2.2a and
--- 9.2.3.27): protocol identifier, data coding scheme, data, in this order.
+-- A report (3GPP TS 23.040, 9.2.2.1a and 9.2.2.2a): SMS-DELIVER-REPORT and SMS-SUBMIT-REPORT, each
+-- under an acknowledgement and under an error of the relay.
 pub mod Octet
 pub mod OctetLaws
 pub mod ParameterIndicator
 pub mod ParameterIndicatorLaws
+pub mod AnnouncedParts
+pub mod AnnouncedPartsLaws
+pub mod Kind
+pub mod KindLaws
 pub mod Laws
 pub mod Indicated
 pub mod IndicatedLaws
-pub mod SubmitAck
-pub mod SubmitAckLaws
-pub mod SubmitError
-pub mod SubmitErrorLaws
-pub mod DeliverAck
-pub mod DeliverAckLaws
-pub mod DeliverError
-pub mod DeliverErrorLaws
-use Rattle.std.specs.Prelude.{ℕ, ◌<◌, Bool, true, false, List, [], ◌∷◌, ◌++◌, Option, Some, None, is_some, IfSome, ◌≡◌, ◌≤◌, length, Result, Ok, Err, nat_le, if◌then◌else◌}
-use Rattle.sms_field.specs.Field.{Field, ◌>>=◌, always, octet, octet_by, octets_of}
-use Rattle.sms_field.specs.Optional.{part_if}
-use Rattle.sms_field.specs.Coding.{alphabet_at}
-use Rattle.sms_field.specs.declared.coding.Alphabet.{Alphabet}
-use Rattle.sms_field.specs.declared.coding.Alphabet.TheVariants.{Gsm7}
-use Rattle.sms_tpdu.specs.declared.report.indicator.Indicator.{Indicator}
-use Rattle.sms_tpdu.specs.declared.report.ReportData.{ReportData}
+use Rattle.std.specs.Prelude.{ℕ, Bool, List, ◌∷◌, ◌++◌, Option}
+use Rattle.sms_field.specs.Field.{Field, ◌>>=◌, always, octet_by}
+use Rattle.sms_tpdu.specs.UnitLaws.{IsSpelling}
+use Rattle.sms_tpdu.specs.Report.Octet.{FirstOctet, on_delivery, on_submission}
+use Rattle.sms_tpdu.specs.Report.ParameterIndicator.{indicator, indicator_octet}
+use Rattle.sms_tpdu.specs.Report.AnnouncedParts.{Parts, parts, indicator_of, AreParts, parts_octets}
+use Rattle.sms_tpdu.specs.Report.Kind.{KindPart, no_part, failure_cause, centre_stamp}
+use Rattle.sms_tpdu.specs.declared.report.parts.ReportData.{ReportData}
 use Rattle.sms_tpdu.specs.declared.fault.UnitFault.{UnitFault}
-use Rattle.sms_tpdu.specs.declared.fault.UnitFault.TheVariants.{Short, DataTooLong}
-use Rattle.sms_text.specs.Octets.{IsOctets}
-use Rattle.sms_tpdu.specs.UserData.Lengths.{octets_of_length}
+use Rattle.sms_tpdu.specs.declared.fault.UnitFault.TheVariants.{Short}
 
--- a length of at most 159 octets
-abbrev pub report_length : Alphabet → ℕ → Result ℕ UnitFault
-report_length alphabet count =
-    if nat_le (octets_of_length alphabet count) 159 then Ok count else Err DataTooLong
-
-unfoldable pub report_data : Alphabet → Field ReportData UnitFault
-report_data alphabet = do
-  -- TP-UDL; above 159 octets: DataTooLong
-  count ← octet_by Short (report_length alphabet)
-  -- TP-UD
-  octets ← octets_of Short (octets_of_length alphabet count)
-  always (record { length = count; octets = octets })
-
--- what has a spelling: the length is that of the octets
-pub record IsReportData (alphabet : Alphabet) (user : ReportData) : Type 0 where
-  pub small : user.length < 256
-  pub counted : length user.octets ≡ octets_of_length alphabet user.length
-  pub few : length user.octets ≤ 159
-  pub octets : IsOctets user.octets
-
-abbrev pub data_in : ℕ → List ℕ → ReportData
-data_in count octets = record { length = count; octets = octets }
-
-abbrev pub report_data_octets : ReportData → List ℕ
-report_data_octets user = user.length ∷ user.octets
-
--- without a data coding scheme it is the 7-bit alphabet
-abbrev pub report_alphabet : Option ℕ → Alphabet
-report_alphabet None = Gsm7
-report_alphabet (Some dcs) = alphabet_at dcs
-
--- the parts that may be there
-pub record Parts : Type 0 where
+pub record ReportValue (C S : Type 0) : Type 0 where
+  -- TP-UDHI
+  pub has_header : Bool
+  -- TP-FCS, where it stands
+  pub cause : C
+  -- TP-SCTS, where it stands
+  pub stamp : S
   -- TP-PID
   pub pid : Option ℕ
   -- TP-DCS
@@ -68,35 +36,101 @@ pub record Parts : Type 0 where
   -- TP-UDL and TP-UD
   pub user : Option ReportData
 
-unfoldable pub parts : Indicator → Field Parts UnitFault
-parts there = do
-  -- TP-PID
-  pid ← part_if there.pid (octet Short)
-  -- TP-DCS
-  dcs ← part_if there.dcs (octet Short)
-  -- TP-UDL and TP-UD
-  user ← part_if there.user (report_data (report_alphabet dcs))
-  always (record { pid = pid; dcs = dcs; user = user })
-
--- ---- as they are written
-
-abbrev pub indicator_of : Parts → Indicator
-indicator_of those =
-    record { pid = is_some those.pid; dcs = is_some those.dcs; user = is_some those.user }
+abbrev pub parts_in : {C S : Type 0} → ReportValue C S → Parts
+parts_in r = record { pid = r.pid; dcs = r.dcs; user = r.user }
 
 -- what has a spelling
-pub record AreParts (those : Parts) : Type 0 where
-  pub pid : IfSome those.pid (λ n. n < 256)
-  pub dcs : IfSome those.dcs (λ n. n < 256)
-  pub user : IfSome those.user (IsReportData (report_alphabet those.dcs))
+pub record IsReport {C S : Type 0} (for_cause : KindPart C) (for_stamp : KindPart S)
+    (r : ReportValue C S) : Type 0 where
+  pub cause : for_cause.is r.cause
+  pub stamp : for_stamp.is r.stamp
+  pub parts : AreParts (parts_in r)
 
-abbrev pub octet_if_some : Option ℕ → List ℕ
-octet_if_some None = []
-octet_if_some (Some octet) = octet ∷ []
+unfoldable pub report : {C S : Type 0} → FirstOctet → KindPart C → KindPart S
+    → Field (ReportValue C S) UnitFault
+report first for_cause for_stamp = do
+  -- TP-MTI and TP-UDHI; another TP-MTI: WrongType
+  header ← octet_by Short first.meaning
+  -- TP-FCS
+  cause ← for_cause.field
+  -- TP-PI
+  there ← indicator
+  -- TP-SCTS
+  stamp ← for_stamp.field
+  -- TP-PID, TP-DCS, TP-UDL and TP-UD, where they are there
+  those ← parts there
+  always (record {
+    has_header = header;
+    cause = cause;
+    stamp = stamp;
+    pid = those.pid;
+    dcs = those.dcs;
+    user = those.user;
+  })
 
-abbrev pub data_if_some : Option ReportData → List ℕ
-data_if_some None = []
-data_if_some (Some user) = report_data_octets user
+-- how it is written
+abbrev pub report_octets : {C S : Type 0} → FirstOctet → KindPart C → KindPart S → ReportValue C S
+    → List ℕ
+report_octets first cause stamp r =
+    first.octet r.has_header ∷ (cause.octets r.cause ++ indicator_octet (indicator_of (parts_in r))
+    ∷ (stamp.octets r.stamp ++ parts_octets (parts_in r)))
 
-abbrev pub parts_octets : Parts → List ℕ
-parts_octets those = octet_if_some those.pid ++ (octet_if_some those.dcs ++ data_if_some those.user)
+abbrev pub SpellsReport : {C S : Type 0} → FirstOctet → KindPart C → KindPart S → ReportValue C S
+    → List ℕ → Type 0
+SpellsReport first cause stamp = IsSpelling (IsReport cause stamp) (report_octets first cause stamp)
+
+-- ---- SMS-DELIVER-REPORT for RP-ACK: the phone has taken a delivery
+
+abbrev pub DeliverAckValue : Type 0
+DeliverAckValue = ReportValue (Unit {0}) (Unit {0})
+
+abbrev pub IsDeliverAck : DeliverAckValue → Type 0
+IsDeliverAck = IsReport no_part no_part
+
+abbrev pub deliver_ack : Field DeliverAckValue UnitFault
+deliver_ack = report on_delivery no_part no_part
+
+abbrev pub SpellsDeliverAck : DeliverAckValue → List ℕ → Type 0
+SpellsDeliverAck = SpellsReport on_delivery no_part no_part
+
+-- ---- SMS-DELIVER-REPORT for RP-ERROR: the phone has refused a delivery
+
+abbrev pub DeliverErrorValue : Type 0
+DeliverErrorValue = ReportValue ℕ (Unit {0})
+
+abbrev pub IsDeliverError : DeliverErrorValue → Type 0
+IsDeliverError = IsReport failure_cause no_part
+
+abbrev pub deliver_error : Field DeliverErrorValue UnitFault
+deliver_error = report on_delivery failure_cause no_part
+
+abbrev pub SpellsDeliverError : DeliverErrorValue → List ℕ → Type 0
+SpellsDeliverError = SpellsReport on_delivery failure_cause no_part
+
+-- ---- SMS-SUBMIT-REPORT for RP-ACK: the service centre has taken a submission
+
+abbrev pub SubmitAckValue : Type 0
+SubmitAckValue = ReportValue (Unit {0}) (List ℕ)
+
+abbrev pub IsSubmitAck : SubmitAckValue → Type 0
+IsSubmitAck = IsReport no_part centre_stamp
+
+abbrev pub submit_ack : Field SubmitAckValue UnitFault
+submit_ack = report on_submission no_part centre_stamp
+
+abbrev pub SpellsSubmitAck : SubmitAckValue → List ℕ → Type 0
+SpellsSubmitAck = SpellsReport on_submission no_part centre_stamp
+
+-- ---- SMS-SUBMIT-REPORT for RP-ERROR: the service centre has refused a submission
+
+abbrev pub SubmitErrorValue : Type 0
+SubmitErrorValue = ReportValue ℕ (List ℕ)
+
+abbrev pub IsSubmitError : SubmitErrorValue → Type 0
+IsSubmitError = IsReport failure_cause centre_stamp
+
+abbrev pub submit_error : Field SubmitErrorValue UnitFault
+submit_error = report on_submission failure_cause centre_stamp
+
+abbrev pub SpellsSubmitError : SubmitErrorValue → List ℕ → Type 0
+SpellsSubmitError = SpellsReport on_submission failure_cause centre_stamp

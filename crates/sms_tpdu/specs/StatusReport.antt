@@ -1,20 +1,19 @@
 -- SMS-STATUS-REPORT (3GPP TS 23.040, 9.2.2.3).
 pub mod Flags
 pub mod Status
-pub mod Laws
 pub mod Spans
 use Rattle.std.specs.Prelude.{◌≡◌, ℕ, List, ◌∷◌, ◌++◌, ◌<◌, Bool, Option}
 use Rattle.sms_field.specs.Field.{Field, ◌>>=◌, octet, octet_by, map_reason}
-use Rattle.sms_field.specs.Mapped.{mapped}
+use Rattle.sms_field.specs.Field.Mapped.{mapped}
 use Rattle.sms_field.specs.Address.{address, address_octets}
-use Rattle.sms_field.specs.AddressValue.{AddressValue, HasSpelling}
-use Rattle.sms_field.specs.Stamp.{IsStamp}
-use Rattle.sms_field.specs.Stamp as time
+use Rattle.sms_field.specs.Address.Value.{AddressValue, HasSpelling}
+use Rattle.sms_field.specs.Time.Stamp.{IsStamp}
+use Rattle.sms_field.specs.Time.Stamp as time
 use Rattle.sms_tpdu.specs.Fault.{unit_fault}
-use Rattle.sms_tpdu.specs.Report.{Parts, AreParts}
+use Rattle.sms_tpdu.specs.Report.AnnouncedParts.{Parts, AreParts}
 use Rattle.sms_tpdu.specs.Report.Indicated.{optional_parts, optional_parts_octets, MayFollowParts}
 use Rattle.sms_tpdu.specs.StatusReport.Flags.{status_report_flags, status_report_octet}
-use Rattle.sms_tpdu.specs.declared.report.ReportData.{ReportData}
+use Rattle.sms_tpdu.specs.declared.report.parts.ReportData.{ReportData}
 use Rattle.sms_tpdu.specs.declared.status_report.flags.StatusReportFlags.{StatusReportFlags}
 use Rattle.sms_tpdu.specs.declared.fault.UnitFault.{UnitFault}
 use Rattle.sms_tpdu.specs.declared.fault.UnitFault.TheVariants.{Short}

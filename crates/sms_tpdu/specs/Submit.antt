@@ -2,8 +2,6 @@
 pub mod Flags
 pub mod Front
 pub mod ValidityPeriod
-pub mod ValidityPeriodLaws
-pub mod Laws
 pub mod Spans
 use Rattle.std.specs.Prelude.{◌≡◌, ℕ, List, ◌∷◌, ◌++◌, ◌<◌, Bool}
 use Rattle.sms_field.specs.Field.{Field, ◌>>=◌, always, octet, octet_by, map_reason}
@@ -16,7 +14,7 @@ use Rattle.sms_tpdu.specs.UserData.{user_data, has_header, SpellsUserData, FitsA
 use Rattle.sms_tpdu.specs.declared.submit.flags.SubmitFlags.{SubmitFlags}
 use Rattle.sms_tpdu.specs.declared.fault.UnitFault.{UnitFault}
 use Rattle.sms_tpdu.specs.declared.fault.UnitFault.TheVariants.{Short}
-use Rattle.sms_field.specs.AddressValue.{AddressValue, HasSpelling}
+use Rattle.sms_field.specs.Address.Value.{AddressValue, HasSpelling}
 use Rattle.sms_field.specs.declared.validity.Validity.{Validity}
 use Rattle.sms_tpdu.specs.declared.user_data.UserData.{UserData}
 

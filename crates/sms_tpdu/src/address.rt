@@ -2,10 +2,10 @@
 
 ghost use Rattle.sms_field.specs.Field.{map_reason};
 ghost use Rattle.std.specs.Prelude.{◌≡◌, drop, IfOk};
-ghost use Rattle.sms_field.specs.AddressValue.{HasSpelling};
+ghost use Rattle.sms_field.specs.Address.Value.{HasSpelling};
 ghost use Rattle.sms_field.specs.Address.{address};
-ghost use Rattle.sms_field.specs.Answer.{Sees};
-ghost use Rattle.sms_field.specs.Lies.{TakesOctets};
+ghost use Rattle.sms_field.specs.Reading.Answer.{Sees};
+ghost use Rattle.sms_field.specs.Reading.Lies.{TakesOctets};
 ghost use Rattle.sms_tpdu.specs.Fault.{unit_fault};
 
 use crate::fault::UnitFault;

@@ -109,7 +109,7 @@ impl Command {
 /// `UnitFault::DataTooLong`.
 impl Unit for Command {
     ghost use Rattle.sms_tpdu.specs.Command.{command, SpellsCommand};
-    ghost use Rattle.sms_tpdu.specs.Command.Laws.{command_laws};
+    ghost use Rattle.sms_tpdu.specs.Inside.CommandLaws.{command_laws};
 
     type Why = UnitFault;
 

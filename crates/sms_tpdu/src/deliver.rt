@@ -107,7 +107,7 @@ impl Deliver {
 
 impl Unit for Deliver {
     ghost use Rattle.sms_tpdu.specs.Deliver.{deliver, SpellsDeliver};
-    ghost use Rattle.sms_tpdu.specs.Deliver.Laws.{deliver_laws};
+    ghost use Rattle.sms_tpdu.specs.Inside.DeliverLaws.{deliver_laws};
 
     type Why = UnitFault;
 

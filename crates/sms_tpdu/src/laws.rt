@@ -1,6 +1,6 @@
 //! What follows from the definitions alone. Each function is empty: its contract is the law.
 
-ghost use Rattle.sms_field.specs.ReadValues.{Has};
+ghost use Rattle.sms_field.specs.Reading.Values.{Has};
 ghost use Rattle.sms_tpdu.specs.Refusals.{TellsOtherTypes, IsRefusedOnce};
 ghost use Rattle.sms_tpdu.specs.Sizes.{greatest_size, greatest_status_size, greatest_command_size, IsWithin, HasEachSpelling};
 ghost use Rattle.sms_tpdu.specs.Deliver.{deliver, IsDeliverable, SpellsDeliver};
@@ -8,10 +8,7 @@ ghost use Rattle.sms_tpdu.specs.Deliver.Flags.{deliver_flags};
 ghost use Rattle.sms_tpdu.specs.Submit.{submit, IsSubmittable, SpellsSubmit};
 ghost use Rattle.sms_tpdu.specs.Submit.Flags.{submit_flags};
 ghost use Rattle.sms_tpdu.specs.Report.Octet.{submit_report, deliver_report};
-ghost use Rattle.sms_tpdu.specs.Report.SubmitAck.{submit_ack, IsSubmitAck, SpellsSubmitAck};
-ghost use Rattle.sms_tpdu.specs.Report.SubmitError.{submit_error, IsSubmitError, SpellsSubmitError};
-ghost use Rattle.sms_tpdu.specs.Report.DeliverAck.{deliver_ack, IsDeliverAck, SpellsDeliverAck};
-ghost use Rattle.sms_tpdu.specs.Report.DeliverError.{deliver_error, IsDeliverError, SpellsDeliverError};
+ghost use Rattle.sms_tpdu.specs.Report.{deliver_ack, deliver_error, submit_ack, submit_error, IsDeliverAck, IsDeliverError, IsSubmitAck, IsSubmitError, SpellsDeliverAck, SpellsDeliverError, SpellsSubmitAck, SpellsSubmitError};
 ghost use Rattle.sms_tpdu.specs.StatusReport.{status_report, IsStatusReport, SpellsStatusReport};
 ghost use Rattle.sms_tpdu.specs.StatusReport.Flags.{status_report_flags};
 ghost use Rattle.sms_tpdu.specs.Command.{command, IsCommand, SpellsCommand};

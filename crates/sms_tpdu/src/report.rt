@@ -1,106 +1,109 @@
-//! What reports share: their data, and how the parts that are there are written.
+//! A report: SMS-DELIVER-REPORT and SMS-SUBMIT-REPORT, each under an acknowledgement and under an
+//! error of the relay.
 
-ghost use Rattle.std.specs.Prelude.{◌≡◌, ◌≤◌, ℕ, ◌++◌, length, Option, IfOk, OnOk};
-ghost use Rattle.sms_tpdu.specs.Report as formats;
-ghost use Rattle.sms_tpdu.specs.Report.{octet_if_some, data_if_some, parts_octets};
-
-pub mod deliver_ack;
-pub mod deliver_error;
 pub mod indicator;
+pub mod kind;
 pub mod octet;
 pub mod optional;
 pub mod parts;
-pub mod submit_ack;
-pub mod submit_error;
+pub mod view;
+pub mod writing;
 
-use crate::report::indicator::Indicator;
-use sms_field::Octets;
+use crate::fault::UnitFault;
+use crate::report::kind::{ReportPart, ReportStamp};
+use crate::report::parts::ReportData;
+use crate::report::view::ReportView;
+use crate::report::writing::{indicator_of, put_parts, room_for_parts};
+use crate::unit::Unit;
+use crate::view::View;
+use sms_field::{Cursor, Refusal, Stamp};
 use std::alloc::{AllocError, Global};
+use std::marker::Model;
 
-/// The data of a report: their length as the data coding scheme counts it, and their octets.
+/// The most octets of a report before its parts: type, failure cause, indicator and stamp.
+const FRONT_MAX: usize = 10;
+
+/// A report, with a failure cause or `()`, and with a stamp or `()` (TS 23.040, 9.2.2.1a and
+/// 9.2.2.2a). With a stamp it is an SMS-SUBMIT-REPORT, else an SMS-DELIVER-REPORT.
 #[derive(Drop)]
-pub struct ReportData {
-    /// TP-UDL: septets under the 7-bit alphabet, else octets.
-    pub length: u8,
-    /// TP-UD: the octets as they came, at most 159.
-    pub octets: Octets,
+pub struct Report<C: ReportPart, S: ReportStamp> {
+    /// TP-UDHI: the data begin with a header.
+    pub has_header: bool,
+    /// TP-FCS: why the delivery or the submission was refused (TS 23.040, 9.2.3.22).
+    pub cause: C,
+    /// TP-SCTS: when the service centre received the submission.
+    pub stamp: S,
+    /// TP-PID: the protocol identifier.
+    pub pid: Option<u8>,
+    /// TP-DCS: the data coding scheme.
+    pub dcs: Option<u8>,
+    /// TP-UDL and TP-UD, counted under the 7-bit alphabet where there is no data coding scheme.
+    pub user: Option<ReportData>,
 }
 
-/// The indicator of these parts.
-pub fn indicator_of(pid: Option<u8>, dcs: Option<u8>, user: &Option<ReportData>) -> Indicator
-    ensures { result ≡ formats.indicator_of (record { pid = pid; dcs = dcs; user = user.now }) }
-{
-    Indicator {
-        pid: pid.is_some(),
-        dcs: dcs.is_some(),
-        user: user.is_some(),
+/// SMS-DELIVER-REPORT for RP-ACK: the phone has taken a delivery.
+pub type DeliverAck = Report<(), ()>;
+
+/// SMS-DELIVER-REPORT for RP-ERROR: the phone has refused a delivery.
+pub type DeliverError = Report<u8, ()>;
+
+/// SMS-SUBMIT-REPORT for RP-ACK: the service centre has taken a submission.
+pub type SubmitAck = Report<(), Stamp>;
+
+/// SMS-SUBMIT-REPORT for RP-ERROR: the service centre has refused a submission.
+pub type SubmitError = Report<u8, Stamp>;
+
+impl<C: ReportPart, S: ReportStamp> Model for Report<C, S> {
+    ghost use Rattle.sms_tpdu.specs.Report.{ReportValue, IsReport};
+
+    ghost Value = { ReportValue C S };
+
+    ghost view = { λ r. record {
+      has_header = r.has_header;
+      cause = r.cause;
+      stamp = r.stamp;
+      pid = r.pid;
+      dcs = r.dcs;
+      user = r.user;
+    } };
+
+    ghost invariant = { λ r. IsReport C.part S.part (record {
+      has_header = r.has_header;
+      cause = r.cause;
+      stamp = r.stamp;
+      pid = r.pid;
+      dcs = r.dcs;
+      user = r.user;
+    }) };
+}
+
+/// Another type is `UnitFault::WrongType`, and data above 159 octets are `UnitFault::DataTooLong`.
+impl<C: ReportPart, S: ReportStamp> Unit for Report<C, S> {
+    ghost use Rattle.sms_tpdu.specs.Report.{report, SpellsReport};
+    ghost use Rattle.sms_tpdu.specs.Report.Laws.{report_laws};
+
+    type Why = UnitFault;
+
+    ghost field = { report S.first C.part S.part };
+
+    ghost spells = { SpellsReport S.first C.part S.part };
+
+    fn read_at(alloc: Global, input: &mut Cursor) -> Result<Report<C, S>, Refusal<UnitFault>> {
+        let view = ReportView::<C, S>::read_at(input)?;
+        Ok(view.to_value(alloc)?)
     }
-}
 
-/// Room for the parts of a report.
-pub fn room_for_parts(user: &Option<ReportData>) -> usize
-    ensures { (pid dcs : Option ℕ) →
-        length (parts_octets (record { pid = pid; dcs = dcs; user = user.now })) ≤ result }
-{
-    match user {
-        Some(user) => 3 + user.octets.as_slice().len(),
-        None => 2,
+    fn write(&self, alloc: Global) -> Result<Vec<u8>, AllocError> {
+        let there = indicator_of(self.pid, self.dcs, &self.user);
+        let room = room_for_parts(&self.user).saturating_add(FRONT_MAX);
+        let mut out = Vec::with_capacity(alloc, room)?;
+        out.push(S::first_octet(self.has_header))?;
+        self.cause.put(&mut out)?;
+        out.push(there.to_octet())?;
+        self.stamp.put(&mut out)?;
+        put_parts(&mut out, self.pid, self.dcs, &self.user)?;
+        Ok(out)
     }
-}
 
-/// Adds an octet, where it is there.
-fn put_octet(out: &mut Vec<u8>, octet: Option<u8>) -> Result<(), AllocError>
-    ensures { OnOk result (out.new.items ≡ out.old.items ++ octet_if_some octet) }
-{
-    if let Some(octet) = octet {
-        out.push(octet)?;
-    }
-    Ok(())
-}
-
-/// Adds the data of a report, where they are there.
-fn put_data(out: &mut Vec<u8>, user: &Option<ReportData>) -> Result<(), AllocError>
-    ensures { OnOk result (out.new.items ≡ out.old.items ++ data_if_some user.now) }
-{
-    if let Some(user) = user {
-        out.push(user.length)?;
-        out.extend_from_slice(user.octets.as_slice())?;
-    }
-    Ok(())
-}
-
-/// Adds the parts of a report that are there.
-pub fn put_parts(
-    out: &mut Vec<u8>,
-    pid: Option<u8>,
-    dcs: Option<u8>,
-    user: &Option<ReportData>,
-) -> Result<(), AllocError>
-    ensures { OnOk result (out.new.items ≡ out.old.items ++
-        parts_octets (record { pid = pid; dcs = dcs; user = user.now })) }
-{
-    put_octet(out, pid)?;
-    put_octet(out, dcs)?;
-    put_data(out, user)
-}
-
-/// The octets of a report: the front, which ends with the indicator, the stamp, which may be empty,
-/// and the parts that are there.
-pub fn write_report(
-    alloc: Global,
-    front: &[u8],
-    stamp: &[u8],
-    pid: Option<u8>,
-    dcs: Option<u8>,
-    user: &Option<ReportData>,
-) -> Result<Vec<u8>, AllocError>
-    ensures { IfOk result (λ octets. octets.items ≡ front.now ++ (stamp.now ++
-        parts_octets (record { pid = pid; dcs = dcs; user = user.now }))) }
-{
-    let room = room_for_parts(user).saturating_add(front.len() + stamp.len());
-    let mut out = Vec::with_capacity(alloc, room)?;
-    out.extend_from_slice(front)?;
-    out.extend_from_slice(stamp)?;
-    put_parts(&mut out, pid, dcs, user)?;
-    Ok(out)
+    ghost laws = { report_laws S.first C.part S.part S.first_laws C.part_laws S.part_laws };
 }

@@ -12,7 +12,8 @@ pub mod view;
 
 use crate::fault::UnitFault;
 use crate::report::optional::put_optional_parts;
-use crate::report::{ReportData, room_for_parts};
+use crate::report::parts::ReportData;
+use crate::report::writing::room_for_parts;
 use crate::status_report::flags::StatusReportFlags;
 use crate::status_report::view::StatusReportView;
 use crate::unit::Unit;
@@ -124,7 +125,7 @@ impl StatusReport {
 /// is there.
 impl Unit for StatusReport {
     ghost use Rattle.sms_tpdu.specs.StatusReport.{status_report, SpellsStatusReport, MayFollow};
-    ghost use Rattle.sms_tpdu.specs.StatusReport.Laws.{status_report_laws};
+    ghost use Rattle.sms_tpdu.specs.Inside.StatusReportLaws.{status_report_laws};
 
     type Why = UnitFault;
 

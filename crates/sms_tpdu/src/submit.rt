@@ -115,7 +115,7 @@ impl Submit {
 
 impl Unit for Submit {
     ghost use Rattle.sms_tpdu.specs.Submit.{submit, SpellsSubmit};
-    ghost use Rattle.sms_tpdu.specs.Submit.Laws.{submit_laws};
+    ghost use Rattle.sms_tpdu.specs.Inside.SubmitLaws.{submit_laws};
 
     type Why = UnitFault;
 

@@ -2,9 +2,9 @@
 
 ghost use Rattle.std.specs.Prelude.{◌≡◌, ℕ, List, [], IfOk, IfErr};
 ghost use Rattle.sms_field.specs.Field.{Field};
-ghost use Rattle.sms_field.specs.Answer.{Takes};
-ghost use Rattle.sms_field.specs.Reading.{Reads};
-ghost use Rattle.sms_field.specs.WholeAnswer.{IsRefusedBy, ReadsExactly};
+ghost use Rattle.sms_field.specs.Reading.Answer.{Takes};
+ghost use Rattle.sms_field.specs.Reading.{Reads, IsRefused};
+ghost use Rattle.sms_field.specs.Reading.WholeAnswer.{ReadsExactly};
 ghost use Rattle.sms_field.specs.declared.refusal.Refusal.TheVariants.{Memory};
 ghost use Rattle.sms_tpdu.specs.UnitLaws.{AreUnitLaws};
 
@@ -42,7 +42,7 @@ pub trait Unit: Sized + Drop {
     /// them is ignored.
     final fn read(alloc: Global, input: &[u8]) -> Result<(Self, usize), Refusal<Self::Why>>
         ensures found { IfOk result (λ x. Reads field x.0 input.now x.1) }
-        ensures refused { IfErr result (IsRefusedBy field Self.Why.short input.now) }
+        ensures refused { IfErr result (IsRefused field Self.Why.short input.now) }
         ensures exact { ReadsExactly field input.now result }
     {
         let mut cursor = Cursor::new(input);

@@ -1,6 +1,7 @@
 //! User data: a header, and septets of a text or octets.
 
 ghost use Rattle.std.specs.Prelude.{◌≡◌, IfOk};
+ghost use Rattle.sms_tpdu.specs.UserData.ConcatenationFound.{IsPlace, concat_of_header};
 
 pub mod body;
 pub mod concat;
@@ -13,6 +14,7 @@ pub mod view;
 pub mod writing;
 
 use crate::user_data::body::Body;
+use crate::user_data::concat::Concat;
 use crate::user_data::header::Header;
 use std::alloc::{AllocError, Global};
 
@@ -27,6 +29,17 @@ pub struct UserData {
 }
 
 impl UserData {
+    /// The place of a segment that the header tells, if there is one and it tells one.
+    pub fn concat(&self) -> Option<Concat>
+        ensures value { result ≡ concat_of_header self.now.header }
+        ensures in_range { IsPlace result }
+    {
+        match &self.header {
+            Some(header) => header.concat(),
+            None => None,
+        }
+    }
+
     /// The same user data.
     pub fn copy(&self, alloc: Global) -> Result<UserData, AllocError>
         ensures { IfOk result (λ user. user ≡ self.now) }

@@ -1,9 +1,9 @@
 //! What every view has: it is read where it lies, and its value is made of it.
 
 ghost use Rattle.std.specs.Prelude.{◌≡◌, IfOk, IfErr};
-ghost use Rattle.sms_field.specs.Answer.{SeesAs};
+ghost use Rattle.sms_field.specs.Reading.Answer.{SeesAs};
 ghost use Rattle.sms_field.specs.Reading.{Reads};
-ghost use Rattle.sms_field.specs.WholeAnswer.{IsFaultOf, SeesExactly};
+ghost use Rattle.sms_field.specs.Reading.WholeAnswer.{IsFaultOf, SeesExactly};
 
 use crate::unit::Unit;
 use sms_field::{Cursor, Fault};

@@ -3,7 +3,8 @@
 use crate::again::rewritten;
 use crate::found::{are, holds, same};
 use sms_tpdu::{
-    DeliverAck, DeliverError, Refusal, ReportData, SubmitAck, SubmitError, Unit, UnitFault,
+    DeliverAck, DeliverError, Refusal, Report, ReportData, ReportPart, ReportStamp, SubmitAck,
+    SubmitError, Unit, UnitFault,
 };
 use std::alloc::{AllocError, Global};
 use std::process::Abort;
@@ -251,14 +252,19 @@ struct Read {
     written: Vec<u8>,
 }
 
-/// What octets say as the report on a submission that was taken.
-fn submit_ack(alloc: Global, octets: &[u8]) -> Result<Read, Refusal<UnitFault>> {
-    let (report, used) = SubmitAck::read(alloc, octets)?;
+/// What a report says that was read, with this failure cause and stamp.
+fn read_with<C: ReportPart, S: ReportStamp>(
+    alloc: Global,
+    report: Report<C, S>,
+    used: usize,
+    cause: u8,
+    stamp: [u8; 7],
+) -> Result<Read, Refusal<UnitFault>> {
     let written = rewritten(alloc, &report)?;
     let said = Said {
         has_header: report.has_header,
-        cause: 0,
-        stamp: report.stamp.octets(),
+        cause,
+        stamp,
         pid: report.pid,
         dcs: report.dcs,
         user: report.user,
@@ -268,63 +274,33 @@ fn submit_ack(alloc: Global, octets: &[u8]) -> Result<Read, Refusal<UnitFault>> 
         used,
         written,
     })
+}
+
+/// What octets say as the report on a submission that was taken.
+fn submit_ack(alloc: Global, octets: &[u8]) -> Result<Read, Refusal<UnitFault>> {
+    let (report, used) = SubmitAck::read(alloc, octets)?;
+    let stamp = report.stamp.octets();
+    read_with(alloc, report, used, 0, stamp)
 }
 
 /// The same where it was not.
 fn submit_error(alloc: Global, octets: &[u8]) -> Result<Read, Refusal<UnitFault>> {
     let (report, used) = SubmitError::read(alloc, octets)?;
-    let written = rewritten(alloc, &report)?;
-    let said = Said {
-        has_header: report.has_header,
-        cause: report.cause,
-        stamp: report.stamp.octets(),
-        pid: report.pid,
-        dcs: report.dcs,
-        user: report.user,
-    };
-    Ok(Read {
-        said,
-        used,
-        written,
-    })
+    let (cause, stamp) = (report.cause, report.stamp.octets());
+    read_with(alloc, report, used, cause, stamp)
 }
 
 /// What octets say as the report on a delivery that was taken.
 fn deliver_ack(alloc: Global, octets: &[u8]) -> Result<Read, Refusal<UnitFault>> {
     let (report, used) = DeliverAck::read(alloc, octets)?;
-    let written = rewritten(alloc, &report)?;
-    let said = Said {
-        has_header: report.has_header,
-        cause: 0,
-        stamp: NONE,
-        pid: report.pid,
-        dcs: report.dcs,
-        user: report.user,
-    };
-    Ok(Read {
-        said,
-        used,
-        written,
-    })
+    read_with(alloc, report, used, 0, NONE)
 }
 
 /// The same where it was not.
 fn deliver_error(alloc: Global, octets: &[u8]) -> Result<Read, Refusal<UnitFault>> {
     let (report, used) = DeliverError::read(alloc, octets)?;
-    let written = rewritten(alloc, &report)?;
-    let said = Said {
-        has_header: report.has_header,
-        cause: report.cause,
-        stamp: NONE,
-        pid: report.pid,
-        dcs: report.dcs,
-        user: report.user,
-    };
-    Ok(Read {
-        said,
-        used,
-        written,
-    })
+    let cause = report.cause;
+    read_with(alloc, report, used, cause, NONE)
 }
 
 /// What octets say as a report of a kind.

@@ -3,7 +3,7 @@ use Rattle.std.proofs.Common.{◌≡◌, ℕ, zero, suc, ◌+◌, ◌-◌, ◌<�
 use Rattle.std.specs.List.{AllByRecursion}
 use Rattle.sms_message.specs.Message.Answers.{answers}
 use Rattle.std.proofs.lemmas.Bool.{cond_both, and_parts, and_from, eqb-true, eq-eqb, ltb-true, ltb-false, eqb-false}
-use Rattle.sms_field.specs.AddressValue.{AddressValue}
+use Rattle.sms_field.specs.Address.Value.{AddressValue}
 use Rattle.sms_field.specs.declared.validity.ValidityFault.{ValidityFault}
 use Rattle.sms_field.specs.declared.validity.ValidityFault.TheVariants.{EnhancedValidity, NoMoment}
 use Rattle.sms_tpdu.specs.Submit.{Submission}
@@ -21,10 +21,10 @@ use Rattle.sms_message.specs.declared.message.Tag.{Tag}
 use Rattle.sms_message.specs.Message.{tag_of, same_tag, Origin}
 use Rattle.sms_centre.specs.declared.centre.check.Check.{Check}
 use Rattle.sms_centre.specs.declared.centre.check.Check.TheVariants.{Refuse, Accept}
-use Rattle.sms_field.specs.Times.{end_of, end_of_2099}
+use Rattle.sms_field.specs.Time.Computed.{end_of, end_of_2099}
 use Rattle.sms_message.specs.Address.{phone_at, address_of}
-use Rattle.sms_field.specs.SameAddress.{same_address}
-use Rattle.sms_field.specs.SameAddressLaws.{same_address_true}
+use Rattle.sms_field.specs.Address.Same.{same_address}
+use Rattle.sms_field.specs.Inside.SameAddressLaws.{same_address_true}
 use Rattle.std.proofs.lemmas.List.Quantifiers.{position-Some}
 use Rattle.sms_relay.specs.declared.side.Side.{Side}
 use Rattle.sms_world.proofs.Entries.{contains_here, contains_more, each_at}
@@ -56,7 +56,7 @@ use Rattle.sms_world.specs.Texts.Keys.{stamp_given, is_from}
 use Rattle.sms_world.specs.Texts.{size_in}
 use Rattle.sms_world.proofs.Walk.{is_recipient, answer_may_come, duplicates_are_own, own_unit, own_relay, own_message, IsOwn, IsHonestSeen}
 use Rattle.sms_world.specs.Machine.{Machine, start}
-use Rattle.sms_world.specs.Machine.Event.{Event, Compose, Carry, Timeout, Push, Tick, Inject, Act, Is}
+use Rattle.sms_world.specs.Machine.Event.{Event, Compose, Carry, Timeout, Push, Tick, Inject, Act, IsMetAs}
 use Rattle.sms_world.specs.Machine.Step.{Acts, RunWith}
 use Rattle.sms_world.specs.Claims.Pieces.{IsPending, IsUnderWay, SenderSound}
 use Rattle.sms_world.specs.Accepted.{IsHonestAt, AcceptedIsAccepted}
@@ -667,7 +667,7 @@ carries_true one m (Some x) h s own = go x.to refl (s x refl) own
         (centre_receives_told one m m.senders.sender m.limits.held phone x.message x.origin x.about t own)
     go (Phone phone) e t own = to_phone_true one m phone x.message x.origin x.about h t own
 
-next_true : (one : ℕ) (m : Machine) (e : Event) (act : Act) → Is (width_of m.senders.wide) e act → IsHonestSeen one m e → TellsTrue one m → TellsTrue one (next m act).after
+next_true : (one : ℕ) (m : Machine) (e : Event) (act : Act) → IsMetAs (width_of m.senders.wide) e act → IsHonestSeen one m e → TellsTrue one m → TellsTrue one (next m act).after
 unfolding next ticked centre_pushes
 next_true one m (Compose phone target characters) act is may h =
     subst (λ (v : Act). TellsTrue one (next m v).after) (sym is.3)
@@ -698,7 +698,7 @@ next_true one m (Tick seconds) act is may h =
 next_true one m (Inject place octets) act is may h = absurd may
 
 acts_true : (one : ℕ) (m : Machine) (e : Event) (act : Act) (told : whole.Told) (put : List Sent) (n : Machine)
-    → Is (width_of m.senders.wide) e act → IsHonestSeen one m e → TellsTrue one m → Acts m act told put n → TellsTrue one n
+    → IsMetAs (width_of m.senders.wide) e act → IsHonestSeen one m e → TellsTrue one m → Acts m act told put n → TellsTrue one n
 acts_true one m e act told put n is may h (inl s) = subst (TellsTrue one) s.2 (next_true one m e act is may h)
 acts_true one m e act told put n is may h (inr s) = subst (TellsTrue one) s.3 h
 

@@ -10,8 +10,8 @@ use Rattle.sms_party.specs.Sender.Texts.{size_of}
 use Rattle.sms_party.specs.Sent.{nth}
 use Rattle.sms_world.specs.Machine.Next.{receiver_limits, ticked}
 use Rattle.sms_world.specs.World.Value.{PartiesValue}
-use Rattle.sms_world.specs.World.Phones.{IsAged}
-use Rattle.sms_world.specs.World.Parties.{MovesTo}
+use Rattle.sms_world.specs.Inside.Phones.{IsAged}
+use Rattle.sms_world.specs.Inside.Parties.{MovesTo}
 
 -- it has moved for the first ones, as many as given
 abbrev pub AreAged : (now n : ℕ) → (old new : List PhoneValue) → Type 0

@@ -15,10 +15,10 @@ use Rattle.sms_world.specs.Told.{Told}
 use Rattle.sms_world.specs.Ledger.{Mark, Submits, Delivers, Neither, mark_at, called, Ledger, AreAlike}
 use Rattle.sms_world.specs.Noted.{Facts, neithers, with_marks, sender_noted, delivery_noted, other_noted, carry_noted, noted}
 use Rattle.sms_world.specs.Machine.{Machine}
-use Rattle.sms_world.specs.Machine.Event.{Event, Compose, Carry, Timeout, Push, Tick, Inject, Act, Composes, Carries, TimesOut, Pushes, Ticks, Injects, Is}
+use Rattle.sms_world.specs.Machine.Event.{Event, Compose, Carry, Timeout, Push, Tick, Inject, Act, TypesText, MovesPacket, EndsWait, HandsOver, MovesClock, SlipsIn, IsMetAs}
 use Rattle.sms_world.specs.Machine.Next.{Next, next, stays, entered, carries, packet}
 use Rattle.sms_world.specs.Machine.Step.{Acts, Step}
-use Rattle.sms_world.specs.World.Asked.{packet_of, way_at, way_at_phone, way_of_packet}
+use Rattle.sms_world.specs.Inside.Asked.{packet_of, way_at, way_at_phone, way_of_packet}
 use Rattle.sms_world.specs.World.Standing.{StandsFor}
 use Rattle.sms_world.specs.World.Value.{WorldValue}
 use Rattle.sms_world.proofs.Packets.{packet_not_there, no_packet_0}

@@ -1,7 +1,7 @@
 -- What the parties answer is what the machine does.
 use Rattle.std.proofs.Common.{◌≡◌, ◌≢◌, ℕ, ◌≤◌, Bool, true, false, List, [], length, Option, Some, None, Result, Ok, Err, refl, sym, ap, ◌∙◌, subst, arith}
 use Rattle.std.specs.List.{slice_get}
-use Rattle.sms_field.specs.AddressValue.{AddressValue}
+use Rattle.sms_field.specs.Address.Value.{AddressValue}
 use Rattle.sms_join.specs.declared.units.Units.{Units}
 use Rattle.sms_join.specs.Cut.{IsCut}
 use Rattle.sms_join.specs.UnitsOfText.{IsText}
@@ -35,13 +35,13 @@ use Rattle.sms_message.specs.declared.outcome.Step.{Step}
 use Rattle.sms_message.specs.declared.outcome.Dropped.{Dropped}
 use Rattle.sms_message.specs.declared.outcome.Dropped.TheVariants as dropped
 use Rattle.sms_world.specs.declared.fault.WorldFault.TheVariants.{Party}
-use Rattle.sms_world.specs.Below.{Below}
+use Rattle.sms_world.specs.Inside.Below.{Below}
 use Rattle.sms_world.specs.Told.{of_party}
 use Rattle.sms_world.specs.Machine.{Machine}
 use Rattle.sms_world.specs.Machine.Next.{Next, entered, stays, by_sender, by_receiver, by_centre, of_centre, receiver_limits, origin_of, pushed, comes, comes_to_phone}
 use Rattle.sms_world.specs.World.Value.{PartiesValue}
 use Rattle.sms_world.specs.World.Standing.{PartiesStand, ArePacketsOf}
-use Rattle.sms_world.specs.World.Parties.{on_way, Answers, Types, Pushes, Receives}
+use Rattle.sms_world.specs.Inside.Parties.{on_way, Answers, Types, Pushes, Receives}
 use Rattle.sms_world.proofs.Replaced.{with_phone, replaced, changed_here, changed_elsewhere, not_changed, same_receivers}
 use Rattle.sms_world.proofs.Ways.{on_their_way, down_to, up_from, as_many, as_many_sent, put_none, put_none_up}
 

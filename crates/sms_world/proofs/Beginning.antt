@@ -2,8 +2,8 @@
 use Rattle.std.proofs.Common.{◌≡◌, ◌<◌, Bool, true, false, not, ◌&&◌, List, [], length, refl, sym, subst, arith}
 use Rattle.std.specs.Prelude.{IsTrue, ◌∷◌}
 use Rattle.std.specs.List.{AllByRecursion, list_any}
-use Rattle.sms_field.specs.AddressValue.{AddressValue}
-use Rattle.sms_field.specs.SameAddress.{same_address}
+use Rattle.sms_field.specs.Address.Value.{AddressValue}
+use Rattle.sms_field.specs.Address.Same.{same_address}
 use Rattle.sms_message.specs.Address.{are_distinct}
 use Rattle.sms_centre.specs.Centre.State.{new_centre}
 use Rattle.sms_centre.specs.Centre.Value.{CentreValue}
@@ -14,7 +14,7 @@ use Rattle.sms_script.specs.declared.script.limits.Limits.{Limits}
 use Rattle.sms_script.specs.Transcript.Lines.{PacketValue}
 use Rattle.sms_world.specs.Machine.{start}
 use Rattle.sms_world.specs.World.Value.{PartiesValue}
-use Rattle.sms_world.specs.World.Phones.{IsNewPhone}
+use Rattle.sms_world.specs.Inside.Phones.{IsNewPhone}
 use Rattle.sms_world.specs.World.Standing.{ArePacketsOf, PartiesStand, StandsFor, IsWorld}
 use Rattle.sms_world.proofs.AllOf.{one_of_all}
 

@@ -2,17 +2,17 @@
 use Rattle.std.proofs.Common.{◌≡◌, ℕ, ◌+◌, ◌≤◌, ◌<◌, Bool, true, false, not, ◌&&◌, leb, ltb, List, [], ◌∷◌, length, refl, subst, arith, Some, None, Option, inl, inr}
 use Rattle.sms_message.specs.Does.{Does}
 use Rattle.std.proofs.lemmas.Bool.{cond_both, leb-false}
-use Rattle.sms_field.specs.AddressValue.{AddressValue}
+use Rattle.sms_field.specs.Address.Value.{AddressValue}
 use Rattle.sms_tpdu.specs.Deliver.{Delivery}
 use Rattle.sms_join.specs.declared.units.Units.{Units}
 use Rattle.sms_join.specs.Piece.{Piece}
-use Rattle.sms_join.specs.Sets.{open_sets, units_upto}
+use Rattle.sms_join.specs.Joiner.Sets.{open_sets, units_upto}
 use Rattle.sms_join.specs.Joiner.{new_joiner, answer, answered, decided, is_repeat, is_whole, has_room, offered}
 use Rattle.sms_message.specs.declared.message.Relay.{Relay}
 use Rattle.sms_message.specs.declared.message.Message.{Message}
 use Rattle.sms_message.specs.declared.message.Message.TheVariants.{NotCp, Note, Tiny, Data}
 use Rattle.sms_message.specs.declared.message.Tag.{Tag}
-use Rattle.sms_field.specs.Times.{end_of_2099}
+use Rattle.sms_field.specs.Time.Computed.{end_of_2099}
 use Rattle.sms_message.specs.Message.{Origin}
 use Rattle.sms_party.specs.Sent.{nth, Place, Centre, Phone, Sent}
 use Rattle.sms_world.specs.Told.{Told}
@@ -24,10 +24,10 @@ use Rattle.sms_party.specs.Receiver.Pieces.{piece_in}
 use Rattle.sms_party.specs.Receiver.{receiver_opened}
 use Rattle.sms_party.specs.Receiver.Aging.{ages}
 use Rattle.sms_party.specs.Sender.Texts.{size_of}
-use Rattle.sms_join.specs.Aging.{SetsStayFew}
+use Rattle.sms_join.specs.Joiner.Aging.{SetsStayFew}
 use Rattle.sms_world.specs.Machine.Next.{of_centre, Next, next, stays, by_sender, by_centre, by_receiver, comes, comes_to_phone, carries, packet, ticked, pushed, phone_of, receiver_limits}
 use Rattle.sms_world.specs.Machine.{Machine, start}
-use Rattle.sms_world.specs.Machine.Event.{Event, Act, Composes, Carries, TimesOut, Pushes, Ticks, Injects}
+use Rattle.sms_world.specs.Machine.Event.{Event, Act, TypesText, MovesPacket, EndsWait, HandsOver, MovesClock, SlipsIn}
 use Rattle.sms_world.specs.Machine.Step.{Acts, RunWith}
 use Rattle.sms_world.proofs.Growing.{changed_each}
 
@@ -107,14 +107,14 @@ module _ (law : SetsStayFew) where
 
   next_bounded : (m : Machine) (act : Act) → Bounded m → Bounded (next m act).after
   unfolding next by_sender by_centre pushed of_centre ticked ages
-  next_bounded m (Composes phone target characters pieces) h =
+  next_bounded m (TypesText phone target characters pieces) h =
       cond_both (ltb phone (length m.phones)) _ _ (λ (r : Next). Bounded r.after) (λ _. h) (λ _. stays_bounded m _ h)
-  next_bounded m (Carries k) h = carries_bounded m (packet m k) h
-  next_bounded m (TimesOut phone) h =
+  next_bounded m (MovesPacket k) h = carries_bounded m (packet m k) h
+  next_bounded m (EndsWait phone) h =
       cond_both (ltb phone (length m.phones)) _ _ (λ (r : Next). Bounded r.after) (λ _. h) (λ _. stays_bounded m _ h)
-  next_bounded m (Pushes phone) h =
+  next_bounded m (HandsOver phone) h =
       cond_both (ltb phone (length m.phones)) _ _ (λ (r : Next). Bounded r.after) (λ _. h) (λ _. stays_bounded m _ h)
-  next_bounded m (Ticks seconds) h =
+  next_bounded m (MovesClock seconds) h =
       cond_both (ltb (m.clock + seconds) end_of_2099) _ _ (λ (r : Next). Bounded r.after) (λ _ p. older p) (λ _. stays_bounded m _ h)
     where
       older : (p : ℕ) → IsBounded (receiver_limits m.limits) (ages (λ n. size_of (nth m.senders.texts n)) (m.clock + seconds) (m.receiver p))
@@ -122,7 +122,7 @@ module _ (law : SetsStayFew) where
           let f = law.1 (m.clock + seconds) (m.receiver p).joiner in
           let k' = (h p).sets in
           record { store = (h p).store; sets = omega arith }
-  next_bounded m (Injects place message) h =
+  next_bounded m (SlipsIn place message) h =
       cond_both (ltb (phone_of place) (length m.phones)) _ _ (λ (r : Next). Bounded r.after) (λ _. comes_bounded m place message None None h) (λ _. stays_bounded m _ h)
 
   acts_bounded : (m : Machine) (act : Act) (told : Told) (put : List Sent) (n : Machine) → Bounded m → Acts m act told put n → Bounded n

@@ -3,8 +3,8 @@ use Rattle.std.proofs.Common.{◌≡◌, ℕ, zero, suc, ◌+◌, ◌-◌, Bool,
 use Rattle.std.specs.List.{slice_get}
 use Rattle.std.proofs.lemmas.Bool.{cond_both}
 use Rattle.std.proofs.lemmas.List.{reverse-append, length-reverse}
-use Rattle.sms_field.specs.AddressValue.{AddressValue}
-use Rattle.sms_field.specs.Times.{end_of_2099}
+use Rattle.sms_field.specs.Address.Value.{AddressValue}
+use Rattle.sms_field.specs.Time.Computed.{end_of_2099}
 use Rattle.sms_message.specs.Message.{Origin}
 use Rattle.sms_message.specs.declared.message.Message.{Message}
 use Rattle.sms_message.specs.declared.message.Message.TheVariants.{NotCp, Note, Tiny, Data}
@@ -14,7 +14,7 @@ use Rattle.sms_party.specs.Sender.Ended.{Call, Compose, TimeOut, Take, called, c
 use Rattle.sms_party.specs.Sender.Texts.{Text, SenderState, new_senders}
 use Rattle.sms_script.specs.declared.script.limits.Limits.{Limits}
 use Rattle.sms_world.specs.Machine.{Machine, start}
-use Rattle.sms_world.specs.Machine.Event.{Event, Act, Composes, Carries, TimesOut, Pushes, Ticks, Injects}
+use Rattle.sms_world.specs.Machine.Event.{Event, Act, TypesText, MovesPacket, EndsWait, HandsOver, MovesClock, SlipsIn}
 use Rattle.sms_world.specs.Machine.Next.{Next, next, stays, by_sender, by_centre, by_receiver, comes, comes_to_phone, carries, packet, ticked}
 use Rattle.sms_world.specs.Machine.Step.{Acts, RunWith}
 use Rattle.sms_world.specs.Told.{Told}
@@ -50,18 +50,18 @@ stays_called limits m told h = h
 
 next_called : (limits : Limits) (m : Machine) (act : Act) → AreCalled limits m.senders → AreCalled limits (next m act).after.senders
 unfolding next by_sender by_centre ticked
-next_called limits m (Composes phone target characters pieces) h =
+next_called limits m (TypesText phone target characters pieces) h =
     cond_both (nat_lt phone (length m.phones)) _ _ (λ (n : Next). AreCalled limits n.after.senders) (λ _. one_more limits m.senders (Compose phone target characters pieces) h) (λ _. stays_called limits m _ h)
-next_called limits m (Carries k) h = carries_called limits m (packet m k) h
-next_called limits m (TimesOut phone) h =
+next_called limits m (MovesPacket k) h = carries_called limits m (packet m k) h
+next_called limits m (EndsWait phone) h =
     cond_both (nat_lt phone (length m.phones)) _ _ (λ (n : Next). AreCalled limits n.after.senders) (λ _. one_more limits m.senders (TimeOut phone) h) (λ _. stays_called limits m _ h)
-next_called limits m (Pushes phone) h =
+next_called limits m (HandsOver phone) h =
     cond_both (nat_lt phone (length m.phones)) _ _ (λ (n : Next). AreCalled limits n.after.senders) (λ _. h) (λ _. stays_called limits m _ h)
-next_called limits m (Ticks seconds) h =
+next_called limits m (MovesClock seconds) h =
     cond_both (nat_lt (m.clock + seconds) end_of_2099) _ _ (λ (n : Next). AreCalled limits n.after.senders) (λ _. h) (λ _. stays_called limits m _ h)
-next_called limits m (Injects (Centre phone) message) h =
+next_called limits m (SlipsIn (Centre phone) message) h =
     cond_both (nat_lt phone (length m.phones)) _ _ (λ (n : Next). AreCalled limits n.after.senders) (λ _. comes_called limits m (Centre phone) message None None h) (λ _. stays_called limits m _ h)
-next_called limits m (Injects (Phone phone) message) h =
+next_called limits m (SlipsIn (Phone phone) message) h =
     cond_both (nat_lt phone (length m.phones)) _ _ (λ (n : Next). AreCalled limits n.after.senders) (λ _. comes_called limits m (Phone phone) message None None h) (λ _. stays_called limits m _ h)
 
 acts_called : (limits : Limits) (m n : Machine) (act : Act) (told : Told) (put : List Sent) → Acts m act told put n → AreCalled limits m.senders → AreCalled limits n.senders

@@ -1,6 +1,6 @@
 -- Which texts are completed by a list of arrivals, and in which order. Lists have the newest entry first.
 use Rattle.std.proofs.Common.{◌≡◌, ℕ, zero, suc, ◌<◌, Bool, true, false, cond, eqb, nat_eq, ◌||◌, List, [], ◌∷◌, refl, sym, ◌∙◌, subst, arith}
-use Rattle.sms_join.specs.Completion.{CompletedAreWhole}
+use Rattle.sms_join.specs.Arrivals.Completion.{CompletedAreWhole}
 use Rattle.sms_world.proofs.Arrived.{done_as_before}
 use Rattle.std.proofs.lemmas.Bool.{eqb-true, eq-eqb, or_right, false_from_ne_true}
 use Rattle.sms_join.specs.Arrivals.{Arrival, has_pieces, is_done, completed, is_listed}

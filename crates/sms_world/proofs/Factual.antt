@@ -4,7 +4,7 @@ use Rattle.std.specs.List.{slice_get}
 use Rattle.std.specs.Option.{option_map, unwrap_or}
 use Rattle.std.proofs.lemmas.Bool.{cond_both, ltb-true}
 use Rattle.std.proofs.lemmas.List.{length-map}
-use Rattle.sms_field.specs.AddressValue.{AddressValue}
+use Rattle.sms_field.specs.Address.Value.{AddressValue}
 use Rattle.sms_join.specs.declared.units.Units.{Units}
 use Rattle.sms_message.specs.declared.outcome.Outcome.{Outcome}
 use Rattle.sms_message.specs.declared.outcome.Outcome.TheVariants as outcome
@@ -25,10 +25,11 @@ use Rattle.sms_world.specs.Told.{Told, of_party}
 use Rattle.sms_world.specs.Ledger.{TextNote, note_of}
 use Rattle.sms_world.specs.Noted.{Facts, AreFacts}
 use Rattle.sms_world.specs.Machine.{Machine}
-use Rattle.sms_world.specs.Machine.Event.{Event, Compose, Carry, Timeout, Push, Tick, Inject, Act, Composes}
+use Rattle.sms_world.specs.Machine.Event.{Event, Compose, Carry, Timeout, Push, Tick, Inject, Act, TypesText}
 use Rattle.sms_world.specs.Machine.Next.{Next, next, stays, by_sender, packet}
 use Rattle.sms_world.specs.Machine.Step.{Acts, Step}
-use Rattle.sms_world.specs.World.Asked.{newest_at, text_typed, text_after, facts_after, packet_of, way_at, way_at_phone, way_of_packet, FactsAreTold}
+use Rattle.sms_world.specs.World.Asked.{newest_at, FactsAreTold}
+use Rattle.sms_world.specs.Inside.Asked.{text_typed, text_after, facts_after, packet_of, way_at, way_at_phone, way_of_packet}
 use Rattle.sms_world.specs.World.Parties.{place_at}
 use Rattle.sms_world.specs.World.Standing.{place_of, ArePacketsOf, StandsFor}
 use Rattle.sms_world.specs.World.Value.{WorldValue}
@@ -121,7 +122,7 @@ module _ (m : Machine) (phone : ℕ) (target : AddressValue) where
       (λ _. cond_both (ltb 255 (length pieces)) _ _ (λ (d : Sends SenderState). WasTyped (by_sender m d)) (λ _ number t before e s. cc)
       (λ _. typed_so (new_text m.senders.wide m.senders.texts phone target characters pieces) refl refl))
 
-  next_so : (characters : List ℕ) (pieces : List Units) → WasTyped (next m (Composes phone target characters pieces))
+  next_so : (characters : List ℕ) (pieces : List Units) → WasTyped (next m (TypesText phone target characters pieces))
   unfolding next
   next_so characters pieces = cond_both (ltb phone (length m.phones)) _ _ WasTyped (λ _. composes_so characters pieces) (λ _. stays_untyped)
 

@@ -1,7 +1,7 @@
 -- At most two packets are put out at an event, and none where it comes to a fault.
 use Rattle.std.proofs.Common.{◌≡◌, ℕ, zero, suc, ◌+◌, ◌≤◌, Bool, true, false, cond, ltb, List, [], ◌∷◌, length, Option, Some, None, Err, inl, inr, refl, sym, ap, ◌∙◌, subst, arith}
 use Rattle.std.proofs.lemmas.Bool.{cond_both}
-use Rattle.sms_field.specs.Times.{end_of_2099}
+use Rattle.sms_field.specs.Time.Computed.{end_of_2099}
 use Rattle.sms_message.specs.declared.message.Message.{Message}
 use Rattle.sms_message.specs.declared.message.Message.TheVariants.{NotCp, Note, Tiny, Data}
 use Rattle.sms_message.specs.Message.{Origin}
@@ -11,10 +11,10 @@ use Rattle.sms_party.specs.Few.{AreFewTo}
 use Rattle.sms_party.specs.Receiver.{receiver_receives}
 use Rattle.sms_party.specs.Sender.Answers.{sender_takes}
 use Rattle.sms_party.specs.Sent.{Place, Centre, Phone, Sent}
-use Rattle.sms_world.specs.Below.{Below}
+use Rattle.sms_world.specs.Inside.Below.{Below}
 use Rattle.sms_world.specs.Told.{Told}
 use Rattle.sms_world.specs.Machine.{Machine}
-use Rattle.sms_world.specs.Machine.Event.{Event, Act, Composes, Carries, TimesOut, Pushes, Ticks, Injects}
+use Rattle.sms_world.specs.Machine.Event.{Event, Act, TypesText, MovesPacket, EndsWait, HandsOver, MovesClock, SlipsIn}
 use Rattle.sms_world.specs.Machine.Next.{Next, next, stays, by_sender, by_receiver, by_centre, of_centre, origin_of, pushed, to_phone, to_centre, comes, comes_to_phone, carries, packet, phone_of, receiver_limits}
 use Rattle.sms_world.specs.Machine.Step.{Acts, Step}
 
@@ -54,16 +54,16 @@ module _ (law : Below) (m : Machine) where
 
   next_few : (act : Act) → Few (next m act)
   unfolding next by_sender by_centre pushed of_centre
-  next_few (Composes phone target characters pieces) =
+  next_few (TypesText phone target characters pieces) =
       cond_both (ltb phone (length m.phones)) _ _ Few (λ _. (law.few_put.when_typed m.senders phone target characters pieces).two) (λ _. stays_few _)
-  next_few (Carries k) = carries_few (packet m k)
-  next_few (TimesOut phone) = cond_both (ltb phone (length m.phones)) _ _ Few (λ _. (law.few_put.when_late m.senders phone).two) (λ _. stays_few _)
-  next_few (Pushes phone) =
+  next_few (MovesPacket k) = carries_few (packet m k)
+  next_few (EndsWait phone) = cond_both (ltb phone (length m.phones)) _ _ Few (λ _. (law.few_put.when_late m.senders phone).two) (λ _. stays_few _)
+  next_few (HandsOver phone) =
       cond_both (ltb phone (length m.phones)) _ _ Few
       (λ _. subst (λ n. n ≤ 2) (sym (down_as_many phone (origin_of ((centre_pushes m.phones m.centre m.clock phone).after.line phone).latest) None (centre_pushes m.phones m.centre m.clock phone).put))
       (law.centre_few.when_pushed m.phones m.centre m.clock phone)) (λ _. stays_few _)
-  next_few (Ticks seconds) = cond_both (ltb (m.clock + seconds) end_of_2099) _ _ Few (λ _. omega arith) (λ _. stays_few _)
-  next_few (Injects place message) =
+  next_few (MovesClock seconds) = cond_both (ltb (m.clock + seconds) end_of_2099) _ _ Few (λ _. omega arith) (λ _. stays_few _)
+  next_few (SlipsIn place message) =
       cond_both (ltb (phone_of place) (length m.phones)) _ _ Few (λ _. comes_few place message None None) (λ _. stays_few _)
 
   pub step_few : (event : Event) (told : Told) (put : List Sent) (n : Machine) → Step m event told put n → length put ≤ 2

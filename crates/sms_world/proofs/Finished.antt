@@ -1,7 +1,7 @@
 -- The finished texts are just those of which every segment was taken, in the order in which they were completed.
 use Rattle.std.proofs.Common.{◌≡◌, ℕ, ◌<◌, Bool, true, false, ◌||◌, eqb, List, [], ◌∷◌, refl, sym, subst, Some, Option}
 use Rattle.std.specs.List.{AllByRecursion}
-use Rattle.sms_world.specs.Below.{Below}
+use Rattle.sms_world.specs.Inside.Below.{Below}
 use Rattle.std.proofs.lemmas.Bool.{eqb-true}
 use Rattle.sms_join.specs.Arrivals.{Arrival, has_text}
 use Rattle.sms_party.specs.Sent.{nth}

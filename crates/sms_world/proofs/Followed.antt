@@ -1,7 +1,7 @@
 -- A watched world goes on at each event.
 use Rattle.std.proofs.Common.{◌≡◌, ℕ, zero, suc, min, ◌+◌, ◌-◌, ◌^◌, ◌<◌, ◌≤◌, Bool, true, false, not, cond, ltb, List, [], ◌∷◌, ◌++◌, map, length, Option, Some, None, is_some, Ok, Err, refl, sym, ap, ◌∙◌, subst, arith}
 use Rattle.std.proofs.lemmas.List.{append-nil}
-use Rattle.sms_field.specs.AddressValue.{AddressValue}
+use Rattle.sms_field.specs.Address.Value.{AddressValue}
 use Rattle.sms_message.specs.declared.outcome.Outcome.{Outcome}
 use Rattle.sms_message.specs.declared.outcome.Dropped.TheVariants.{Memory}
 use Rattle.sms_party.specs.Sent.{nth, Place, Sent}
@@ -13,24 +13,26 @@ use Rattle.sms_world.specs.declared.order.Breach.{Breach}
 use Rattle.sms_world.specs.declared.order.Disorder.{Disorder}
 use Rattle.sms_world.specs.declared.order.TextSegment.{TextSegment}
 use Rattle.sms_world.specs.declared.world.sent_packet.Way.{Way}
-use Rattle.sms_world.specs.Below.{Below}
+use Rattle.sms_world.specs.Inside.Below.{Below}
 use Rattle.sms_world.specs.Breaches.{repeat_breach, marked_breach, breach_at, segment_at, IsTold, Watches, breach_after, WatchingGoesOn}
-use Rattle.sms_world.specs.Followed.{IsFollowed, ComesInOrder, Follows}
+use Rattle.sms_world.specs.Inside.Followed.{IsFollowed, ComesInOrder, Follows}
 use Rattle.sms_world.specs.Ledger.{Mark, Submits, Delivers, Neither, mark_at, TextNote, ReceiverNote, is_key_in_use, is_in_mind, Ledger, new_ledger, AreAlike}
 use Rattle.sms_world.specs.Machine.{Machine, start}
 use Rattle.sms_world.specs.Machine.Event.{Event, Compose, Carry, Timeout, Push, Tick, Inject}
 use Rattle.sms_world.specs.Machine.Step.{Step, no_memory}
 use Rattle.sms_world.specs.Noted.{recipient_of, Facts, AreFacts, noted}
-use Rattle.sms_world.specs.NotesValue.{facts_of, MayHold, AreRowsOf, ledger_in, sender_note, sender_at, receiver_at, free_at, IsCounted, IsFor, IsOfText}
+use Rattle.sms_world.specs.Inside.NotesValue.{facts_of, MayHold, AreRowsOf, ledger_in, sender_note, sender_at, receiver_at, free_at, IsCounted, IsFor, IsOfText}
 use Rattle.sms_world.specs.declared.notes.Notes.{Notes}
 use Rattle.sms_world.specs.declared.notes.receiver.ReceiverNotes.{ReceiverNotes}
 use Rattle.sms_world.specs.declared.notes.sender.SenderNotes.{SenderNotes}
-use Rattle.sms_world.specs.Tables.{row_of, tables_in, sender_in_row, free_in_row, receiver_in_row, ledger_of}
+use Rattle.sms_world.specs.Inside.Tables.{row_of, tables_in}
+use Rattle.sms_world.specs.Tables.{sender_in_row, free_in_row, receiver_in_row, ledger_of}
 use Rattle.std.specs.List.{slice_get}
 use Rattle.sms_world.specs.Orderly.{IsOrderly}
 use Rattle.sms_world.specs.Told.{Told}
 use Rattle.sms_world.specs.Watched.{WatchedValue, LedBy, LedTo, IsWatched, BeginsWatched, GoesOnWatched, OrderIsTold, StoresAreKept}
-use Rattle.sms_world.specs.World.Asked.{text_after, facts_after, way_at, FactsAreTold}
+use Rattle.sms_world.specs.Inside.Asked.{text_after, facts_after, way_at}
+use Rattle.sms_world.specs.World.Asked.{FactsAreTold}
 use Rattle.sms_world.specs.World.Parties.{place_at}
 use Rattle.sms_world.specs.declared.notes.mark.Facts.{Facts as TheFacts}
 use Rattle.sms_world.specs.declared.order.Disorder.TheVariants.{KeyUsedAgain, LateSegmentForgotten}

@@ -2,12 +2,8 @@
 use Rattle.std.proofs.Common.{◌≡◌, ℕ, suc, ◌<◌, Bool, true, false, cond, ◌&&◌, eqb, List, [], ◌∷◌, ◌++◌, length, refl, sym, ◌∙◌, subst, arith, Some, None, Option}
 use Rattle.std.specs.List.{AllByRecursion}
 use Rattle.std.proofs.lemmas.Bool.{eqb-true, ne_eqb, eq-eqb, and_parts}
-use Rattle.sms_field.specs.AddressValue.{AddressValue}
-use Rattle.sms_tpdu.specs.Submit.{Submission}
-use Rattle.sms_tpdu.specs.Deliver.{Delivery}
-use Rattle.sms_message.specs.declared.message.TransferUnit.{TransferUnit}
+use Rattle.sms_field.specs.Address.Value.{AddressValue}
 use Rattle.sms_message.specs.declared.message.TransferUnit.TheVariants.{Submit, Deliver, OtherUnit, BadUnit}
-use Rattle.sms_message.specs.declared.message.Relay.{Relay}
 use Rattle.sms_message.specs.declared.message.Relay.TheVariants.{Transfer, Answer, UnknownType, Unreadable}
 use Rattle.sms_message.specs.declared.message.Message.{Message}
 use Rattle.sms_message.specs.declared.message.Message.TheVariants.{NotCp, Note, Tiny, Data}
@@ -18,7 +14,7 @@ use Rattle.sms_party.specs.Sent.{nth, Place, Centre, Phone, Sent}
 use Rattle.sms_world.specs.Machine.Next.{entered}
 use Rattle.sms_party.specs.Sender.Texts.{Text, Sender}
 use Rattle.sms_world.specs.Texts.Keys.{is_from, stamp_given}
-use Rattle.sms_world.specs.Claims.Pieces.{IsSegmentOf, IsTyped, SubmitOf, DeliverOf, UnitOf, RelayOf, MessageOf, IsSentOf, IsPending, IsUnderWay, SenderSound, CentreSound}
+use Rattle.sms_world.specs.Claims.Pieces.{IsSegmentOf, IsTyped, HasItsPiece, IsSentOf, IsPending, IsUnderWay, SenderSound, CentreSound}
 
 pub each_weaker : {X : Type 0} (P Q : X → Type 0) (xs : List X) → ((x : X) → P x → Q x) → AllByRecursion P xs → AllByRecursion Q xs
 each_weaker P Q [] f h = tt
@@ -77,15 +73,15 @@ module _ (u : Text) (texts : List Text) where
     },
   )
 
-  submit_more : (s : Submission) (to : Place) (origin : Option Origin) → SubmitOf texts s to origin → SubmitOf (u ∷ texts) s to origin
-  submit_more s (Centre phone) (Some o) h =
+  message_more : (phones : List AddressValue) (accepted : List Acceptance) (v : Message) (to : Place) (origin : Option Origin)
+      → HasItsPiece phones texts accepted v to origin → HasItsPiece phones (u ∷ texts) accepted v to origin
+  message_more phones accepted (Note flag value) to origin h = h
+  message_more phones accepted (Data flag tag (Answer side cause report)) to origin h = h
+  message_more phones accepted (Data flag tag (Transfer side (Submit s))) (Centre phone) (Some o) h =
       record { text = h.text; segment = segment_more o h.text h.segment; sender = h.sender; reject = h.reject; is = h.is }
-  submit_more s (Centre phone) None h = h
-  submit_more s (Phone phone) origin h = h
-
-  deliver_more : (phones : List AddressValue) (accepted : List Acceptance) (d : Delivery) (to : Place) (origin : Option Origin)
-      → DeliverOf phones texts accepted d to origin → DeliverOf phones (u ∷ texts) accepted d to origin
-  deliver_more phones accepted d (Phone phone) (Some o) h =
+  message_more phones accepted (Data flag tag (Transfer side (Submit s))) (Centre phone) None h = h
+  message_more phones accepted (Data flag tag (Transfer side (Submit s))) (Phone phone) origin h = h
+  message_more phones accepted (Data flag tag (Transfer side (Deliver d))) (Phone phone) (Some o) h =
       record {
         text = h.text;
         segment = segment_more o h.text h.segment;
@@ -97,29 +93,14 @@ module _ (u : Text) (texts : List Text) where
         given = h.given;
         stamp = h.stamp;
       }
-  deliver_more phones accepted d (Phone phone) None h = h
-  deliver_more phones accepted d (Centre phone) origin h = h
-
-  unit_more : (phones : List AddressValue) (accepted : List Acceptance) (v : TransferUnit) (to : Place) (origin : Option Origin)
-      → UnitOf phones texts accepted v to origin → UnitOf phones (u ∷ texts) accepted v to origin
-  unit_more phones accepted (Submit s) to origin h = submit_more s to origin h
-  unit_more phones accepted (Deliver d) to origin h = deliver_more phones accepted d to origin h
-  unit_more phones accepted OtherUnit to origin h = h
-  unit_more phones accepted BadUnit to origin h = h
-
-  relay_more : (phones : List AddressValue) (accepted : List Acceptance) (v : Relay) (to : Place) (origin : Option Origin)
-      → RelayOf phones texts accepted v to origin → RelayOf phones (u ∷ texts) accepted v to origin
-  relay_more phones accepted (Transfer side unit) to origin h = unit_more phones accepted unit to origin h
-  relay_more phones accepted (Answer side cause report) to origin h = h
-  relay_more phones accepted UnknownType to origin h = h
-  relay_more phones accepted Unreadable to origin h = h
-
-  message_more : (phones : List AddressValue) (accepted : List Acceptance) (v : Message) (to : Place) (origin : Option Origin)
-      → MessageOf phones texts accepted v to origin → MessageOf phones (u ∷ texts) accepted v to origin
+  message_more phones accepted (Data flag tag (Transfer side (Deliver d))) (Phone phone) None h = h
+  message_more phones accepted (Data flag tag (Transfer side (Deliver d))) (Centre phone) origin h = h
+  message_more phones accepted (Data flag tag (Transfer side OtherUnit)) to origin h = h
+  message_more phones accepted (Data flag tag (Transfer side BadUnit)) to origin h = h
+  message_more phones accepted (Data flag tag UnknownType) to origin h = h
+  message_more phones accepted (Data flag tag Unreadable) to origin h = h
   message_more phones accepted NotCp to origin h = h
   message_more phones accepted (Tiny flag value) to origin h = h
-  message_more phones accepted (Note flag value) to origin h = h
-  message_more phones accepted (Data flag tag relay) to origin h = relay_more phones accepted relay to origin h
 
   pub sent_more : (phones : List AddressValue) (accepted : List Acceptance) (x : Sent) → IsSentOf phones texts accepted x → IsSentOf phones (u ∷ texts) accepted x
   sent_more phones accepted x h = message_more phones accepted x.message x.to x.origin h
@@ -190,9 +171,14 @@ module _ (a : Acceptance) (accepted : List Acceptance) (new : (p : Origin) → a
     },
   )
 
-  deliver_accepts : (phones : List AddressValue) (texts : List Text) (d : Delivery) (to : Place) (origin : Option Origin)
-      → DeliverOf phones texts accepted d to origin → DeliverOf phones texts (a ∷ accepted) d to origin
-  deliver_accepts phones texts d (Phone phone) (Some o) h =
+  message_accepts : (phones : List AddressValue) (texts : List Text) (v : Message) (to : Place) (origin : Option Origin)
+      → HasItsPiece phones texts accepted v to origin → HasItsPiece phones texts (a ∷ accepted) v to origin
+  message_accepts phones texts (Note flag value) to origin h = h
+  message_accepts phones texts (Data flag tag (Answer side cause report)) to origin h = h
+  message_accepts phones texts (Data flag tag (Transfer side (Submit s))) (Centre phone) (Some o) h = h
+  message_accepts phones texts (Data flag tag (Transfer side (Submit s))) (Centre phone) None h = h
+  message_accepts phones texts (Data flag tag (Transfer side (Submit s))) (Phone phone) origin h = h
+  message_accepts phones texts (Data flag tag (Transfer side (Deliver d))) (Phone phone) (Some o) h =
       record {
         text = h.text;
         segment = h.segment;
@@ -204,29 +190,14 @@ module _ (a : Acceptance) (accepted : List Acceptance) (new : (p : Origin) → a
         given = given_more a accepted o h.moment new h.given;
         stamp = h.stamp;
       }
-  deliver_accepts phones texts d (Phone phone) None h = h
-  deliver_accepts phones texts d (Centre phone) origin h = h
-
-  unit_accepts : (phones : List AddressValue) (texts : List Text) (v : TransferUnit) (to : Place) (origin : Option Origin)
-      → UnitOf phones texts accepted v to origin → UnitOf phones texts (a ∷ accepted) v to origin
-  unit_accepts phones texts (Submit s) to origin h = h
-  unit_accepts phones texts (Deliver d) to origin h = deliver_accepts phones texts d to origin h
-  unit_accepts phones texts OtherUnit to origin h = h
-  unit_accepts phones texts BadUnit to origin h = h
-
-  relay_accepts : (phones : List AddressValue) (texts : List Text) (v : Relay) (to : Place) (origin : Option Origin)
-      → RelayOf phones texts accepted v to origin → RelayOf phones texts (a ∷ accepted) v to origin
-  relay_accepts phones texts (Transfer side unit) to origin h = unit_accepts phones texts unit to origin h
-  relay_accepts phones texts (Answer side cause report) to origin h = h
-  relay_accepts phones texts UnknownType to origin h = h
-  relay_accepts phones texts Unreadable to origin h = h
-
-  message_accepts : (phones : List AddressValue) (texts : List Text) (v : Message) (to : Place) (origin : Option Origin)
-      → MessageOf phones texts accepted v to origin → MessageOf phones texts (a ∷ accepted) v to origin
+  message_accepts phones texts (Data flag tag (Transfer side (Deliver d))) (Phone phone) None h = h
+  message_accepts phones texts (Data flag tag (Transfer side (Deliver d))) (Centre phone) origin h = h
+  message_accepts phones texts (Data flag tag (Transfer side OtherUnit)) to origin h = h
+  message_accepts phones texts (Data flag tag (Transfer side BadUnit)) to origin h = h
+  message_accepts phones texts (Data flag tag UnknownType) to origin h = h
+  message_accepts phones texts (Data flag tag Unreadable) to origin h = h
   message_accepts phones texts NotCp to origin h = h
   message_accepts phones texts (Tiny flag value) to origin h = h
-  message_accepts phones texts (Note flag value) to origin h = h
-  message_accepts phones texts (Data flag tag relay) to origin h = relay_accepts phones texts relay to origin h
 
   pub sent_accepts : (phones : List AddressValue) (texts : List Text) (x : Sent) → IsSentOf phones texts accepted x → IsSentOf phones texts (a ∷ accepted) x
   sent_accepts phones texts x h = message_accepts phones texts x.message x.to x.origin h

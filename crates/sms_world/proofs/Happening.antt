@@ -5,8 +5,8 @@ use Rattle.std.specs.Result.{IsErrAnd}
 use Rattle.std.proofs.lemmas.List.{append-nil, length-map}
 use Rattle.std.proofs.lemmas.Bool.Decides.{nat_tests}
 use Rattle.sms_text.specs.Octets.{IsOctets}
-use Rattle.sms_field.specs.AddressValue.{AddressValue}
-use Rattle.sms_field.specs.Times.{end_of_2099}
+use Rattle.sms_field.specs.Address.Value.{AddressValue}
+use Rattle.sms_field.specs.Time.Computed.{end_of_2099}
 use Rattle.sms_join.specs.UnitsOfText.{IsText}
 use Rattle.sms_message.specs.Does.{packets_of}
 use Rattle.sms_message.specs.Message.{Origin}
@@ -25,10 +25,10 @@ use Rattle.sms_message.specs.declared.outcome.Dropped.TheVariants as dropped
 use Rattle.sms_script.specs.Transcript.Lines.{PacketValue}
 use Rattle.sms_world.specs.declared.fault.WorldFault.{WorldFault}
 use Rattle.sms_world.specs.declared.fault.WorldFault.TheVariants.{NoSuchPacket, NoSuchPhone, ClockEnd, Party}
-use Rattle.sms_world.specs.Below.{Below}
+use Rattle.sms_world.specs.Inside.Below.{Below}
 use Rattle.sms_world.specs.Told.{Told}
 use Rattle.sms_world.specs.Machine.{Machine}
-use Rattle.sms_world.specs.Machine.Event.{Event, Compose, Carry, Timeout, Push, Tick, Inject, Act, Composes, Carries, TimesOut, Pushes, Ticks, Injects, Is}
+use Rattle.sms_world.specs.Machine.Event.{Event, Compose, Carry, Timeout, Push, Tick, Inject, Act, TypesText, MovesPacket, EndsWait, HandsOver, MovesClock, SlipsIn, IsMetAs}
 use Rattle.sms_world.specs.Machine.Next.{Next, entered, stays, by_sender, by_receiver, by_centre, pushed, comes, comes_to_phone, packet, carries, ticked, phone_of, at_phone, next}
 use Rattle.sms_world.specs.Machine.Step.{takes_memory}
 use Rattle.sms_world.specs.World.Value.{PartiesValue, WorldValue}
@@ -36,7 +36,8 @@ use Rattle.sms_world.specs.World.Standing.{ArePacketsOf, PartiesStand, StandsFor
 use Rattle.std.proofs.lemmas.Option.{slice_get_past}
 use Rattle.sms_world.proofs.AllOf.{all_and_all, one_of_all}
 use Rattle.sms_world.specs.World.Parties as parties
-use Rattle.sms_world.specs.World.Parties.{on_way, place_at, Answers}
+use Rattle.sms_world.specs.Inside.Parties.{on_way, Answers}
+use Rattle.sms_world.specs.World.Parties.{place_at}
 use Rattle.sms_world.specs.World.Steps.{PutsMore, StepsFrom, Steps}
 use Rattle.sms_world.proofs.Packets.{reverse_entered, packets_and_more, packet_there, packet_not_there, no_packet_0}
 
@@ -56,7 +57,7 @@ pub record Keeps (m : Machine) (d : Next) : Type 0 where
 -- What the machine does at an event, and the parties have answered so.
 pub record Acting (m : Machine) (event : Event) (up : Bool) (p : ℕ) (r : Result PartyStep Dropped) (ps : PartiesValue) : Type 0 where
   pub act : Act
-  pub is : Is (width_of m.senders.wide) event act
+  pub is : IsMetAs (width_of m.senders.wide) event act
   pub memory : takes_memory m act ≡ true
   pub does : Next
   pub next_is : next m act ≡ does
@@ -90,7 +91,7 @@ module _ (v : WorldValue) (m : Machine) (event : Event) (up : Bool) (p : ℕ) (p
   none_more : (n : Machine) → StandsFor (with_packets v ps []) n → StandsFor (with_parties v ps) n
   none_more n s = subst (λ l. StandsFor (record { limits = v.limits; clock = v.clock; parties = ps; packets = l }) n) (append-nil v.packets) s
 
-  out_of_memory : (act : Act) → Is (width_of m.senders.wide) event act → takes_memory m act ≡ true → PartiesStand ps m → StepsFrom m event v (Err (Party dropped.Memory)) (with_parties v ps)
+  out_of_memory : (act : Act) → IsMetAs (width_of m.senders.wide) event act → takes_memory m act ≡ true → PartiesStand ps m → StepsFrom m event v (Err (Party dropped.Memory)) (with_parties v ps)
   out_of_memory act is memory stand = (
     [],
     m,
@@ -101,7 +102,7 @@ module _ (v : WorldValue) (m : Machine) (event : Event) (up : Bool) (p : ℕ) (p
     tt,
   )
 
-  fell : (why : Dropped) (act : Act) (d : Next) → Is (width_of m.senders.wide) event act → next m act ≡ d → Keeps m d → d.answer ≡ Err (Party why) → d.put ≡ [] → PartiesStand ps d.after
+  fell : (why : Dropped) (act : Act) (d : Next) → IsMetAs (width_of m.senders.wide) event act → next m act ≡ d → Keeps m d → d.answer ≡ Err (Party why) → d.put ≡ [] → PartiesStand ps d.after
       → StepsFrom m event v (Err (Party why)) (with_parties v ps)
   fell why act d is same k answer put stand = (
     [],
@@ -121,7 +122,7 @@ module _ (v : WorldValue) (m : Machine) (event : Event) (up : Bool) (p : ℕ) (p
   failed dropped.TooManySegments a = fell dropped.TooManySegments a.act a.does a.is a.next_is a.keeps a.answers.0 a.answers.1 a.answers.2
 
 -- nothing happens, for this fault
-pub nothing : (v : WorldValue) (m : Machine) (event : Event) (fault : WorldFault) → StandsFor v m → (act : Act) → Is (width_of m.senders.wide) event act → next m act ≡ stays m (Err fault)
+pub nothing : (v : WorldValue) (m : Machine) (event : Event) (fault : WorldFault) → StandsFor v m → (act : Act) → IsMetAs (width_of m.senders.wide) event act → next m act ≡ stays m (Err fault)
     → StepsFrom m event v (Err fault) v
 unfolding stays
 nothing v m event fault h act is same = (
@@ -158,7 +159,7 @@ module _ (v : WorldValue) (p : ℕ) (target : AddressValue) (text : List ℕ) wh
       let k = t m h.parties_stand in
       let there = there_test v m p h within in
       record {
-        act = Composes p target text k.0;
+        act = TypesText p target text k.0;
         is = (k.0, is_text, k.1, refl);
         memory = there;
         does = by_sender m (composes m.senders p target text k.0);
@@ -175,7 +176,7 @@ module _ (v : WorldValue) (p : ℕ) (target : AddressValue) (text : List ℕ) wh
   unfolding next
   composed_nowhere law is_text beyond m h =
       let c = law.cut (width_of m.senders.wide) text is_text in
-      nothing v m (Compose p target text) NoSuchPhone h (Composes p target text c.0) (c.0, is_text, c.1, refl) (at_none m p (by_sender m (composes m.senders p target text c.0)) (not_there_test v m p h beyond))
+      nothing v m (Compose p target text) NoSuchPhone h (TypesText p target text c.0) (c.0, is_text, c.1, refl) (at_none m p (by_sender m (composes m.senders p target text c.0)) (not_there_test v m p h beyond))
 
 -- ---- an answer does not come, and a push
 
@@ -185,7 +186,7 @@ module _ (v : WorldValue) (p : ℕ) where
   late ps r within t m h =
       let there = there_test v m p h within in
       record {
-        act = TimesOut p;
+        act = EndsWait p;
         is = refl;
         memory = there;
         does = by_sender m (times_out m.senders p);
@@ -196,7 +197,7 @@ module _ (v : WorldValue) (p : ℕ) where
 
   pub late_nowhere : length v.parties.phones ≤ p → Steps (Timeout p) v (Err NoSuchPhone) v
   unfolding next
-  late_nowhere beyond m h = nothing v m (Timeout p) NoSuchPhone h (TimesOut p) refl (at_none m p (by_sender m (times_out m.senders p)) (not_there_test v m p h beyond))
+  late_nowhere beyond m h = nothing v m (Timeout p) NoSuchPhone h (EndsWait p) refl (at_none m p (by_sender m (times_out m.senders p)) (not_there_test v m p h beyond))
 
   pub handed : (ps : PartiesValue) (r : Result PartyStep Dropped) → p < length v.parties.phones → parties.Pushes v.clock p v.parties r ps → (m : Machine) → StandsFor v m → Acting m (Push p) false p r ps
   unfolding next takes_memory by_centre
@@ -204,7 +205,7 @@ module _ (v : WorldValue) (p : ℕ) where
       let there = there_test v m p h within in
       let d = by_centre m (pushed p (centre_pushes m.phones m.centre m.clock p)) in
       record {
-        act = Pushes p;
+        act = HandsOver p;
         is = refl;
         memory = there;
         does = d;
@@ -216,7 +217,7 @@ module _ (v : WorldValue) (p : ℕ) where
   pub handed_nowhere : length v.parties.phones ≤ p → Steps (Push p) v (Err NoSuchPhone) v
   unfolding next
   handed_nowhere beyond m h =
-      nothing v m (Push p) NoSuchPhone h (Pushes p) refl (at_none m p (by_centre m (pushed p (centre_pushes m.phones m.centre m.clock p))) (not_there_test v m p h beyond))
+      nothing v m (Push p) NoSuchPhone h (HandsOver p) refl (at_none m p (by_centre m (pushed p (centre_pushes m.phones m.centre m.clock p))) (not_there_test v m p h beyond))
 
 -- ---- octets come
 
@@ -262,7 +263,7 @@ module _ (v : WorldValue) (up : Bool) (p : ℕ) (octets : List ℕ) (law : Below
       let there = subst (λ n. nat_lt n (length m.phones) ≡ true) (sym (phone_at_place up p)) (there_test v m p h within) in
       let d = comes m (place_at up p) k.message None None in
       record {
-        act = Injects (place_at up p) k.message;
+        act = SlipsIn (place_at up p) k.message;
         is = (k.message, are, k.read, refl);
         memory = there;
         does = d;
@@ -275,7 +276,7 @@ module _ (v : WorldValue) (up : Bool) (p : ℕ) (octets : List ℕ) (law : Below
   unfolding next
   injected_nowhere beyond m h =
       let k = law.each octets are in
-      nothing v m (Inject (place_at up p) octets) NoSuchPhone h (Injects (place_at up p) k.0) (k.0, are, k.1, refl)
+      nothing v m (Inject (place_at up p) octets) NoSuchPhone h (SlipsIn (place_at up p) k.0) (k.0, are, k.1, refl)
       (at_none m (phone_of (place_at up p)) (comes m (place_at up p) k.0 None None) (subst (λ n. nat_lt n (length m.phones) ≡ false) (sym (phone_at_place up p)) (not_there_test v m p h beyond)))
 
 -- ---- a packet is carried
@@ -288,7 +289,7 @@ carried_nowhere : (m : Machine) (k : ℕ) → packet m k ≡ None → carries m 
 unfolding carries
 carried_nowhere m k e = ap (λ o. carries m o) e
 
-memory_there : (m : Machine) (k : ℕ) (x : Sent) → packet m k ≡ Some x → takes_memory m (Carries k) ≡ true
+memory_there : (m : Machine) (k : ℕ) (x : Sent) → packet m k ≡ Some x → takes_memory m (MovesPacket k) ≡ true
 unfolding takes_memory
 memory_there m k x e = ap is_some e
 
@@ -303,7 +304,7 @@ module _ (v : WorldValue) (n : ℕ) (packet_is : PacketValue) (law : Below) (are
       let same : k.message ≡ x.message = law.one packet_is.octets x.message k.message are (law.carried packet_is.octets x.message s.is_packet.1) k.read in
       let d = comes m x.to x.message x.origin x.about in
       record {
-        act = Carries (suc n);
+        act = MovesPacket (suc n);
         is = refl;
         memory = memory_there m (suc n) x s.is_there;
         does = d;
@@ -315,7 +316,7 @@ module _ (v : WorldValue) (n : ℕ) (packet_is : PacketValue) (law : Below) (are
 
 pub nothing_brought : (v : WorldValue) (k : ℕ) → ((m : Machine) → StandsFor v m → packet m k ≡ None) → Steps (Carry k) v (Err NoSuchPacket) v
 unfolding next
-nothing_brought v k none m h = nothing v m (Carry k) NoSuchPacket h (Carries k) refl (carried_nowhere m k (none m h))
+nothing_brought v k none m h = nothing v m (Carry k) NoSuchPacket h (MovesPacket k) refl (carried_nowhere m k (none m h))
 
 -- ---- the clock moves
 
@@ -324,11 +325,11 @@ pub clock_moved : (v : WorldValue) (ps : PartiesValue) (seconds : ℕ) → v.clo
 unfolding next ticked
 clock_moved v ps seconds before moves m h =
     let b : nat_lt (m.clock + seconds) end_of_2099 ≡ true = let c = h.clock_is in grind (arith, nat_tests) in
-    let is : next m (Ticks seconds) ≡ record { answer = Ok Ticked; put = []; after = ticked m (m.clock + seconds) } = rw b refl in
+    let is : next m (MovesClock seconds) ≡ record { answer = Ok Ticked; put = []; after = ticked m (m.clock + seconds) } = rw b refl in
     let stand : PartiesStand ps (ticked m (v.clock + seconds)) = moves m h.parties_stand (let c = h.clock_is in omega (arith, c)) in (
       [],
       ticked m (m.clock + seconds),
-      (Ticks seconds, refl, inl (ap (λ (n : Next). n.answer) is, ap (λ (n : Next). n.put) is, ap (λ (n : Next). n.after) is)),
+      (MovesClock seconds, refl, inl (ap (λ (n : Next). n.answer) is, ap (λ (n : Next). n.put) is, ap (λ (n : Next). n.after) is)),
       record {
         limits_are = h.limits_are;
         clock_is = ap (λ t. t + seconds) h.clock_is;
@@ -344,7 +345,7 @@ pub clock_ended : (v : WorldValue) (seconds : ℕ) → end_of_2099 ≤ v.clock +
 unfolding next
 clock_ended v seconds beyond m h =
     let b : nat_lt (m.clock + seconds) end_of_2099 ≡ false = let c = h.clock_is in grind (arith, nat_tests) in
-    nothing v m (Tick seconds) ClockEnd h (Ticks seconds) refl (rw b refl)
+    nothing v m (Tick seconds) ClockEnd h (MovesClock seconds) refl (rw b refl)
 
 -- ---- what is true of every world stays true
 
@@ -456,7 +457,7 @@ not_brought v k n up p num l m h =
     let x = s.entry in
     let e : packet m k ≡ Some x = subst (λ i. packet m i ≡ Some x) (sym num) s.is_there in
     record {
-      act = Carries k;
+      act = MovesPacket k;
       is = refl;
       memory = memory_there m k x e;
       does = comes m x.to x.message x.origin x.about;

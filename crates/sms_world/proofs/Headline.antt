@@ -1,10 +1,10 @@
 -- Each event of an orderly run keeps the claims.
 use Rattle.std.proofs.Common.{◌≡◌, ℕ, zero, suc, ◌+◌, true, false, ◌||◌, ltb, List, [], ◌∷◌, map, take, length, refl, sym, ap, ◌∙◌, subst, Some, None, Option, ◌⊎◌, inl, inr}
 use Rattle.std.specs.List.{AllByRecursion}
-use Rattle.sms_world.specs.Below.{Below}
+use Rattle.sms_world.specs.Inside.Below.{Below}
 use Rattle.sms_message.specs.Does.{Does}
 use Rattle.std.proofs.lemmas.Bool.{cond_both}
-use Rattle.sms_field.specs.AddressValue.{AddressValue}
+use Rattle.sms_field.specs.Address.Value.{AddressValue}
 use Rattle.sms_tpdu.specs.Deliver.{Delivery}
 use Rattle.sms_relay.specs.declared.side.Side.TheVariants.{FromPhone, ToPhone}
 use Rattle.sms_join.specs.declared.units.Units.{Units}
@@ -15,7 +15,7 @@ use Rattle.sms_message.specs.declared.message.Relay.TheVariants.{Transfer, Answe
 use Rattle.sms_message.specs.declared.message.Message.{Message}
 use Rattle.sms_message.specs.declared.message.Message.TheVariants.{NotCp, Note, Tiny, Data}
 use Rattle.sms_message.specs.declared.message.Tag.{Tag}
-use Rattle.sms_field.specs.Times.{end_of_2099}
+use Rattle.sms_field.specs.Time.Computed.{end_of_2099}
 use Rattle.sms_message.specs.Message.{Origin}
 use Rattle.sms_centre.specs.Centre.State.{CentreState, new_centre}
 use Rattle.sms_centre.specs.Centre.{centre_receives}
@@ -33,7 +33,7 @@ use Rattle.sms_world.proofs.Offered.{units_in_delivery, offers, is_taken, each_o
 use Rattle.sms_party.specs.Receiver.Offers.{offers_units}
 use Rattle.sms_party.specs.Receiver.Pieces.{piece_in}
 use Rattle.sms_world.specs.Machine.{Machine, start}
-use Rattle.sms_world.specs.Machine.Event.{Event, Compose, Carry, Timeout, Push, Tick, Inject, Act, Is}
+use Rattle.sms_world.specs.Machine.Event.{Event, Compose, Carry, Timeout, Push, Tick, Inject, Act, IsMetAs}
 use Rattle.sms_world.specs.Machine.Next.{Next, next, stays, by_sender, by_centre, by_receiver, of_centre, pushed, origin_of, comes, comes_to_phone, carries, packet, ticked, receiver_limits}
 use Rattle.sms_world.specs.Machine.Step.{Acts}
 use Rattle.sms_world.specs.Orderly.{OrderlyRun, IsOrderly}
@@ -42,7 +42,7 @@ use Rattle.sms_world.proofs.Walk.{may_happen, sent_may_come, message_may_come, r
 use Rattle.sms_world.specs.Texts.Keys.{texts_of}
 use Rattle.sms_world.specs.Texts.Finished.{finished}
 use Rattle.sms_world.specs.Texts.Stands.{stands}
-use Rattle.sms_world.specs.Claims.Pieces.{HasCut, IsSentOf, MessageOf, RelayOf, DeliveryOf, EachHasItsPiece}
+use Rattle.sms_world.specs.Claims.Pieces.{HasCut, IsSentOf, HasItsPiece, DeliveryOf, EachHasItsPiece}
 use Rattle.sms_world.proofs.Standing.{ReceiverSound, Sound}
 use Rattle.sms_world.specs.Claims.OpenSets.{OpenSetsAreOpenTexts}
 use Rattle.sms_world.specs.Claims.RememberedKeys.{KeysAreOfFinished}
@@ -112,7 +112,7 @@ module _ (law : Below) where
           (λ _. h phone)
 
   relay_stands : (m : Machine) (phone : ℕ) (tag : Tag) (v : Relay) (o : Option Origin) → AllByRecursion HasCut m.senders.texts → Stand m
-      → RelayOf m.phones m.senders.texts m.centre.accepted v (Phone phone) o → relay_may_come true m v (Phone phone) o ≡ true
+      → HasItsPiece m.phones m.senders.texts m.centre.accepted (Data false tag v) (Phone phone) o → relay_may_come true m v (Phone phone) o ≡ true
       → ReceiverSound m.limits.remembered m.phones m.senders.texts m.centre.accepted phone
       (receiver_opened (receiver_limits m.limits) (m.receiver phone) m.clock tag v o).after
   unfolding receiver_opened receiver_takes units_in_delivery
@@ -131,7 +131,7 @@ module _ (law : Below) where
   stays_stands m o h = h
 
   to_phone_stands : (m : Machine) (phone : ℕ) (v : Message) (o : Option Origin) → EachHasItsPiece m → Stand m
-      → MessageOf m.phones m.senders.texts m.centre.accepted v (Phone phone) o → message_may_come true m v (Phone phone) o ≡ true
+      → HasItsPiece m.phones m.senders.texts m.centre.accepted v (Phone phone) o → message_may_come true m v (Phone phone) o ≡ true
       → Stand (comes_to_phone m phone v o).after
   unfolding comes_to_phone
   to_phone_stands m phone NotCp o s h x may = stays_stands m _ h
@@ -143,7 +143,7 @@ module _ (law : Below) where
       by_receiver_stands m phone (receiver_opened (receiver_limits m.limits) (m.receiver phone) m.clock tag relay o) h (relay_stands m phone tag relay o s.texts h x may)
 
   comes_stands : (m : Machine) (to : Place) (v : Message) (o : Option Origin) (about : Option ℕ) → EachHasItsPiece m → Stand m
-      → MessageOf m.phones m.senders.texts m.centre.accepted v to o → message_may_come true m v to o ≡ true
+      → HasItsPiece m.phones m.senders.texts m.centre.accepted v to o → message_may_come true m v to o ≡ true
       → Stand (comes m to v o about).after
   unfolding comes
   comes_stands m (Centre phone) v o about s h x may =
@@ -163,7 +163,7 @@ module _ (law : Below) where
   unfolding pushed
   pushes_stands m phone d h g = by_centre_stands m phone (origin_of (d.after.line phone).latest) None d h g
 
-  next_stands : (m : Machine) (e : Event) (act : Act) → Is (width_of m.senders.wide) e act → may_happen true m e ≡ true → EachHasItsPiece m → Stand m → Stand (next m act).after
+  next_stands : (m : Machine) (e : Event) (act : Act) → IsMetAs (width_of m.senders.wide) e act → may_happen true m e ≡ true → EachHasItsPiece m → Stand m → Stand (next m act).after
   unfolding next may_happen ticked
   next_stands m (Compose phone target characters) act is may s h =
       subst (λ (v : Act). Stand (next m v).after) (sym is.3)
@@ -193,7 +193,7 @@ module _ (law : Below) where
 
   -- one step, with or without memory
   pub step_sound : (m : Machine) (e : Event) (act : Act) (told : Told) (put : List Sent) (n : Machine)
-      → Is (width_of m.senders.wide) e act → may_happen true m e ≡ true → Sound m → Acts m act told put n → Sound n
+      → IsMetAs (width_of m.senders.wide) e act → may_happen true m e ≡ true → Sound m → Acts m act told put n → Sound n
   step_sound m e act told put n is may h (inl s) =
       subst Sound s.2 (record { once = next_once true m e act is may h.once; receivers = next_stands m e act is may h.once h.receivers })
   step_sound m e act told put n is may h (inr s) = subst Sound s.3 h

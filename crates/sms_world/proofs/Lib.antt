@@ -65,6 +65,8 @@ pub mod Rejecting
 pub mod Rows
 pub mod Networks
 pub mod Transcribing
+pub mod WatchedPlayed
+pub mod Judging
 pub mod Promises
 pub mod Nowhere
 pub mod Called

@@ -5,12 +5,12 @@ use Rattle.sms_message.specs.Changed.{changed}
 use Rattle.sms_message.specs.declared.outcome.Outcome.{Outcome}
 use Rattle.sms_message.specs.declared.outcome.Outcome.TheVariants as outcome
 use Rattle.sms_world.specs.declared.notes.sender.SenderNotes.{SenderNotes}
-use Rattle.sms_field.specs.AddressValue.{AddressValue}
+use Rattle.sms_field.specs.Address.Value.{AddressValue}
 use Rattle.sms_world.specs.Ledger.{Mark, mark_at, SenderNote, called, Ledger, AreAlike}
 use Rattle.sms_world.specs.Machine.Event.{Event, Compose, Carry, Timeout, Push, Tick, Inject}
 use Rattle.sms_world.specs.Noted.{Facts, sender_noted, carry_noted, push_noted, noted}
 use Rattle.sms_world.specs.Told.{Told}
-use Rattle.sms_world.specs.NotesValue.{sender_note, sender_at, is_ending, MayCome, IsCounted, IsMarkFor, IsFor}
+use Rattle.sms_world.specs.Inside.NotesValue.{sender_note, sender_at, is_ending, MayCome, IsCounted, IsMarkFor, IsFor}
 use Rattle.sms_party.specs.Sent.{Place}
 use Rattle.sms_world.proofs.Fronts.{accepted_alike}
 use Rattle.sms_world.proofs.Replaced.{changed_here}

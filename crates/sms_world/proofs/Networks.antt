@@ -4,7 +4,7 @@ use Rattle.std.specs.Str.{chars, IsUtf8}
 use Rattle.std.specs.String.{string_bytes}
 use Rattle.std.proofs.lemmas.Str.{encodes-chars}
 use Rattle.std.proofs.lemmas.Option.{slice_get-map}
-use Rattle.sms_field.specs.AddressValue.{AddressValue}
+use Rattle.sms_field.specs.Address.Value.{AddressValue}
 use Rattle.sms_party.specs.Phone.{PhoneValue}
 use Rattle.sms_party.specs.Receiver.State.{Entry}
 use Rattle.sms_party.specs.Sender.Value.{status_among}
@@ -64,7 +64,7 @@ no_packets : (packets : List PacketValue) → ArePacketsOf packets [] → packet
 no_packets [] none = refl
 no_packets (p ∷ packets) none = absurd none
 
-starts_empty : (limits : Limits) (phones : List AddressValue) (world : WorldValue) → StandsFor world (start limits phones) → world.packets ≡ []
+pub starts_empty : (limits : Limits) (phones : List AddressValue) (world : WorldValue) → StandsFor world (start limits phones) → world.packets ≡ []
 unfolding start
 starts_empty limits phones world stands = no_packets world.packets stands.packets_are
 

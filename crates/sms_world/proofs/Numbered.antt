@@ -2,7 +2,7 @@
 use Rattle.std.proofs.Common.{◌≡◌, ℕ, ◌+◌, ◌-◌, ◌%◌, ◌<◌, ◌≤◌, Bool, true, false, ltb, leb, eqb, ◌&&◌, List, [], ◌∷◌, length, refl, sym, ap, ◌∙◌, subst, arith, Some, None, Option, inl, inr}
 use Rattle.std.specs.List.{AllByRecursion}
 use Rattle.std.proofs.lemmas.Bool.{cond_both, eq-eqb}
-use Rattle.sms_field.specs.AddressValue.{AddressValue}
+use Rattle.sms_field.specs.Address.Value.{AddressValue}
 use Rattle.sms_tpdu.specs.Submit.{Submission}
 use Rattle.sms_relay.specs.declared.side.Side.TheVariants.{FromPhone, ToPhone}
 use Rattle.sms_join.specs.declared.units.Units.{Units}
@@ -21,7 +21,7 @@ use Rattle.sms_centre.specs.declared.centre.check.Check.TheVariants.{Refuse, Acc
 use Rattle.sms_message.specs.declared.outcome.Outcome.{Outcome}
 use Rattle.sms_message.specs.declared.outcome.Outcome.TheVariants.{Typed}
 use Rattle.sms_message.specs.declared.outcome.Dropped.{Dropped}
-use Rattle.sms_field.specs.Times.{end_of_2099}
+use Rattle.sms_field.specs.Time.Computed.{end_of_2099}
 use Rattle.sms_message.specs.Does.{Does}
 use Rattle.sms_centre.specs.Centre.{centre_opened, centre_answered, centre_receives}
 use Rattle.sms_centre.specs.Centre.State.{CentreState, Acceptance, Pushing}
@@ -39,7 +39,7 @@ use Rattle.sms_party.specs.Sender.Answers.{advanced, noted, hears, matches, send
 use Rattle.sms_script.specs.declared.script.limits.Limits.{Limits}
 use Rattle.sms_world.specs.Told.{Told}
 use Rattle.sms_world.specs.Machine.{Machine, start}
-use Rattle.sms_world.specs.Machine.Event.{Event, Compose, Carry, Timeout, Push, Tick, Inject, Act, Is}
+use Rattle.sms_world.specs.Machine.Event.{Event, Compose, Carry, Timeout, Push, Tick, Inject, Act, IsMetAs}
 use Rattle.sms_world.specs.Machine.Next.{Next, next, stays, by_sender, by_centre, by_receiver, of_centre, to_phone, to_centre, receiver_limits, pushed, comes, comes_to_phone, carries, packet, ticked}
 use Rattle.sms_world.specs.Machine.Step.{Acts, RunWith}
 use Rattle.sms_world.specs.Orderly.Injections.{NothingIsInjected}
@@ -269,7 +269,7 @@ carries_all m (Some x) h s = go x.to refl (s x refl)
         each_entered (SentNumbered m.senders.sender) _ m.sent
         (centre_replies m.senders.sender phone x.about m.centre m.clock m.limits.held m.phones x.message x.origin t) h
 
-next_all : (m : Machine) (e : Event) (act : Act) → Is (width_of m.senders.wide) e act → NothingIsInjected e → All m → All (next m act).after
+next_all : (m : Machine) (e : Event) (act : Act) → IsMetAs (width_of m.senders.wide) e act → NothingIsInjected e → All m → All (next m act).after
 unfolding next ticked centre_pushes
 next_all m (Compose phone target characters) act is may h =
     subst (λ (v : Act). All (next m v).after) (sym is.3)
@@ -291,7 +291,7 @@ next_all m (Tick seconds) act is may h =
 next_all m (Inject place octets) act is may h = absurd may
 
 acts_all : (m : Machine) (e : Event) (act : Act) (told : Told) (put : List Sent) (n : Machine)
-    → Is (width_of m.senders.wide) e act → NothingIsInjected e → All m → Acts m act told put n → All n
+    → IsMetAs (width_of m.senders.wide) e act → NothingIsInjected e → All m → Acts m act told put n → All n
 acts_all m e act told put n is may h (inl s) = subst All s.2 (next_all m e act is may h)
 acts_all m e act told put n is may h (inr s) = subst All s.3 h
 

@@ -4,7 +4,7 @@ use Rattle.std.specs.List.{AllByRecursion}
 use Rattle.sms_message.specs.Message.Answers.{answers}
 use Rattle.sms_message.specs.Does.{Does}
 use Rattle.std.proofs.lemmas.Bool.{cond_both}
-use Rattle.sms_field.specs.AddressValue.{AddressValue}
+use Rattle.sms_field.specs.Address.Value.{AddressValue}
 use Rattle.sms_tpdu.specs.Deliver.{Delivery}
 use Rattle.sms_relay.specs.declared.side.Side.TheVariants.{FromPhone}
 use Rattle.sms_join.specs.declared.units.Units.{Units}
@@ -14,7 +14,7 @@ use Rattle.sms_message.specs.declared.message.Relay.{Relay}
 use Rattle.sms_message.specs.declared.message.Message.{Message}
 use Rattle.sms_message.specs.declared.message.Message.TheVariants.{NotCp, Note, Tiny, Data}
 use Rattle.sms_message.specs.declared.message.Tag.{Tag}
-use Rattle.sms_field.specs.Times.{end_of_2099}
+use Rattle.sms_field.specs.Time.Computed.{end_of_2099}
 use Rattle.sms_message.specs.Message.{Origin}
 use Rattle.sms_centre.specs.Centre.State.{Acceptance, CentreState, new_centre}
 use Rattle.sms_centre.specs.Centre.{centre_receives}
@@ -30,13 +30,13 @@ use Rattle.sms_party.specs.Receiver.{receiver_opened}
 use Rattle.sms_world.proofs.Offered.{units_in_delivery, offers, is_taken, each_offer, each_opened}
 use Rattle.sms_party.specs.Receiver.Pieces.{piece_in}
 use Rattle.sms_world.specs.Machine.{Machine, start}
-use Rattle.sms_world.specs.Machine.Event.{Event, Compose, Carry, Timeout, Push, Tick, Inject, Act, Is}
+use Rattle.sms_world.specs.Machine.Event.{Event, Compose, Carry, Timeout, Push, Tick, Inject, Act, IsMetAs}
 use Rattle.sms_world.specs.Machine.Next.{Next, next, stays, by_sender, by_centre, by_receiver, of_centre, pushed, origin_of, comes, comes_to_phone, carries, packet, ticked, to_centre, receiver_limits}
 use Rattle.sms_world.specs.Machine.Step.{Acts, RunWith}
 use Rattle.sms_world.specs.Texts.Keys.{is_from, stamp_given}
 use Rattle.sms_world.specs.Orderly.{SubmissionsAreOrderly}
 use Rattle.sms_world.proofs.Walk.{may_happen, sent_may_come, message_may_come}
-use Rattle.sms_world.specs.Claims.Pieces.{AcceptedOnce, HasCut, IsSentOf, MessageOf, CentreSound, EachHasItsPiece, EachMessageHasItsPiece}
+use Rattle.sms_world.specs.Claims.Pieces.{AcceptedOnce, HasCut, IsSentOf, HasItsPiece, CentreSound, EachHasItsPiece, EachMessageHasItsPiece}
 use Rattle.sms_world.specs.Headline.Once.{AcceptedAtMostOnce}
 use Rattle.sms_world.proofs.Entries.{contains_none, contains_cases}
 use Rattle.sms_world.proofs.Tested.{is_from_own, submissions_happen}
@@ -129,7 +129,7 @@ to_phone_once m phone (Data false tag relay) o h =
     (receives_put (IsSentOf m.phones m.senders.texts m.centre.accepted) m.clock (receiver_limits m.limits) (m.receiver phone) phone tag relay o (answers_sent m phone tag))
 
 comes_once : (all : Bool) (m : Machine) (to : Place) (v : Message) (o : Option Origin) (about : Option ℕ) → EachHasItsPiece m
-    → MessageOf m.phones m.senders.texts m.centre.accepted v to o → message_may_come all m v to o ≡ true
+    → HasItsPiece m.phones m.senders.texts m.centre.accepted v to o → message_may_come all m v to o ≡ true
     → EachHasItsPiece (comes m to v o about).after
 unfolding comes
 comes_once all m (Centre phone) v o about h x may =
@@ -154,7 +154,7 @@ pushes_once : (m : Machine) (phone : ℕ) (d : Does CentreState) → EachHasItsP
 unfolding pushed
 pushes_once m phone d h g = by_centre_once m phone (origin_of (d.after.line phone).latest) None d h g
 
-pub next_once : (all : Bool) (m : Machine) (e : Event) (act : Act) → Is (width_of m.senders.wide) e act → may_happen all m e ≡ true → EachHasItsPiece m → EachHasItsPiece (next m act).after
+pub next_once : (all : Bool) (m : Machine) (e : Event) (act : Act) → IsMetAs (width_of m.senders.wide) e act → may_happen all m e ≡ true → EachHasItsPiece m → EachHasItsPiece (next m act).after
 unfolding next may_happen ticked
 next_once all m (Compose phone target characters) act is may h =
     subst (λ (v : Act). EachHasItsPiece (next m v).after) (sym is.3)
@@ -193,7 +193,7 @@ start_once limits phones =
     }
 
 step_once : (all : Bool) (m : Machine) (e : Event) (act : Act) (told : Told) (put : List Sent) (n : Machine)
-    → Is (width_of m.senders.wide) e act → may_happen all m e ≡ true → EachHasItsPiece m → Acts m act told put n → EachHasItsPiece n
+    → IsMetAs (width_of m.senders.wide) e act → may_happen all m e ≡ true → EachHasItsPiece m → Acts m act told put n → EachHasItsPiece n
 step_once all m e act told put n is may h (inl s) = subst EachHasItsPiece s.2 (next_once all m e act is may h)
 step_once all m e act told put n is may h (inr s) = subst EachHasItsPiece s.3 h
 

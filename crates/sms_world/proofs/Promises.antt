@@ -1,6 +1,6 @@
 -- What is promised of one run.
 use Rattle.std.proofs.Common.{List, [], ◌∷◌}
-use Rattle.sms_field.specs.AddressValue.{AddressValue}
+use Rattle.sms_field.specs.Address.Value.{AddressValue}
 use Rattle.sms_script.specs.declared.script.limits.Limits.{Limits}
 use Rattle.sms_world.specs.Told.{Told}
 use Rattle.sms_world.specs.Headline.OfRun.{ReceivingRun, Promised}

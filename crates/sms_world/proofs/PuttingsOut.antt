@@ -1,8 +1,8 @@
 -- A sender's puttings out are never fewer, so what holds of few holds all along a run.
 use Rattle.std.proofs.Common.{ℕ, ◌+◌, ◌-◌, ◌≤◌, Bool, true, false, cond, eqb, leb, ltb, List, [], ◌∷◌, length, Option, Some, None, subst, arith, inl, inr}
 use Rattle.std.proofs.lemmas.Bool.{cond_both}
-use Rattle.sms_field.specs.AddressValue.{AddressValue}
-use Rattle.sms_field.specs.Times.{end_of_2099}
+use Rattle.sms_field.specs.Address.Value.{AddressValue}
+use Rattle.sms_field.specs.Time.Computed.{end_of_2099}
 use Rattle.sms_relay.specs.declared.side.Side.TheVariants.{FromPhone, ToPhone}
 use Rattle.sms_join.specs.declared.units.Units.{Units}
 use Rattle.sms_message.specs.declared.message.Relay.{Relay}
@@ -21,7 +21,7 @@ use Rattle.sms_party.specs.Sender.Calls.{appended, typed, composes, ends, repeat
 use Rattle.sms_party.specs.Sender.Answers.{advanced, hears, matches, sender_receives}
 use Rattle.sms_world.specs.Told.{Told}
 use Rattle.sms_world.specs.Machine.{Machine, start}
-use Rattle.sms_world.specs.Machine.Event.{Event, Act, Composes, Carries, TimesOut, Pushes, Ticks, Injects}
+use Rattle.sms_world.specs.Machine.Event.{Event, Act, TypesText, MovesPacket, EndsWait, HandsOver, MovesClock, SlipsIn}
 use Rattle.sms_world.specs.Machine.Next.{Next, next, stays, by_sender, by_centre, by_receiver, comes, comes_to_phone, carries, packet, ticked}
 use Rattle.sms_world.specs.Machine.Step.{Acts, RunWith}
 use Rattle.sms_world.specs.Orderly.Injections.{NothingIsInjected}
@@ -141,18 +141,18 @@ carries_more m (Some x) = comes_more m x.to x.message x.origin x.about
 
 next_more : (m : Machine) (act : Act) → AreMore m.senders (next m act).after.senders
 unfolding next by_sender by_centre ticked
-next_more m (Composes phone target characters pieces) =
+next_more m (TypesText phone target characters pieces) =
     cond_both (ltb phone (length m.phones)) _ _ (λ (n : Next). AreMore m.senders n.after.senders) (λ _. composes_more m.senders phone target characters pieces) (λ _. stays_more m _)
-next_more m (Carries k) = carries_more m (packet m k)
-next_more m (TimesOut phone) =
+next_more m (MovesPacket k) = carries_more m (packet m k)
+next_more m (EndsWait phone) =
     cond_both (ltb phone (length m.phones)) _ _ (λ (n : Next). AreMore m.senders n.after.senders) (λ _. late_more m.senders phone) (λ _. stays_more m _)
-next_more m (Pushes phone) =
+next_more m (HandsOver phone) =
     cond_both (ltb phone (length m.phones)) _ _ (λ (n : Next). AreMore m.senders n.after.senders) (λ _. as_often m.senders) (λ _. stays_more m _)
-next_more m (Ticks seconds) =
+next_more m (MovesClock seconds) =
     cond_both (ltb (m.clock + seconds) end_of_2099) _ _ (λ (n : Next). AreMore m.senders n.after.senders) (λ _. as_often m.senders) (λ _. stays_more m _)
-next_more m (Injects (Centre phone) message) =
+next_more m (SlipsIn (Centre phone) message) =
     cond_both (ltb phone (length m.phones)) _ _ (λ (n : Next). AreMore m.senders n.after.senders) (λ _. comes_more m (Centre phone) message None None) (λ _. stays_more m _)
-next_more m (Injects (Phone phone) message) =
+next_more m (SlipsIn (Phone phone) message) =
     cond_both (ltb phone (length m.phones)) _ _ (λ (n : Next). AreMore m.senders n.after.senders) (λ _. comes_more m (Phone phone) message None None) (λ _. stays_more m _)
 
 acts_more : (m n : Machine) (act : Act) (told : Told) (put : List Sent) → Acts m act told put n → AreMore m.senders n.senders

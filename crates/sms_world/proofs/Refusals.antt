@@ -1,17 +1,17 @@
 -- A delivery is refused only where a table is full or a growth is refused.
 use Rattle.std.proofs.Common.{◌≡◌, ◌≢◌, ℕ, ◌<◌, ◌≤◌, Bool, true, false, not, ◌&&◌, ◌||◌, leb, ltb, eqb, List, [], ◌∷◌, length, refl, sym, ap, ◌∙◌, subst, arith, Some, None, Option, Ok, ◌⊎◌, inl, inr}
-use Rattle.sms_world.specs.Below.{Below}
+use Rattle.sms_world.specs.Inside.Below.{Below}
 use Rattle.sms_world.proofs.Arrived.{each_piece}
 use Rattle.sms_message.specs.Does.{Does}
 use Rattle.std.proofs.lemmas.Bool.{cond_both, and_parts, and_from, leb-true, eq-eqb, ne_eqb, ltb-true, ltb-false}
 use Rattle.std.proofs.lemmas.List.{length-map}
 use Rattle.sms_tpdu.specs.Deliver.{Delivery}
 use Rattle.sms_join.specs.declared.units.Units.{Units}
-use Rattle.sms_join.specs.Sets.{open_sets}
+use Rattle.sms_join.specs.Joiner.Sets.{open_sets}
 use Rattle.sms_join.specs.Joiner as join
 use Rattle.sms_join.specs.Joiner.{answer, is_repeat, is_whole}
 use Rattle.sms_join.specs.Arrivals.{Arrival, Texts, has_piece, has_pieces, is_done, completed, is_listed, has_text, open_texts}
-use Rattle.sms_join.specs.Joining.{is_clear, is_recent}
+use Rattle.sms_join.specs.Arrivals.Joining.{is_clear, is_recent}
 use Rattle.sms_relay.specs.declared.side.Side.TheVariants.{ToPhone}
 use Rattle.sms_message.specs.declared.message.TransferUnit.TheVariants.{Deliver}
 use Rattle.sms_message.specs.declared.message.Relay.TheVariants.{Transfer}
@@ -28,7 +28,7 @@ use Rattle.sms_party.specs.Receiver.Pieces.{piece_in}
 use Rattle.sms_party.specs.Receiver.{receiver_takes, receiver_opened}
 use Rattle.sms_party.specs.Receiver.Offers.{is_full_for, offers_units}
 use Rattle.sms_world.specs.Machine.{Machine}
-use Rattle.sms_world.specs.Machine.Event.{Carry, Act, Carries}
+use Rattle.sms_world.specs.Machine.Event.{Carry, Act, MovesPacket}
 use Rattle.sms_world.specs.Machine.Next.{Next, next, packet, carries, comes, comes_to_phone, by_receiver, to_centre, receiver_limits}
 use Rattle.sms_world.specs.Machine.Step.{no_memory, Acts, Step}
 use Rattle.sms_world.specs.Texts.{size_in}
@@ -38,7 +38,7 @@ use Rattle.sms_world.specs.Texts.Keys.{texts_of}
 use Rattle.sms_world.specs.Texts.Finished.{finished}
 use Rattle.sms_world.specs.Orderly.{IsOrderly}
 use Rattle.sms_world.specs.Orderly.Brought.{BringsDelivery}
-use Rattle.sms_world.specs.Claims.Pieces.{IsSentOf, DeliverOf, DeliveryOf}
+use Rattle.sms_world.specs.Claims.Pieces.{IsSentOf, HasItsPiece, DeliveryOf}
 use Rattle.sms_world.specs.Headline.Refused.{is_taking, no_room, no_room_put, StoreIsFull, SetsAreFull, WasRefused, Received, RefusedOnlyWhereFull}
 use Rattle.sms_world.proofs.Walk.{may_happen, may_deliver, may_arrive}
 use Rattle.sms_world.proofs.Standing.{ReceiverSound, Sound}
@@ -164,7 +164,7 @@ module _ (law : Below) (m : Machine) (phone : ℕ) (tag : Tag) (d : Delivery) (o
 delivered : Below → (old : Machine) (k phone : ℕ) (tag : Tag) (about : Option ℕ) (d : Delivery) (o : Origin) (told : Told) (put : List Sent) (new : Machine) (units : Units)
     → Sound old → IsBounded (receiver_limits old.limits) (old.receiver phone) → packet old k ≡ Some (record { message = Data false tag (Transfer ToPhone (Deliver d)); to = Phone phone; origin = Some o; about = about }) → may_happen true old (Carry k) ≡ true
     → DeliveryOf old.phones old.senders.texts old.centre.accepted phone d o → units_in_delivery d ≡ Some units
-    → Acts old (Carries k) told put new
+    → Acts old (MovesPacket k) told put new
     → Became old phone (record { text = o.text; piece = piece_in old.clock d units }) tag told put new
 unfolding next carries comes comes_to_phone receiver_opened receiver_takes units_in_delivery by_receiver may_happen may_deliver
 delivered law old k phone tag about d o told put new units s bound brings may x p step = go step
@@ -175,7 +175,7 @@ delivered law old k phone tag about d o told put new units s bound brings may x 
     did : Does ReceiverState
     did = offers_units (receiver_limits old.limits) (old.receiver phone) old.clock tag d (Some o) (units_in_delivery d)
 
-    is_next : next old (Carries k) ≡ by_receiver old phone did
+    is_next : next old (MovesPacket k) ≡ by_receiver old phone did
     is_next = ap (carries old) brings
 
     l : Left old phone (record { text = o.text; piece = piece_in old.clock d units }) tag did
@@ -185,7 +185,7 @@ delivered law old k phone tag about d o told put new units s bound brings may x 
     at_phone : (by_receiver old phone did).after.receiver phone ≡ did.after
     at_phone = rw (eq-eqb phone phone refl) refl
 
-    go : Acts old (Carries k) told put new → Became old phone (record { text = o.text; piece = piece_in old.clock d units }) tag told put new
+    go : Acts old (MovesPacket k) told put new → Became old phone (record { text = o.text; piece = piece_in old.clock d units }) tag told put new
     go (inr z) = inr (inr (sym z.1, sym z.2, sym z.3))
     go (inl z) = which l
       where
@@ -281,7 +281,7 @@ refused_only_where_full law limits phones past old run event may told put new st
     s : Orderly old
     s = run_orderly law limits phones past old run
 
-    by_origin : (origin : Option Origin) → (brings : BringsDelivery old event phone d origin) → DeliverOf old.phones old.senders.texts old.centre.accepted d (Phone phone) origin
+    by_origin : (origin : Option Origin) → (brings : BringsDelivery old event phone d origin) → HasItsPiece old.phones old.senders.texts old.centre.accepted (Data false brings.tag (Transfer ToPhone (Deliver d))) (Phone phone) origin
         → (o : Origin) × (origin ≡ Some o) × IsTypedTo old phone o.text × Received old phone o brings.tag told put new
     by_origin None b x = absurd x
     by_origin (Some o) b x = (
@@ -299,7 +299,7 @@ refused_only_where_full law limits phones past old run event may told put new st
           (acts step)),
     )
       where
-        acts : Step old event told put new → Acts old (Carries b.number) told put new
+        acts : Step old event told put new → Acts old (MovesPacket b.number) told put new
         acts step =
             let step' : Step old (Carry b.number) told put new = subst (λ e. Step old e told put new) b.carries step in
             subst (λ (v : Act). Acts old v told put new) step'.1 step'.2

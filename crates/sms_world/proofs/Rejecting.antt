@@ -4,7 +4,7 @@ use Rattle.std.specs.List.{AllByRecursion}
 use Rattle.sms_message.specs.Message.Answers.{answers}
 use Rattle.sms_message.specs.Does.{Does}
 use Rattle.std.proofs.lemmas.Bool.{cond_both}
-use Rattle.sms_field.specs.AddressValue.{AddressValue}
+use Rattle.sms_field.specs.Address.Value.{AddressValue}
 use Rattle.sms_tpdu.specs.Submit.{Submission}
 use Rattle.sms_relay.specs.declared.side.Side.TheVariants.{FromPhone, ToPhone}
 use Rattle.sms_join.specs.declared.units.Units.{Units}
@@ -19,7 +19,7 @@ use Rattle.sms_message.specs.declared.message.Tag.{Tag}
 use Rattle.sms_message.specs.Message.{tag_of, same_tag, Origin}
 use Rattle.sms_centre.specs.declared.centre.check.Check.{Check}
 use Rattle.sms_centre.specs.declared.centre.check.Check.TheVariants.{Refuse, Accept}
-use Rattle.sms_field.specs.Times.{end_of_2099}
+use Rattle.sms_field.specs.Time.Computed.{end_of_2099}
 use Rattle.sms_centre.specs.Centre.State.{CentreState, Acceptance, Pushing}
 use Rattle.sms_centre.specs.Centre.Submissions.{checked, centre_takes}
 use Rattle.sms_centre.specs.Centre.Checks.{checked_by, books_of}
@@ -37,7 +37,7 @@ use Rattle.sms_party.specs.Sender.Answers.{noted, hears, matches, sender_receive
 use Rattle.sms_party.specs.Sender.Segments.{submission_of}
 use Rattle.sms_script.specs.declared.script.limits.Limits.{Limits}
 use Rattle.sms_world.specs.Machine.{Machine, start}
-use Rattle.sms_world.specs.Machine.Event.{Event, Act, Composes, Carries, TimesOut, Pushes, Ticks, Injects}
+use Rattle.sms_world.specs.Machine.Event.{Event, Act, TypesText, MovesPacket, EndsWait, HandsOver, MovesClock, SlipsIn}
 use Rattle.sms_world.specs.Machine.Next.{Next, next, stays, by_sender, by_centre, by_receiver, of_centre, to_phone, pushed, comes, comes_to_phone, carries, packet, ticked, phone_of, to_centre, receiver_limits}
 use Rattle.sms_world.specs.Machine.Step.{Acts, Run}
 use Rattle.sms_world.specs.Accepted.Reject.{AllReject, OnlyTimeIsLeft}
@@ -230,20 +230,20 @@ carries_says m (Some x) h = comes_says m x.to x.message x.origin x.about h
 
 next_says : (m : Machine) (act : Act) → AllSay m → AllSay (next m act).after
 unfolding next pushed centre_pushes ticked
-next_says m (Composes phone target characters pieces) h =
+next_says m (TypesText phone target characters pieces) h =
     cond_both (ltb phone (length m.phones)) _ _ (λ (r : Next). AllSay r.after)
     (λ _. by_sender_says m (composes m.senders phone target characters pieces) h (composes_keeps m.senders phone h.setting target characters pieces)) (λ _. stays_says m _ h)
-next_says m (Carries k) h = carries_says m (packet m k) h
-next_says m (TimesOut phone) h =
+next_says m (MovesPacket k) h = carries_says m (packet m k) h
+next_says m (EndsWait phone) h =
     cond_both (ltb phone (length m.phones)) _ _ (λ (r : Next). AllSay r.after)
     (λ _. by_sender_says m (times_out m.senders phone) h (times_out_keeps m.senders phone h.setting)) (λ _. stays_says m _ h)
-next_says m (Pushes phone) h =
+next_says m (HandsOver phone) h =
     cond_both (ltb phone (length m.phones)) _ _ (λ (r : Next). AllSay r.after)
     (λ _. by_centre_says m phone _ None _ h (pushes_quiet m.phones m.centre phone (unended (m.centre.line phone).queue m.clock) _ None)) (λ _. stays_says m _ h)
-next_says m (Ticks seconds) h =
+next_says m (MovesClock seconds) h =
     cond_both (ltb (m.clock + seconds) end_of_2099) _ _ (λ (r : Next). AllSay r.after)
     (λ _. record { setting = h.setting; sent = h.sent }) (λ _. stays_says m _ h)
-next_says m (Injects place message) h =
+next_says m (SlipsIn place message) h =
     cond_both (ltb (phone_of place) (length m.phones)) _ _ (λ (r : Next). AllSay r.after) (λ _. comes_says m place message None None h) (λ _. stays_says m _ h)
 
 acts_say : (m : Machine) (act : Act) (told : Told) (put : List Sent) (n : Machine) → AllSay m → Acts m act told put n → AllSay n

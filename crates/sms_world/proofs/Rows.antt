@@ -3,16 +3,16 @@ use Rattle.std.proofs.Common.{◌≡◌, ℕ, true, false, List, [], ◌∷◌, 
 use Rattle.sms_text.specs.Utf16.{units_high_first, octets_high_first}
 use Rattle.sms_text.specs.TextOfSeptets.{text_of_septets}
 use Rattle.sms_text.specs.Tables.{code_of, character_of}
-use Rattle.sms_field.specs.AddressValue.{AddressValue}
+use Rattle.sms_field.specs.Address.Value.{AddressValue}
 use Rattle.sms_field.specs.Coding.{alphabet_at}
 use Rattle.sms_field.specs.declared.symbols.Symbols.TheVariants.{Digits}
 use Rattle.sms_join.specs.declared.units.Units.TheVariants.{Gsm}
 use Rattle.sms_join.specs.Key.{same_key, same_width}
 use Rattle.sms_join.specs.Joiner.{new_joiner, is_repeat, is_whole, has_room, decided, answer, answered, offered}
-use Rattle.sms_join.specs.Joining.{is_recent}
+use Rattle.sms_join.specs.Arrivals.Joining.{is_recent}
 use Rattle.sms_join.specs.Reading.{text_of_segments}
-use Rattle.sms_field.specs.Times.{stamp_octets}
-use Rattle.sms_field.specs.SameAddress.{same_address}
+use Rattle.sms_field.specs.Time.Computed.{stamp_octets}
+use Rattle.sms_field.specs.Address.Same.{same_address}
 use Rattle.sms_centre.specs.Centre.{centre_opened, centre_answered, centre_receives}
 use Rattle.sms_centre.specs.Centre.State.{new_centre}
 use Rattle.sms_centre.specs.Centre.Checks.{checked_by}
@@ -32,10 +32,10 @@ use Rattle.sms_party.specs.Receiver.Aging.{ages}
 use Rattle.sms_message.specs.declared.outcome.Outcome.TheVariants.{Typed, Segment, Accepted, Repeated, Held, Refused, Pushed, Delivered, Finished, Kept, Repeat, Ticked}
 use Rattle.sms_message.specs.declared.outcome.Dropped.TheVariants.{Unmatched}
 use Rattle.sms_world.specs.declared.fault.WorldFault.TheVariants.{Party}
-use Rattle.sms_join.specs.Aging
+use Rattle.sms_join.specs.Joiner.Aging
 use Rattle.sms_world.specs.Machine.{Machine, start}
 use Rattle.sms_world.specs.Machine
-use Rattle.sms_world.specs.Machine.Event.{Event, Compose, Carry, Push, Act, Composes, Carries, TimesOut, Pushes, Ticks}
+use Rattle.sms_world.specs.Machine.Event.{Event, Compose, Carry, Push, Act, TypesText, MovesPacket, EndsWait, HandsOver, MovesClock}
 use Rattle.sms_world.specs.Machine.Next
 use Rattle.sms_world.specs.Machine.Next.{next}
 use Rattle.sms_world.specs.Texts.Keys.{texts_of}
@@ -47,7 +47,7 @@ use Rattle.sms_join.specs.UnitsOfText.{IsText}
 use Rattle.sms_join.specs.Cut.{IsCut}
 use Rattle.sms_world.specs.Told.{Told}
 use Rattle.sms_world.specs.Machine.Step.{Run}
-use Rattle.sms_world.specs.Rows.{last_after, answers_after, all_orderly, AreActs, told_after, acts_of}
+use Rattle.sms_world.specs.Inside.Rows.{last_after, answers_after, all_orderly, AreActs, told_after, acts_of}
 
 -- what has to compute
 abbrev opened : ℕ
@@ -71,11 +71,11 @@ abbrev hi : List ℕ
 hi = 104 ∷ 105 ∷ []
 
 abbrev types_hi : Act
-types_hi = Composes 0 b hi (Gsm hi ∷ [])
+types_hi = TypesText 0 b hi (Gsm hi ∷ [])
 
 -- a repeated submission that comes after the validity has ended
 abbrev late_copy : List Act
-late_copy = types_hi ∷ Carries 1 ∷ TimesOut 0 ∷ Carries 4 ∷ Carries 6 ∷ Carries 3 ∷ Pushes 1 ∷ Carries 8 ∷ Carries 10 ∷ Ticks 172800 ∷ Carries 4 ∷ Pushes 1 ∷ Carries 14 ∷ []
+late_copy = types_hi ∷ MovesPacket 1 ∷ EndsWait 0 ∷ MovesPacket 4 ∷ MovesPacket 6 ∷ MovesPacket 3 ∷ HandsOver 1 ∷ MovesPacket 8 ∷ MovesPacket 10 ∷ MovesClock 172800 ∷ MovesPacket 4 ∷ HandsOver 1 ∷ MovesPacket 14 ∷ []
 
 late_copy_answers : answers_after (world 16 32) late_copy
     ≡ Ok (Typed 1) ∷ Ok Held ∷ Ok (Repeated 1) ∷ Ok (Refused 21 (Some 0xC5)) ∷ Ok (Accepted 1) ∷ Err (Party Unmatched)
@@ -93,7 +93,7 @@ late_copy_store = refl
 
 -- two texts with the same words
 abbrev same_words : List Act
-same_words = types_hi ∷ Carries 1 ∷ Carries 3 ∷ types_hi ∷ Carries 5 ∷ Pushes 1 ∷ Pushes 1 ∷ Carries 8 ∷ Carries 9 ∷ []
+same_words = types_hi ∷ MovesPacket 1 ∷ MovesPacket 3 ∷ types_hi ∷ MovesPacket 5 ∷ HandsOver 1 ∷ HandsOver 1 ∷ MovesPacket 8 ∷ MovesPacket 9 ∷ []
 
 same_words_answers : answers_after (world 16 32) same_words
     ≡ Ok (Typed 1) ∷ Ok Held ∷ Ok (Accepted 1) ∷ Ok (Typed 2) ∷ Ok Held ∷ Ok Pushed ∷ Ok Pushed ∷ Ok Finished ∷ Ok Finished ∷ []
@@ -114,7 +114,7 @@ same_words_stand = refl
 
 -- a text in two pieces (shorter than a cut would make them)
 abbrev long_text : List Act
-long_text = Composes 0 b hi (Gsm (104 ∷ []) ∷ Gsm (105 ∷ []) ∷ []) ∷ Carries 1 ∷ Carries 3 ∷ Carries 5 ∷ Pushes 1 ∷ Pushes 1 ∷ Carries 9 ∷ Carries 8 ∷ Carries 8 ∷ Carries 9 ∷ Carries 11 ∷ Carries 13 ∷ Pushes 1 ∷ Carries 19 ∷ Carries 21 ∷ Carries 7 ∷ []
+long_text = TypesText 0 b hi (Gsm (104 ∷ []) ∷ Gsm (105 ∷ []) ∷ []) ∷ MovesPacket 1 ∷ MovesPacket 3 ∷ MovesPacket 5 ∷ HandsOver 1 ∷ HandsOver 1 ∷ MovesPacket 9 ∷ MovesPacket 8 ∷ MovesPacket 8 ∷ MovesPacket 9 ∷ MovesPacket 11 ∷ MovesPacket 13 ∷ HandsOver 1 ∷ MovesPacket 19 ∷ MovesPacket 21 ∷ MovesPacket 7 ∷ []
 
 long_text_answers : answers_after (world 16 32) long_text
     ≡ Ok (Typed 1) ∷ Ok Held ∷ Ok (Segment 1 1) ∷ Ok Held ∷ Ok Pushed ∷ Ok Pushed ∷ Ok Kept ∷ Ok Finished
@@ -146,7 +146,7 @@ abbrev rejecting : Machine
 rejecting = start (record { held = 1000; open_max = 16; remembered = 32; store = 500; wide = false; reject = true }) (a ∷ b ∷ c ∷ [])
 
 abbrev rejected : List Act
-rejected = types_hi ∷ Carries 1 ∷ Carries 1 ∷ Carries 5 ∷ Carries 3 ∷ Pushes 1 ∷ Carries 7 ∷ Carries 9 ∷ Carries 1 ∷ []
+rejected = types_hi ∷ MovesPacket 1 ∷ MovesPacket 1 ∷ MovesPacket 5 ∷ MovesPacket 3 ∷ HandsOver 1 ∷ MovesPacket 7 ∷ MovesPacket 9 ∷ MovesPacket 1 ∷ []
 
 rejected_answers : answers_after rejecting rejected
     ≡ Ok (Typed 1) ∷ Ok Held ∷ Ok (Refused 21 (Some 0xC5)) ∷ Ok (Accepted 1) ∷ Err (Party Unmatched) ∷ Ok Pushed
@@ -160,7 +160,7 @@ rejected_orderly = refl
 
 -- an open set that has grown old
 abbrev old_set : List Act
-old_set = Composes 0 b hi (Gsm (104 ∷ []) ∷ Gsm (105 ∷ []) ∷ []) ∷ Carries 1 ∷ Carries 3 ∷ Carries 5 ∷ Pushes 1 ∷ Pushes 1 ∷ Carries 8 ∷ Ticks 604799 ∷ Ticks 1 ∷ Carries 9 ∷ Carries 8 ∷ Carries 9 ∷ []
+old_set = TypesText 0 b hi (Gsm (104 ∷ []) ∷ Gsm (105 ∷ []) ∷ []) ∷ MovesPacket 1 ∷ MovesPacket 3 ∷ MovesPacket 5 ∷ HandsOver 1 ∷ HandsOver 1 ∷ MovesPacket 8 ∷ MovesClock 604799 ∷ MovesClock 1 ∷ MovesPacket 9 ∷ MovesPacket 8 ∷ MovesPacket 9 ∷ []
 
 old_set_answers : answers_after (world 16 32) old_set
     ≡ Ok (Typed 1) ∷ Ok Held ∷ Ok (Segment 1 1) ∷ Ok Held ∷ Ok Pushed ∷ Ok Pushed ∷ Ok Kept
@@ -175,9 +175,9 @@ old_set_orderly = refl
 -- one open set, and two texts with one concatenation reference from two phones
 abbrev one_set : List Act
 one_set =
-    Composes 0 b hi (Gsm (104 ∷ []) ∷ Gsm (105 ∷ []) ∷ []) ∷ Composes 2 b hi (Gsm (104 ∷ []) ∷ Gsm (105 ∷ []) ∷ []) ∷ Carries 1 ∷ Carries 2 ∷ Carries 4
-    ∷ Carries 6 ∷ Carries 8 ∷ Carries 10 ∷ Pushes 1 ∷ Carries 15 ∷ Carries 17 ∷ Pushes 1 ∷ Carries 19 ∷ Carries 21 ∷ Pushes 1 ∷ Carries 23
-    ∷ Carries 25 ∷ Pushes 1 ∷ Carries 27 ∷ Carries 29 ∷ Pushes 1 ∷ Carries 31 ∷ []
+    TypesText 0 b hi (Gsm (104 ∷ []) ∷ Gsm (105 ∷ []) ∷ []) ∷ TypesText 2 b hi (Gsm (104 ∷ []) ∷ Gsm (105 ∷ []) ∷ []) ∷ MovesPacket 1 ∷ MovesPacket 2 ∷ MovesPacket 4
+    ∷ MovesPacket 6 ∷ MovesPacket 8 ∷ MovesPacket 10 ∷ HandsOver 1 ∷ MovesPacket 15 ∷ MovesPacket 17 ∷ HandsOver 1 ∷ MovesPacket 19 ∷ MovesPacket 21 ∷ HandsOver 1 ∷ MovesPacket 23
+    ∷ MovesPacket 25 ∷ HandsOver 1 ∷ MovesPacket 27 ∷ MovesPacket 29 ∷ HandsOver 1 ∷ MovesPacket 31 ∷ []
 
 one_set_stand : stands (last_after (world 1 32) one_set) 1 ≡ record { origin = c; characters = hi } ∷ record { origin = a; characters = hi } ∷ []
 unfolding opened
@@ -189,12 +189,12 @@ one_set_orderly = refl
 
 -- two keys are remembered, and two further texts have finished when a segment of the first comes once more
 abbrev types_b : Act
-types_b = Composes 0 b (111 ∷ []) (Gsm (111 ∷ []) ∷ [])
+types_b = TypesText 0 b (111 ∷ []) (Gsm (111 ∷ []) ∷ [])
 
 abbrev forgotten : List Act
 forgotten =
-    types_hi ∷ Carries 1 ∷ Carries 3 ∷ Pushes 1 ∷ Carries 5 ∷ Carries 7 ∷ types_b ∷ Carries 9 ∷ Carries 11 ∷ Pushes 1 ∷ Carries 13
-    ∷ Carries 15 ∷ Carries 5 ∷ types_b ∷ Carries 19 ∷ Carries 21 ∷ Pushes 1 ∷ Carries 23 ∷ Carries 5 ∷ []
+    types_hi ∷ MovesPacket 1 ∷ MovesPacket 3 ∷ HandsOver 1 ∷ MovesPacket 5 ∷ MovesPacket 7 ∷ types_b ∷ MovesPacket 9 ∷ MovesPacket 11 ∷ HandsOver 1 ∷ MovesPacket 13
+    ∷ MovesPacket 15 ∷ MovesPacket 5 ∷ types_b ∷ MovesPacket 19 ∷ MovesPacket 21 ∷ HandsOver 1 ∷ MovesPacket 23 ∷ MovesPacket 5 ∷ []
 
 forgotten_answers : answers_after (world 16 2) forgotten
     ≡ Ok (Typed 1) ∷ Ok Held ∷ Ok (Accepted 1) ∷ Ok Pushed ∷ Ok Finished ∷ Ok Delivered ∷ Ok (Typed 2) ∷ Ok Held ∷ Ok (Accepted 2)
@@ -228,8 +228,8 @@ types_hi_event = Compose 0 b hi
 
 same_words_events : List (Event × Act)
 same_words_events =
-    (types_hi_event, types_hi) ∷ (Carry 1, Carries 1) ∷ (Carry 3, Carries 3) ∷ (types_hi_event, types_hi) ∷ (Carry 5, Carries 5)
-    ∷ (Push 1, Pushes 1) ∷ (Push 1, Pushes 1) ∷ (Carry 8, Carries 8) ∷ (Carry 9, Carries 9) ∷ []
+    (types_hi_event, types_hi) ∷ (Carry 1, MovesPacket 1) ∷ (Carry 3, MovesPacket 3) ∷ (types_hi_event, types_hi) ∷ (Carry 5, MovesPacket 5)
+    ∷ (Push 1, HandsOver 1) ∷ (Push 1, HandsOver 1) ∷ (Carry 8, MovesPacket 8) ∷ (Carry 9, MovesPacket 9) ∷ []
 
 -- the same text twice, as events: a run, with these answers, after which the store holds the text twice
 same_words_run : Run (world 16 32) (told_after (world 16 32) same_words_events []) (last_after (world 16 32) same_words)

@@ -3,8 +3,8 @@ use Rattle.std.proofs.Common.{◌≡◌, true, ◌&&◌, eqb, refl}
 use Rattle.std.proofs.lemmas.Bool.{eqb-true, and_parts}
 use Rattle.std.proofs.lemmas.Slice.Eq.{bytes_eq-Decides}
 use Rattle.std.specs.Str.{bytes_eq}
-use Rattle.sms_field.specs.SameAddress.{same_address}
-use Rattle.sms_field.specs.SameAddressLaws.{same_address_true}
+use Rattle.sms_field.specs.Address.Same.{same_address}
+use Rattle.sms_field.specs.Inside.SameAddressLaws.{same_address_true}
 use Rattle.sms_tpdu.specs.declared.user_data.concat.Width.{Width}
 use Rattle.sms_tpdu.specs.declared.user_data.concat.Width.TheVariants.{Eight, Sixteen}
 use Rattle.sms_join.specs.declared.key.Key.{Key}

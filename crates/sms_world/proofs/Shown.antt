@@ -10,7 +10,8 @@ use Rattle.sms_party.specs.Sender.Stands.{ArePending, status_of}
 use Rattle.sms_world.specs.Machine.{Machine}
 use Rattle.sms_world.specs.World.Value.{WorldValue}
 use Rattle.sms_world.specs.World.Standing.{StandsFor}
-use Rattle.sms_world.specs.World.Phones.{store_of, store_in, statuses_of_phone, statuses_at, TellsStatusAt}
+use Rattle.sms_world.specs.World.Phones.{store_of, store_in, statuses_of_phone, statuses_at}
+use Rattle.sms_world.specs.Inside.Phones.{TellsStatusAt}
 
 some_phone : (xs : List PhoneValue) (n : ℕ) → n < length xs → (x : PhoneValue) × (slice_get xs n ≡ Some x)
 some_phone [] n l = absurd (let k : n < 0 = l in omega (arith, k))

@@ -1,7 +1,7 @@
 -- What the inductions over orderly runs carry. Lists have the newest entry first.
 use Rattle.std.specs.Prelude.{◌≡◌, ℕ, ◌≤◌, List, map, take, length, Some}
 use Rattle.std.specs.List.{AllByRecursion}
-use Rattle.sms_field.specs.AddressValue.{AddressValue}
+use Rattle.sms_field.specs.Address.Value.{AddressValue}
 use Rattle.sms_join.specs.Arrivals.{Arrival, completed, open_pieces, IsOf, OpenApart}
 use Rattle.sms_message.specs.Address.{phone_at}
 use Rattle.sms_centre.specs.Centre.State.{Acceptance}

@@ -3,8 +3,8 @@ use Rattle.std.proofs.Common.{◌≡◌, ◌≢◌, ℕ, zero, suc, ◌+◌, ◌
 use Rattle.std.specs.List.{AllByRecursion}
 use Rattle.std.specs.Option.{option_map}
 use Rattle.std.proofs.lemmas.Bool.{cond_both, eq-eqb, eqb-true, ltb-true}
-use Rattle.sms_field.specs.AddressValue.{AddressValue}
-use Rattle.sms_field.specs.Times.{end_of_2099, end_of}
+use Rattle.sms_field.specs.Address.Value.{AddressValue}
+use Rattle.sms_field.specs.Time.Computed.{end_of_2099, end_of}
 use Rattle.sms_field.specs.declared.validity.ValidityFault.{ValidityFault}
 use Rattle.sms_field.specs.declared.validity.ValidityFault.TheVariants.{EnhancedValidity, NoMoment}
 use Rattle.sms_field.specs.declared.validity.Validity.TheVariants.{Absent}
@@ -48,15 +48,15 @@ use Rattle.sms_party.specs.Receiver.Offers.{offers_units}
 use Rattle.sms_party.specs.Receiver.Pieces.{piece_in}
 use Rattle.sms_world.specs.declared.fault.WorldFault.{WorldFault}
 use Rattle.sms_world.specs.declared.fault.WorldFault.TheVariants.{NoSuchPacket, NoSuchPhone, ClockEnd, Party}
-use Rattle.sms_world.specs.Below.{Below}
+use Rattle.sms_world.specs.Inside.Below.{Below}
 use Rattle.sms_world.specs.Told.{Told, of_party}
 use Rattle.sms_world.specs.Machine.{Machine}
-use Rattle.sms_world.specs.Machine.Event.{Event, Compose, Carry, Timeout, Push, Tick, Inject, Act, Composes, Carries, TimesOut, Pushes, Ticks, Injects, Is}
+use Rattle.sms_world.specs.Machine.Event.{Event, Compose, Carry, Timeout, Push, Tick, Inject, Act, TypesText, MovesPacket, EndsWait, HandsOver, MovesClock, SlipsIn, IsMetAs}
 use Rattle.sms_world.specs.Machine.Next.{Next, next, stays, entered, by_sender, by_receiver, by_centre, of_centre, origin_of, pushed, to_phone, to_centre, comes, comes_to_phone, carries, packet, ticked, receiver_limits}
 use Rattle.sms_world.specs.Machine.Step.{Acts, Step}
 use Rattle.sms_world.specs.Texts.{size_in}
 use Rattle.sms_world.specs.Texts.Keys.{stamp_given}
-use Rattle.sms_world.specs.Claims.Pieces.{IsTyped, IsSentOf, MessageOf, DeliveryOf, SubmissionOf, EachHasItsPiece, CentreSound}
+use Rattle.sms_world.specs.Claims.Pieces.{IsTyped, IsSentOf, HasItsPiece, DeliveryOf, SubmissionOf, EachHasItsPiece, CentreSound}
 use Rattle.sms_world.specs.Ledger.{Mark, Submits, Delivers, Neither, mark_of, message_mark, delivery_mark, mark_at, TextNote, note_of, SenderNoted, called, called_marks, ReceiverNote, ReceiverNoted, heard, ends_given, stamped_so, Ledger, IsLedgerOf}
 use Rattle.sms_world.specs.Noted.{Facts, AreFacts, neithers, with_marks, sender_noted, recipient_of, holds, submission_noted, delivery_noted, push_mark, push_noted, other_noted, carry_noted, noted}
 use Rattle.sms_world.proofs.Untyped.{late_untyped, answers_untyped}
@@ -332,7 +332,7 @@ module _ (law : Below) (m : Machine) (l : Ledger) (sound : Sound m) (h : IsLedge
       as_many : f.put ≡ length (to_phone phone None about (centre_receives m.limits.held m.phones m.centre m.clock phone v origin).put)
       as_many = unfold by_centre of_centre in g.as_many
 
-  pub up_right : (phone : ℕ) (v : Message) (origin : Option Origin) (about : Option ℕ) (f : Facts) → MessageOf m.phones m.senders.texts m.centre.accepted v (Centre phone) origin
+  pub up_right : (phone : ℕ) (v : Message) (origin : Option Origin) (about : Option ℕ) (f : Facts) → HasItsPiece m.phones m.senders.texts m.centre.accepted v (Centre phone) origin
       → Given f (comes m (Centre phone) v origin about) (Centre phone) → Right (Centre phone) v origin about f
   unfolding comes centre_receives centre_opened centre_takes by_centre checked of_centre checked_by
   up_right phone (Data false tag (Transfer FromPhone (Submit s))) (Some o) about f x g =
@@ -384,7 +384,7 @@ module _ (law : Below) (m : Machine) (l : Ledger) (sound : Sound m) (h : IsLedge
         receivers = λ p. subst (λ r. ReceiverNoted (size_in m.senders.texts) m.clock r (l.receiver p)) (sym (not_changed m.receiver phone p)) (h.receivers p);
       }))
 
-  down_right : (phone : ℕ) (v : Message) (origin : Option Origin) (about : Option ℕ) (f : Facts) → MessageOf m.phones m.senders.texts m.centre.accepted v (Phone phone) origin
+  down_right : (phone : ℕ) (v : Message) (origin : Option Origin) (about : Option ℕ) (f : Facts) → HasItsPiece m.phones m.senders.texts m.centre.accepted v (Phone phone) origin
       → message_may_come true m v (Phone phone) origin ≡ true
       → Given f (comes m (Phone phone) v origin about) (Phone phone) → Right (Phone phone) v origin about f
   unfolding comes comes_to_phone
@@ -415,7 +415,7 @@ module _ (law : Below) (m : Machine) (l : Ledger) (sound : Sound m) (h : IsLedge
   down_right phone (Data false tag UnknownType) origin about f x may g = absurd x
   down_right phone (Data false tag Unreadable) origin about f x may g = absurd x
 
-  come_right : (to : Place) (v : Message) (origin : Option Origin) (about : Option ℕ) (f : Facts) → MessageOf m.phones m.senders.texts m.centre.accepted v to origin
+  come_right : (to : Place) (v : Message) (origin : Option Origin) (about : Option ℕ) (f : Facts) → HasItsPiece m.phones m.senders.texts m.centre.accepted v to origin
       → message_may_come true m v to origin ≡ true → Given f (comes m to v origin about) to → Right to v origin about f
   come_right (Centre phone) v origin about f x may g = up_right phone v origin about f x g
   come_right (Phone phone) v origin about f x may g = down_right phone v origin about f x may g
@@ -517,7 +517,7 @@ module _ (law : Below) (m : Machine) (l : Ledger) (sound : Sound m) (h : IsLedge
       mark =
           ap (delivery_mark (Phone phone)) (ap origin_of latest ∙ q.0.1.1) ∙ sym (ap (push_mark phone) noted_origin)
 
-  pub next_right : (e : Event) (act : Act) (f : Facts) → IsRising m.centre.accepted → Is (width_of m.senders.wide) e act → may_happen true m e ≡ true → Kept e f (next m act)
+  pub next_right : (e : Event) (act : Act) (f : Facts) → IsRising m.centre.accepted → IsMetAs (width_of m.senders.wide) e act → may_happen true m e ≡ true → Kept e f (next m act)
   unfolding next centre_pushes
   next_right (Compose phone target characters) act f rising is may =
       subst (λ (v : Act). Kept (Compose phone target characters) f (next m v)) (sym is.3)
@@ -540,7 +540,7 @@ module _ (law : Below) (m : Machine) (l : Ledger) (sound : Sound m) (h : IsLedge
   next_right (Inject place octets) act f rising is may = absurd (unfold may_happen in (let q : false ≡ true = may in cc))
 
   pub step_right : (e : Event) (act : Act) (told : Told) (put : List Sent) (n : Machine) (f : Facts) → IsRising m.centre.accepted
-      → Is (width_of m.senders.wide) e act → may_happen true m e ≡ true → Acts m act told put n → AreFacts m e told put n f
+      → IsMetAs (width_of m.senders.wide) e act → may_happen true m e ≡ true → Acts m act told put n → AreFacts m e told put n f
       → IsLedgerOf (noted l m.senders.reject m.clock e told f) n
   step_right e act told put n f rising is may (inl s) g =
       subst (λ v. IsLedgerOf (noted l m.senders.reject m.clock e told f) v) s.2

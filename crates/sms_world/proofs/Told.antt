@@ -10,7 +10,7 @@ use Rattle.sms_tpdu.specs.declared.user_data.concat.Width.{Width}
 use Rattle.sms_tpdu.specs.declared.user_data.concat.Width.TheVariants.{Eight, Sixteen}
 use Rattle.sms_join.specs.declared.units.Units.{Units}
 use Rattle.sms_join.specs.declared.units.Units.TheVariants.{Gsm, Ucs2}
-use Rattle.sms_join.specs.SegmentUser.{dcs_of, body_of, header_of}
+use Rattle.sms_join.specs.Segments.User.{dcs_of, body_of, header_of}
 use Rattle.sms_tpdu.specs.UserData.ConcatenationFound.{concat_of_header, in_order}
 use Rattle.sms_party.specs.Receiver.Pieces.{units_in}
 

@@ -16,7 +16,7 @@ use Rattle.sms_party.specs.Sender.Answers.{sender_receives}
 use Rattle.sms_party.specs.Receiver.{receiver_takes, receiver_opened}
 use Rattle.sms_world.specs.Told.{Told}
 use Rattle.sms_world.specs.Machine.{Machine}
-use Rattle.sms_world.specs.Machine.Event.{Act, Injects}
+use Rattle.sms_world.specs.Machine.Event.{Act, SlipsIn}
 use Rattle.sms_world.specs.Machine.Next.{Next, next, stays, by_sender, by_receiver, by_centre, of_centre, comes, comes_to_phone, phone_of}
 use Rattle.sms_world.specs.Machine.Step.{Acts}
 use Rattle.sms_world.specs.Unread.{UnreadChangesNothing, says_nothing, PartiesStay, NothingSaidChangesNoParty}
@@ -72,7 +72,7 @@ nothing_said one m place octets message reads h told put n step = go step.2
     same : v ≡ message
     same = one octets message v step.1.1 reads step.1.2
 
-    there : PartiesStay m (next m (Injects place v)).after
+    there : PartiesStay m (next m (SlipsIn place v)).after
     there = unfold next in
         cond_both (ltb (phone_of place) (length m.phones)) _ _ (λ (r : Next). PartiesStay m r.after)
         (λ _. come_stays m place v (ap says_nothing same ∙ h)) (λ _. stays_all m _)
@@ -100,12 +100,12 @@ unread_nothing one m place octets reads told put n step = go step.2
     same : step.1.0 ≡ NotCp
     same = one octets NotCp step.1.0 step.1.1 reads step.1.2
 
-    there : IsIdle m (next m (Injects place NotCp))
+    there : IsIdle m (next m (SlipsIn place NotCp))
     there = unfold next in
         cond_both (ltb (phone_of place) (length m.phones)) _ _ (IsIdle m) (λ _. not_cp_idle m place) (λ _. stays_idle m _)
 
-    is : step.0 ≡ Injects place NotCp
-    is = step.1.3 ∙ ap (Injects place) same
+    is : step.0 ≡ SlipsIn place NotCp
+    is = step.1.3 ∙ ap (SlipsIn place) same
 
     go : Acts m step.0 told put n → (n ≡ m) × (put ≡ [])
     go (inl s) =

@@ -1,12 +1,12 @@
 -- The conditions on events as the inductions over runs use them: those on submissions alone, or all, with the second asked
 -- of the keys of the taken deliveries. Lists have the newest entry first.
 use Rattle.std.specs.Prelude.{◌≡◌, ℕ, ◌-◌, ◌==◌, Bool, true, false, not, ◌&&◌, ◌||◌, nat_lt, List, [], ◌∷◌, Option, Some, None}
-use Rattle.sms_field.specs.AddressValue.{AddressValue}
+use Rattle.sms_field.specs.Address.Value.{AddressValue}
 use Rattle.sms_tpdu.specs.Submit.{Submission}
 use Rattle.sms_tpdu.specs.Deliver.{Delivery}
 use Rattle.sms_join.specs.declared.units.Units.{Units}
 use Rattle.sms_join.specs.Arrivals.{Arrival}
-use Rattle.sms_join.specs.Joining.{is_clear, is_recent}
+use Rattle.sms_join.specs.Arrivals.Joining.{is_clear, is_recent}
 use Rattle.sms_relay.specs.declared.side.Side.TheVariants.{FromPhone, ToPhone}
 use Rattle.sms_message.specs.declared.message.TransferUnit.{TransferUnit}
 use Rattle.sms_message.specs.declared.message.TransferUnit.TheVariants.{Submit, Deliver, OtherUnit, BadUnit}

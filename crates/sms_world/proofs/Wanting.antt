@@ -4,13 +4,13 @@ use Rattle.sms_join.specs.UnitsOfText.{IsText}
 use Rattle.sms_party.specs.Sender.Texts.{width_of}
 use Rattle.sms_party.specs.Sent.{Sent}
 use Rattle.sms_world.specs.declared.world.sent_packet.Way.{Way}
-use Rattle.sms_world.specs.Below.{Below}
+use Rattle.sms_world.specs.Inside.Below.{Below}
 use Rattle.sms_world.specs.Machine.{Machine}
-use Rattle.sms_world.specs.Machine.Event.{Event, Compose, Carry, Timeout, Push, Tick, Inject, Composes, Carries, TimesOut, Pushes}
+use Rattle.sms_world.specs.Machine.Event.{Event, Compose, Carry, Timeout, Push, Tick, Inject, TypesText, MovesPacket, EndsWait, HandsOver}
 use Rattle.sms_world.specs.Machine.Next.{packet}
 use Rattle.sms_world.specs.Machine.Step.{Step, no_memory, takes_memory}
-use Rattle.sms_world.specs.NotesValue.{IsOfText}
-use Rattle.sms_world.specs.World.Asked.{way_at, way_at_phone, way_of_packet}
+use Rattle.sms_world.specs.Inside.NotesValue.{IsOfText}
+use Rattle.sms_world.specs.Inside.Asked.{way_at, way_at_phone, way_of_packet}
 use Rattle.sms_world.specs.World.Standing.{StandsFor}
 use Rattle.sms_world.specs.World.Value.{WorldValue}
 use Rattle.sms_world.proofs.Factual.{phone_there, goes_so}
@@ -26,9 +26,9 @@ module _ (law : Below) (v : WorldValue) (m : Machine) (h : StandsFor v m) (way :
   unfolding takes_memory
   want_of_memory (Compose phone target characters) text e =
       let c = law.cut (width_of m.senders.wide) characters text in
-      (Composes phone target characters c.0, (c.0, text, c.1, refl), inr (at_phone phone e, refl, refl, refl))
-  want_of_memory (Carry k) text e = (Carries k, refl, inr (packet_is k e, refl, refl, refl))
-  want_of_memory (Timeout phone) text e = (TimesOut phone, refl, inr (at_phone phone e, refl, refl, refl))
-  want_of_memory (Push phone) text e = (Pushes phone, refl, inr (at_phone phone e, refl, refl, refl))
+      (TypesText phone target characters c.0, (c.0, text, c.1, refl), inr (at_phone phone e, refl, refl, refl))
+  want_of_memory (Carry k) text e = (MovesPacket k, refl, inr (packet_is k e, refl, refl, refl))
+  want_of_memory (Timeout phone) text e = (EndsWait phone, refl, inr (at_phone phone e, refl, refl, refl))
+  want_of_memory (Push phone) text e = (HandsOver phone, refl, inr (at_phone phone e, refl, refl, refl))
   want_of_memory (Tick seconds) text e = cc
   want_of_memory (Inject place octets) text e = cc

@@ -9,7 +9,8 @@ use Rattle.sms_message.specs.Message.{Origin}
 use Rattle.sms_party.specs.Sent.{Sent, bare, messages_of}
 use Rattle.sms_script.specs.Transcript.Lines.{PacketValue}
 use Rattle.sms_world.specs.Machine.Next.{to_centre, to_phone}
-use Rattle.sms_world.specs.World.Parties.{on_way, place_at}
+use Rattle.sms_world.specs.Inside.Parties.{on_way}
+use Rattle.sms_world.specs.World.Parties.{place_at}
 use Rattle.sms_world.specs.World.Standing.{ArePacketsOf}
 
 -- what all goes to one place

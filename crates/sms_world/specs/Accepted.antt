@@ -1,7 +1,11 @@
 -- What it means that a text is shown as accepted.
+pub mod Answers
+pub mod References
+pub mod Few
+pub mod Reject
 use Rattle.std.specs.Prelude.{◌≡◌, ℕ, ◌<◌, ◌≤◌, true, List, Some}
 use Rattle.std.specs.List.{Contains}
-use Rattle.sms_field.specs.AddressValue.{AddressValue}
+use Rattle.sms_field.specs.Address.Value.{AddressValue}
 use Rattle.sms_centre.specs.Centre.State.{Acceptance}
 use Rattle.sms_world.specs.Told.{Told}
 use Rattle.sms_script.specs.declared.script.limits.Limits.{Limits}
@@ -12,10 +16,6 @@ use Rattle.sms_world.specs.Texts.{size_in}
 use Rattle.sms_world.specs.Orderly.Injections.{NothingIsInjected}
 use Rattle.sms_world.specs.Accepted.Answers.{AnswersAnswerWhatTheyName}
 use Rattle.sms_world.specs.Accepted.References.{ReferencesAreNotUsedAgain}
-pub mod Answers
-pub mod References
-pub mod Few
-pub mod Reject
 
 -- Answers to this phone and rejections of what it puts out are of what they seem to be of, and
 -- nothing is injected.

@@ -1,6 +1,8 @@
 -- The first event of a run that comes out of order, and a condition that it breaks.
-use Rattle.std.specs.Prelude.{◌≡◌, ◌⊎◌, ℕ, min, ◌^◌, ◌-◌, Bool, true, nat_lt, List, [], ◌∷◌, ◌++◌, length, if◌then◌else◌, suc, Option, Some, None}
-use Rattle.sms_field.specs.AddressValue.{AddressValue}
+use Rattle.std.specs.Prelude.{◌≡◌, ◌⊎◌, ℕ, min, ◌<◌, ◌≤◌, ◌^◌, ◌-◌, Bool, true, false, nat_lt, List, [], ◌∷◌, ◌++◌, length, if◌then◌else◌, suc, Option, Some, None}
+use Rattle.std.specs.List.{Contains}
+use Rattle.sms_field.specs.Address.Value.{AddressValue}
+use Rattle.sms_centre.specs.Centre.State.{Acceptance}
 use Rattle.sms_message.specs.Address.{are_distinct}
 use Rattle.sms_party.specs.Sent.{nth, Sent}
 use Rattle.sms_script.specs.declared.script.limits.Limits.{Limits}
@@ -18,7 +20,6 @@ use Rattle.sms_tpdu.specs.Deliver.{Delivery}
 use Rattle.sms_message.specs.Message.{Origin}
 use Rattle.sms_party.specs.Sender.Texts.{Text}
 use Rattle.sms_world.specs.Orderly.Brought.{BringsSubmission, BringsDelivery}
-use Rattle.sms_world.specs.Orderly.Repeats.{RepeatsAskForRejection}
 use Rattle.sms_world.specs.Orderly.Keys.{NoKeyIsUsedAgain}
 use Rattle.sms_world.specs.Orderly.Late.{LateSegmentsAreRemembered}
 use Rattle.sms_world.specs.Orderly.Injections.{NothingIsInjected}
@@ -27,10 +28,23 @@ use Rattle.sms_world.specs.Noted.{Facts, AreFacts, noted}
 
 -- ---- which condition
 
--- The event does not meet the condition.
+-- The event brings an SMS-SUBMIT to the centre once more: one of the same segment of the same text
+-- was accepted.
+pub record Repeats (m : Machine) (event : Event) : Type 0 where
+  pub phone : ℕ
+  pub submission : Submission
+  pub origin : Origin
+  pub brings : BringsSubmission m event phone submission (Some origin)
+  pub earlier : Acceptance
+  pub accepted : Contains m.centre.accepted earlier
+  pub same : earlier.origin ≡ Some origin
+
+-- The event does not meet the condition. Of a repeat: the accepted one's validity has ended; or it
+-- has not, and the repeat does not ask for the rejection of duplicates (TP-RD is 0).
 abbrev pub Breaks : Disorder → Machine → Event → Type 0
-Breaks RepeatAfterTheEnd m event = RepeatsAskForRejection m event → ⊥
-Breaks RepeatWithoutRejection m event = RepeatsAskForRejection m event → ⊥
+Breaks RepeatAfterTheEnd m event = (r : Repeats m event) × (r.earlier.ends ≤ m.clock)
+Breaks RepeatWithoutRejection m event =
+    (r : Repeats m event) × (m.clock < r.earlier.ends) × (r.submission.reject ≡ false)
 Breaks KeyUsedAgain m event = NoKeyIsUsedAgain m event → ⊥
 Breaks LateSegmentForgotten m event = LateSegmentsAreRemembered m event → ⊥
 Breaks Injected m event = NothingIsInjected event → ⊥

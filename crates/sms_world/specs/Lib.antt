@@ -2,7 +2,6 @@ pub mod Told
 pub mod Words
 pub mod World
 pub mod Network
-pub mod Below
 pub mod Machine
 pub mod Determined
 pub mod Texts
@@ -13,13 +12,12 @@ pub mod Claims
 pub mod Ledger
 pub mod OrderTold
 pub mod Noted
-pub mod NotesValue
 pub mod Tables
 pub mod Breaches
-pub mod Followed
 pub mod Watched
 pub mod Accepted
 pub mod Understood
 pub mod Unread
-pub mod Rows
 pub mod Playing
+pub mod Inside
+pub mod NoteKeys

@@ -1,15 +1,15 @@
 -- The whole machine: the clock, the service centre and the phones, and everything that was ever put
 -- out. Lists of what was have the newest entry first.
+pub mod Event
+pub mod Next
+pub mod Step
 use Rattle.std.specs.Prelude.{ℕ, List, []}
-use Rattle.sms_field.specs.AddressValue.{AddressValue}
+use Rattle.sms_field.specs.Address.Value.{AddressValue}
 use Rattle.sms_centre.specs.Centre.State.{CentreState, new_centre}
 use Rattle.sms_party.specs.Sent.{Sent}
 use Rattle.sms_party.specs.Sender.Texts.{SenderState, new_senders}
 use Rattle.sms_party.specs.Receiver.State.{ReceiverState, new_receiver}
 use Rattle.sms_script.specs.declared.script.limits.Limits.{Limits}
-pub mod Event
-pub mod Next
-pub mod Step
 
 pub record Machine : Type 0 where
   pub limits : Limits

@@ -1,7 +1,7 @@
 -- The world as the network of a script.
 use Rattle.std.specs.Prelude.{◌≡◌, ℕ, List, map}
 use Rattle.std.specs.Str.{encode_utf8_all}
-use Rattle.sms_field.specs.AddressValue.{AddressValue}
+use Rattle.sms_field.specs.Address.Value.{AddressValue}
 use Rattle.sms_party.specs.Phone.{PhoneValue}
 use Rattle.sms_party.specs.Receiver.State.{Entry}
 use Rattle.sms_party.specs.Sender.Value.{statuses_in}

@@ -1,6 +1,6 @@
 -- What is noted of an event and its answer; and that the notes stay right.
 use Rattle.std.specs.Prelude.{◌≡◌, ℕ, zero, suc, ◌+◌, max, Bool, true, false, ◌&&◌, ◌==◌, if◌then◌else◌, List, [], ◌∷◌, length, Option, Some, None, Ok}
-use Rattle.sms_field.specs.AddressValue.{AddressValue}
+use Rattle.sms_field.specs.Address.Value.{AddressValue}
 use Rattle.sms_message.specs.declared.outcome.Outcome.TheVariants.{Typed, Held, Pushed}
 use Rattle.sms_message.specs.Address.{are_distinct}
 use Rattle.sms_message.specs.Changed.{changed}

@@ -1,10 +1,10 @@
 -- The four conditions as a test that can be computed, and that it tells just them. Lists have the
 -- newest entry first.
 use Rattle.std.specs.Prelude.{◌≡◌, ℕ, Bool, true, false, not, ◌&&◌, ◌||◌, ◌==◌, nat_lt, List, [], ◌∷◌, length, take, Option, Some, None}
-use Rattle.sms_field.specs.AddressValue.{AddressValue}
+use Rattle.sms_field.specs.Address.Value.{AddressValue}
 use Rattle.sms_tpdu.specs.Deliver.{Delivery}
 use Rattle.sms_tpdu.specs.declared.user_data.concat.Concat.{Concat}
-use Rattle.sms_field.specs.SameAddress.{same_address}
+use Rattle.sms_field.specs.Address.Same.{same_address}
 use Rattle.sms_join.specs.Key.{same_width}
 use Rattle.sms_join.specs.Arrivals.{Arrival, is_done, is_listed}
 use Rattle.sms_relay.specs.declared.side.Side.TheVariants.{FromPhone, ToPhone}

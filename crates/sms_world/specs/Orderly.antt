@@ -1,4 +1,9 @@
 -- Which runs are orderly.
+pub mod Brought
+pub mod Repeats
+pub mod Keys
+pub mod Late
+pub mod Injections
 use Rattle.std.specs.Prelude.{List}
 use Rattle.sms_world.specs.Told.{Told}
 use Rattle.sms_world.specs.Machine.{Machine}
@@ -8,11 +13,6 @@ use Rattle.sms_world.specs.Orderly.Repeats.{RepeatsAskForRejection}
 use Rattle.sms_world.specs.Orderly.Keys.{NoKeyIsUsedAgain}
 use Rattle.sms_world.specs.Orderly.Late.{LateSegmentsAreRemembered}
 use Rattle.sms_world.specs.Orderly.Injections.{NothingIsInjected}
-pub mod Brought
-pub mod Repeats
-pub mod Keys
-pub mod Late
-pub mod Injections
 
 -- The event comes in order.
 pub record IsOrderly (m : Machine) (event : Event) : Type 0 where

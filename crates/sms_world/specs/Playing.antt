@@ -1,7 +1,8 @@
 -- Scripts played on the world, as runs of the machine.
+pub mod Order
 use Rattle.std.specs.Prelude.{◌≡◌, ℕ, ◌<◌, List, [], ◌∷◌, ◌++◌, length, map, reverse, Option, Some, None}
 use Rattle.std.specs.Io.KnownBytes.{Appends, Consumes, IsAtEnd}
-use Rattle.sms_field.specs.AddressValue.{AddressValue}
+use Rattle.sms_field.specs.Address.Value.{AddressValue}
 use Rattle.sms_script.specs.Lines.{lines}
 use Rattle.sms_script.specs.Play.Runs.{store_at}
 use Rattle.sms_script.specs.Script.{ScriptValue, script_of}

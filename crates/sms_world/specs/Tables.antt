@@ -1,13 +1,11 @@
 -- The tables of what is noted, as contracts see them, and what they say.
-use Rattle.std.specs.Prelude.{ℕ, List, [], map, Option, Some, None, slice_get}
+use Rattle.std.specs.Prelude.{ℕ, List, [], Option, Some, None, slice_get}
 use Rattle.std.specs.Map.{lookup}
 use Rattle.std.specs.Option.{option_map}
-use Rattle.sms_world.specs.declared.notes.Notes.{Notes}
 use Rattle.sms_world.specs.declared.notes.mark.Part.{Part}
 use Rattle.sms_world.specs.declared.notes.mark.Stamped.{Stamped}
-use Rattle.sms_world.specs.declared.notes.receiver.ReceiverNotes.{ReceiverNotes}
 use Rattle.sms_world.specs.Ledger.{Mark, TextNote, SenderNote, ReceiverNote, Ledger}
-use Rattle.sms_world.specs.NotesValue.{sender_note, receiver_note, part_eq, stamped_eq, origin_of_part}
+use Rattle.sms_world.specs.NoteKeys.{part_eq, stamped_eq, origin_of_part}
 
 -- of a receiver: the least stamp that is free, and its texts
 pub record ReceiverRow : Type 0 where
@@ -22,20 +20,6 @@ pub record Tables : Type 0 where
   pub receivers : List ReceiverRow
   pub ends : List (Part × ℕ)
   pub stamps : List (Stamped × Part)
-
-abbrev pub row_of : ReceiverNotes → ReceiverRow
-row_of r = record { free = r.free; note = receiver_note r }
-
-abbrev pub tables_in : Notes → Tables
-tables_in n =
-    record {
-      marks = n.marks.items;
-      texts = n.texts.items;
-      senders = map sender_note n.senders.items;
-      receivers = map row_of n.receivers.items;
-      ends = n.ends.entries;
-      stamps = n.stamps.entries;
-    }
 
 abbrev pub sender_in_row : Option SenderNote → SenderNote
 sender_in_row None = record { typed = []; ended = 0; accepted = 0 }

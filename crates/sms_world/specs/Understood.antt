@@ -3,7 +3,7 @@ use Rattle.std.specs.Prelude.{◌≡◌}
 use Rattle.sms_text.specs.Octets.{IsOctets}
 use Rattle.sms_tpdu.specs.declared.user_data.concat.Width.{Width}
 use Rattle.sms_join.specs.UnitsOfText.{IsText}
-use Rattle.sms_world.specs.Machine.Event.{Event, Compose, Inject, Act, Is}
+use Rattle.sms_world.specs.Machine.Event.{Event, Compose, Inject, Act, IsMetAs}
 
 -- characters are characters, and octets octets
 abbrev pub IsEvent : Event → Type 0
@@ -14,4 +14,4 @@ IsEvent _ = Unit {0}
 abbrev pub IsOneAct : Type 0
 IsOneAct =
     (width : Width) (e : Event) → IsEvent e
-    → (act : Act) × Is width e act × ((other : Act) → Is width e other → other ≡ act)
+    → (act : Act) × IsMetAs width e act × ((other : Act) → IsMetAs width e other → other ≡ act)

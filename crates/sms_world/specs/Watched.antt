@@ -1,6 +1,7 @@
 -- A world that is watched, as contracts see it: what has led to it, and what it tells.
+pub mod Network
 use Rattle.std.specs.Prelude.{◌≡◌, ℕ, min, ◌^◌, ◌-◌, ◌<◌, List, [], ◌∷◌, length, Option, None}
-use Rattle.sms_field.specs.AddressValue.{AddressValue}
+use Rattle.sms_field.specs.Address.Value.{AddressValue}
 use Rattle.sms_script.specs.declared.script.limits.Limits.{Limits}
 use Rattle.sms_script.specs.declared.meaning.event.Event as script
 use Rattle.sms_world.specs.declared.order.Breach.{Breach}

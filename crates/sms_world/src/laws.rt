@@ -3,7 +3,7 @@
 ghost use Rattle.sms_world.specs.Accepted.{AcceptedIsAccepted};
 ghost use Rattle.sms_world.specs.Accepted.Reject.{AllReject, OnlyTimeIsLeft};
 ghost use Rattle.sms_world.specs.Accepted.Few.{FewPuttingsOut, FewAreHonest};
-ghost use Rattle.sms_world.specs.Below.{Below};
+ghost use Rattle.sms_world.specs.Inside.Below.{Below};
 ghost use Rattle.sms_world.specs.Breaches.{WatchingGoesOn};
 ghost use Rattle.sms_world.specs.Claims.Pieces.{EachMessageHasItsPiece};
 ghost use Rattle.sms_world.specs.Claims.RememberedKeys.{KeysAreOfFinished};

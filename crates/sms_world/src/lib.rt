@@ -24,13 +24,15 @@ pub use laws::{
     unread_octets_change_nothing, unread_units_change_no_party, watching_goes_on,
 };
 pub use order::{Breach, Disorder, TextSegment};
-pub use playing::{play, told_stores_stand};
+pub use playing::{play, play_watched, play_with_order, told_stores_stand};
 pub use running::run;
 pub use sms_message::{Dropped, Outcome};
 pub use sms_party::{Entry, Status};
 pub use sms_script::{
-    DeviceFailed, Event, Limits, Octets, PlayFault, ScriptFault, Sink, Source, Text, Watched,
+    DeviceFailed, Event, Limits, Octets, PlayFault, Script, ScriptFault, Sink, Source, Text,
+    Watched,
 };
 pub use watched::WatchedWorld;
 pub use watched_run::run_watched;
+pub use words::order::{disorder_text, number_told, order_line};
 pub use world::World;

@@ -1,7 +1,9 @@
-//! The world as the network of a script.
+//! The world as the network of a script, watched or not.
 
 ghost use Rattle.sms_world.specs.Network.{conduct};
+ghost use Rattle.sms_world.specs.Watched.Network.{watched_conduct};
 
+use crate::watched::WatchedWorld;
 use crate::words::{status_text, told_text};
 use crate::world::World;
 use sms_field::Address;
@@ -47,5 +49,42 @@ impl Network for World {
             origin: &entry.origin,
             text: entry.text.as_str(),
         })
+    }
+}
+
+impl Network for WatchedWorld {
+    ghost conduct = { watched_conduct };
+
+    fn begin(alloc: Global, limits: Limits, phones: &[Address]) -> Result<Self, AllocError> {
+        WatchedWorld::new(alloc, limits, phones)
+    }
+
+    fn step(&mut self, alloc: Global, event: &Event) -> Result<String, AllocError> {
+        let told = WatchedWorld::step(self, event);
+        told_text(alloc, &told)
+    }
+
+    fn packet_count(&self) -> usize {
+        self.world().packet_count()
+    }
+
+    fn packet(&self, number: usize) -> Option<Packet<'_>> {
+        self.world().packet_on_way(number)
+    }
+
+    fn typed(&self, phone: usize) -> usize {
+        self.world().typed(phone)
+    }
+
+    fn status(&self, phone: usize, text: usize) -> Option<&str> {
+        Network::status(self.world(), phone, text)
+    }
+
+    fn stored(&self, phone: usize) -> usize {
+        self.world().store(phone).len()
+    }
+
+    fn entry(&self, phone: usize, place: usize) -> Option<Entry<'_>> {
+        Network::entry(self.world(), phone, place)
     }
 }

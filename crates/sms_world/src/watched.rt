@@ -9,9 +9,9 @@ ghost use Rattle.sms_script.specs.Play.Runs.{IsTick};
 ghost use Rattle.sms_script.specs.Script.Limits.{AreLimits};
 ghost use Rattle.sms_centre.specs.Centre.Latest.{latest_at};
 ghost use Rattle.sms_world.specs.Breaches.{breach_at, segment_at, breach_after};
-ghost use Rattle.sms_world.specs.Followed.{IsFollowed, ComesInOrder, Follows};
-ghost use Rattle.sms_world.specs.NotesValue.{ledger_in, IsOfText, AreRowsOf};
-ghost use Rattle.sms_world.specs.World.Asked.{way_at, text_after, text_typed_to, no_text};
+ghost use Rattle.sms_world.specs.Inside.Followed.{IsFollowed, ComesInOrder, Follows};
+ghost use Rattle.sms_world.specs.Inside.NotesValue.{ledger_in, IsOfText, AreRowsOf};
+ghost use Rattle.sms_world.specs.Inside.Asked.{way_at, text_after, text_typed_to, no_text};
 ghost use Rattle.sms_world.specs.Watched.{IsWatched, BeginsWatched, GoesOnWatched, OrderIsTold, StoresAreKept};
 ghost use Rattle.sms_world.specs.World.Steps.{event_of, PutsMore, Steps, IfNowhere};
 
@@ -42,8 +42,8 @@ pub struct WatchedWorld {
 
 impl Model for WatchedWorld {
     ghost use Rattle.sms_world.specs.Watched.{WatchedValue, IsWatched};
-    ghost use Rattle.sms_world.specs.NotesValue.{AreRowsOf};
-    ghost use Rattle.sms_world.specs.Tables.{tables_in};
+    ghost use Rattle.sms_world.specs.Inside.NotesValue.{AreRowsOf};
+    ghost use Rattle.sms_world.specs.Inside.Tables.{tables_in};
 
     ghost Value = { WatchedValue };
 

@@ -1,5 +1,7 @@
 //! The words of a transcript.
 
+pub(crate) mod order;
+
 ghost use Rattle.std.specs.Prelude.{◌≡◌, IfOk, Result, codes, decimal};
 ghost use Rattle.std.specs.String.{string_bytes};
 ghost use Rattle.sms_message.specs.declared.outcome.Outcome.TheVariants.{Segment, Failed, Refused};

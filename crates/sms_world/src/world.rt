@@ -7,7 +7,7 @@ ghost use Rattle.std.specs.Prelude.{◌≡◌, ◌≢◌, ◌≤◌, ◌<◌, �
 ghost use Rattle.std.specs.Str.{chars};
 ghost use Rattle.std.specs.Vec.{vec_len, vec_capacity};
 ghost use Rattle.std.specs.Option.{option_map};
-ghost use Rattle.sms_field.specs.Times.{end_of_2099};
+ghost use Rattle.sms_field.specs.Time.Computed.{end_of_2099};
 ghost use Rattle.sms_message.specs.Does.{packets_of};
 ghost use Rattle.sms_party.specs.Sender.Value.{status_among};
 ghost use Rattle.sms_script.specs.Meaning.Known.{ArePhones};
@@ -20,8 +20,10 @@ ghost use Rattle.sms_world.specs.Machine.Event.{Compose, Carry, Timeout, Push, T
 ghost use Rattle.sms_centre.specs.Centre.Latest.{latest_at};
 ghost use Rattle.sms_centre.specs.Centre.Value.{phones_of};
 ghost use Rattle.sms_message.specs.Address.{phone_at};
-ghost use Rattle.sms_world.specs.World.Asked.{newest_at, way_at, way_at_phone, way_of_packet};
-ghost use Rattle.sms_world.specs.World.Parties.{place_at, on_way};
+ghost use Rattle.sms_world.specs.World.Asked.{newest_at};
+ghost use Rattle.sms_world.specs.Inside.Asked.{way_at, way_at_phone, way_of_packet};
+ghost use Rattle.sms_world.specs.World.Parties.{place_at};
+ghost use Rattle.sms_world.specs.Inside.Parties.{on_way};
 ghost use Rattle.sms_world.specs.World.Phones.{store_in, statuses_at};
 ghost use Rattle.sms_world.specs.World.Standing.{StandsFor, ComesOfRun};
 ghost use Rattle.sms_world.specs.World.Claims.{StoresAreWhole, RefusesOnlyWhereFull};
@@ -300,6 +302,13 @@ impl World {
         ensures { result ≡ length (statuses_at self.now.parties.phones phone) }
     {
         self.parties.typed(phone)
+    }
+
+    /// How many phones there are.
+    pub fn phone_count(&self) -> usize
+        ensures { result ≡ length self.now.parties.phones }
+    {
+        self.parties.count()
     }
 
     /// The limits, and the settings of the phones.

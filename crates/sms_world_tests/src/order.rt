@@ -69,7 +69,7 @@ fn let_happen(alloc: Global, world: &mut WatchedWorld, script: &[Then]) -> Resul
 }
 
 /// A world with the phones +1001 and +1002, that remember as many texts.
-#[tactic(auto, unfolding(sms_field::specs::SameAddress::same_address))]
+#[tactic(auto, unfolding(sms_field::specs::Address::Same::same_address))]
 pub(crate) fn new_watched(
     alloc: Global,
     remembered: u64,

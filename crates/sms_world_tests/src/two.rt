@@ -35,7 +35,7 @@ pub struct Two {
 }
 
 /// A world with the phones +1001 and +1002, each of which has room for that many texts.
-#[tactic(auto, unfolding(sms_field::specs::SameAddress::same_address))]
+#[tactic(auto, unfolding(sms_field::specs::Address::Same::same_address))]
 pub fn two_with_room(alloc: Global, store: u64) -> Result<Two, Fail>
     requires { IsIn limits.Store store }
 {
@@ -52,7 +52,7 @@ pub fn new_two(alloc: Global) -> Result<Two, Fail> {
 }
 
 /// A world with the phones +1001, +1002 and +1003, at each of which one set may be open.
-#[tactic(auto, unfolding(sms_field::specs::SameAddress::same_address))]
+#[tactic(auto, unfolding(sms_field::specs::Address::Same::same_address))]
 pub fn three_with_one_open(alloc: Global) -> Result<Two, Fail> {
     let mut limits = Limits::new();
     limits.set(Limit::Open, 1);

@@ -122,7 +122,7 @@ struct Ran {
 }
 
 /// A run of these events.
-#[tactic(auto, unfolding(sms_field::specs::SameAddress::same_address))]
+#[tactic(auto, unfolding(sms_field::specs::Address::Same::same_address))]
 fn run_of(alloc: Global, events: &[Event]) -> Result<Ran, Fail> {
     let phones = [address(1), address(2)];
     let (world, answers) = run(alloc, Limits::new(), &phones, events)?;

@@ -2,7 +2,7 @@
 
 ghost use Rattle.std.specs.Prelude.{◌≡◌, ◌<◌};
 ghost use Rattle.sms_field.specs.Reading.{Reads};
-ghost use Rattle.sms_field.specs.WholeAnswer.{IsFaultOf};
+ghost use Rattle.sms_field.specs.Reading.WholeAnswer.{IsFaultOf};
 ghost use Rattle.sms_field.specs.declared.refusal.Fault.{Fault as TheFault};
 ghost use Rattle.sms_tpdu.specs.Command.{CommandValue, command};
 ghost use Rattle.sms_tpdu.specs.declared.fault.UnitFault.{UnitFault};

@@ -1,27 +1,25 @@
 //! The four reports (3GPP TS 23.040, 9.2.2.1a and 9.2.2.2a).
 
-ghost use Rattle.std.specs.Prelude.{◌≡◌, ◌<◌, ℕ, List, is_some, unwrap_or};
+ghost use Rattle.std.specs.Prelude.{◌≡◌, ◌<◌, ℕ, List, is_some, unwrap_or, IfSome};
 ghost use Rattle.sms_field.specs.Reading.{Reads};
-ghost use Rattle.sms_field.specs.WholeAnswer.{IsFaultOf};
+ghost use Rattle.sms_field.specs.Reading.WholeAnswer.{IsFaultOf};
 ghost use Rattle.sms_field.specs.declared.refusal.Fault.{Fault as TheFault};
-ghost use Rattle.sms_tpdu.specs.Report.{report_alphabet};
-ghost use Rattle.sms_tpdu.specs.Report.DeliverAck.{DeliverAckValue, deliver_ack};
-ghost use Rattle.sms_tpdu.specs.Report.DeliverError.{DeliverErrorValue, deliver_error};
-ghost use Rattle.sms_tpdu.specs.Report.SubmitAck.{SubmitAckValue, submit_ack};
-ghost use Rattle.sms_tpdu.specs.Report.SubmitError.{SubmitErrorValue, submit_error};
+ghost use Rattle.sms_tpdu.specs.Report.AnnouncedParts.{report_alphabet};
+ghost use Rattle.sms_tpdu.specs.Report.{report, DeliverAckValue, deliver_ack, DeliverErrorValue, deliver_error, SubmitAckValue, submit_ack, SubmitErrorValue, submit_error};
 ghost use Rattle.sms_tpdu.specs.declared.fault.UnitFault.{UnitFault};
 ghost use Rattle.sms_tpdu.specs.declared.fault.UnitFault.TheVariants.{Short};
 ghost use Rattle.sms_c.specs.Parts as seen;
 ghost use Rattle.sms_c.specs.Status.{unit_refused as told};
 ghost use Rattle.sms_c.specs.SeenReport as shown;
-ghost use Rattle.sms_c.specs.SeenReport.{ShowsParts, ShowsDeliverAck, ShowsDeliverError, ShowsSubmitAck, ShowsSubmitError};
+ghost use Rattle.sms_c.specs.SeenReport.{ShowsReport, ShowsDeliverAck, ShowsDeliverError, ShowsSubmitAck, ShowsSubmitError};
 
 use crate::parts::{Span, alphabet_number, bit, some_span};
 use crate::status::{OK, Refused, unit_refused};
 use crate::times::StampOctets;
-use sms_field::{Alphabet, alphabet_of};
+use sms_field::{Alphabet, Stamp, alphabet_of};
 use sms_tpdu::{
-    DataSpans, DeliverAckView, DeliverErrorView, ReportDataView, SubmitAckView, SubmitErrorView,
+    DataSpans, DeliverAckView, DeliverErrorView, ReportDataView, ReportPart, ReportStamp,
+    ReportView, SubmitAckView, SubmitErrorView,
 };
 
 /// A report, and where its data lie.
@@ -106,55 +104,50 @@ pub fn counted_by(dcs: Option<u8>) -> u8
     }
 }
 
-/// The parts that each report may have.
-fn parts_seen(
-    has_header: bool,
-    pid: Option<u8>,
-    dcs: Option<u8>,
-    user: &Option<ReportDataView>,
-    spans: Option<DataSpans>,
+/// 1 and a stamp that is there; 0 and seven times 0 where it is not.
+fn stamp_seen(stamp: Option<Stamp>) -> (u8, StampOctets)
+    ensures there { result.0 ≡ seen.bit (is_some stamp) }
+    ensures value { IfSome stamp (λ octets. result.1.octets ≡ octets) }
+{
+    match stamp {
+        Some(stamp) => (1, StampOctets::of(stamp)),
+        None => (0, StampOctets { octets: [0; 7] }),
+    }
+}
+
+/// What C sees of a report that takes so many octets.
+fn report_seen<C: ReportPart, S: ReportStamp>(
+    view: &ReportView<C, S>,
+    cause: Option<u8>,
+    stamp: Option<Stamp>,
     used: usize,
 ) -> ReportSeen
     ensures used { result.used ≡ used }
-    ensures has_header { result.has_header ≡ seen.bit has_header }
-    ensures data_lie { result.«data» ≡ shown.data_at spans }
-    ensures header_lies { result.header ≡ shown.header_at spans }
-    ensures no_cause { result.has_cause ≡ 0 }
-    ensures no_stamp { result.has_stamp ≡ 0 }
-    ensures parts { ShowsParts pid dcs user.now result }
+    ensures shows { (octets : List ℕ) → Reads (report S.first C.part S.part) view.now octets used
+        → ShowsReport cause stamp view.now octets result }
 {
-    let alphabet = counted_by(dcs);
-    let (has_pid, pid) = octet_seen(pid);
-    let (has_dcs, dcs) = octet_seen(dcs);
+    let spans = view.spans(used);
+    let (has_cause, cause) = octet_seen(cause);
+    let (has_stamp, stamp) = stamp_seen(stamp);
+    let (has_pid, pid) = octet_seen(view.pid);
+    let (has_dcs, dcs) = octet_seen(view.dcs);
     ReportSeen {
         data: data_at(spans),
         header: header_at(spans),
         used,
-        has_header: bit(has_header),
-        has_cause: 0,
-        cause: 0,
-        has_stamp: 0,
-        stamp: StampOctets {
-            octets: [0, 0, 0, 0, 0, 0, 0],
-        },
+        has_header: bit(view.has_header),
+        has_cause,
+        cause,
+        has_stamp,
+        stamp,
         has_pid,
         pid,
         has_dcs,
         dcs,
-        has_data: bit(user.is_some()),
-        length: length_of(user),
-        alphabet,
+        has_data: bit(view.user.is_some()),
+        length: length_of(&view.user),
+        alphabet: counted_by(view.dcs),
     }
-}
-
-/// What C sees of an SMS-DELIVER-REPORT of an RP-ACK that takes so many octets.
-fn deliver_ack_seen(view: &DeliverAckView, used: usize) -> ReportSeen
-    ensures used { result.used ≡ used }
-    ensures shows { (octets : List ℕ) → Reads deliver_ack view.now octets used
-        → ShowsDeliverAck view.now octets result }
-{
-    let spans = view.spans(used);
-    parts_seen(view.has_header, view.pid, view.dcs, &view.user, spans, used)
 }
 
 /// Sees an SMS-DELIVER-REPORT of an RP-ACK at the front of the octets.
@@ -174,24 +167,11 @@ pub extern "C" fn sms_deliver_ack_read(
 {
     match DeliverAckView::read(octets) {
         Ok((view, used)) => {
-            *out = deliver_ack_seen(&view, used);
+            *out = report_seen(&view, None, None, used);
             OK
         }
         Err(fault) => unit_refused(refused, fault),
     }
-}
-
-/// What C sees of an SMS-DELIVER-REPORT of an RP-ERROR that takes so many octets.
-fn deliver_error_seen(view: &DeliverErrorView, used: usize) -> ReportSeen
-    ensures used { result.used ≡ used }
-    ensures shows { (octets : List ℕ) → Reads deliver_error view.now octets used
-        → ShowsDeliverError view.now octets result }
-{
-    let spans = view.spans(used);
-    let mut seen = parts_seen(view.has_header, view.pid, view.dcs, &view.user, spans, used);
-    seen.has_cause = 1;
-    seen.cause = view.cause;
-    seen
 }
 
 /// Sees an SMS-DELIVER-REPORT of an RP-ERROR at the front of the octets.
@@ -211,24 +191,11 @@ pub extern "C" fn sms_deliver_error_read(
 {
     match DeliverErrorView::read(octets) {
         Ok((view, used)) => {
-            *out = deliver_error_seen(&view, used);
+            *out = report_seen(&view, Some(view.cause), None, used);
             OK
         }
         Err(fault) => unit_refused(refused, fault),
     }
-}
-
-/// What C sees of an SMS-SUBMIT-REPORT of an RP-ACK that takes so many octets.
-fn submit_ack_seen(view: &SubmitAckView, used: usize) -> ReportSeen
-    ensures used { result.used ≡ used }
-    ensures shows { (octets : List ℕ) → Reads submit_ack view.now octets used
-        → ShowsSubmitAck view.now octets result }
-{
-    let spans = view.spans(used);
-    let mut seen = parts_seen(view.has_header, view.pid, view.dcs, &view.user, spans, used);
-    seen.has_stamp = 1;
-    seen.stamp = StampOctets::of(view.stamp);
-    seen
 }
 
 /// Sees an SMS-SUBMIT-REPORT of an RP-ACK at the front of the octets.
@@ -248,26 +215,11 @@ pub extern "C" fn sms_submit_ack_read(
 {
     match SubmitAckView::read(octets) {
         Ok((view, used)) => {
-            *out = submit_ack_seen(&view, used);
+            *out = report_seen(&view, None, Some(view.stamp), used);
             OK
         }
         Err(fault) => unit_refused(refused, fault),
     }
-}
-
-/// What C sees of an SMS-SUBMIT-REPORT of an RP-ERROR that takes so many octets.
-fn submit_error_seen(view: &SubmitErrorView, used: usize) -> ReportSeen
-    ensures used { result.used ≡ used }
-    ensures shows { (octets : List ℕ) → Reads submit_error view.now octets used
-        → ShowsSubmitError view.now octets result }
-{
-    let spans = view.spans(used);
-    let mut seen = parts_seen(view.has_header, view.pid, view.dcs, &view.user, spans, used);
-    seen.has_cause = 1;
-    seen.cause = view.cause;
-    seen.has_stamp = 1;
-    seen.stamp = StampOctets::of(view.stamp);
-    seen
 }
 
 /// Sees an SMS-SUBMIT-REPORT of an RP-ERROR at the front of the octets.
@@ -287,7 +239,7 @@ pub extern "C" fn sms_submit_error_read(
 {
     match SubmitErrorView::read(octets) {
         Ok((view, used)) => {
-            *out = submit_error_seen(&view, used);
+            *out = report_seen(&view, Some(view.cause), Some(view.stamp), used);
             OK
         }
         Err(fault) => unit_refused(refused, fault),

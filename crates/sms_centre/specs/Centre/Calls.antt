@@ -1,21 +1,15 @@
 -- What it means that a call of the code is a step of the machine.
-use Rattle.std.specs.Prelude.{◌≡◌, ℕ, ◌≤◌, ◌<◌, max, List, Option, Result, Ok, Err}
-use Rattle.sms_field.specs.AddressValue.{AddressValue}
-use Rattle.sms_tpdu.specs.Submit.{Submission}
+use Rattle.std.specs.Prelude.{◌≡◌, ℕ, ◌≤◌, List, Option, Result, Ok, Err}
+use Rattle.sms_field.specs.Address.Value.{AddressValue}
 use Rattle.sms_message.specs.Message.{Origin}
 use Rattle.sms_message.specs.Message.Reading.{ReadsAs}
 use Rattle.sms_message.specs.Does.{Does, Answered}
 use Rattle.sms_centre.specs.Centre.{centre_receives}
 use Rattle.sms_centre.specs.Centre.State.{CentreState}
-use Rattle.sms_centre.specs.Centre.Submissions.{checked}
 use Rattle.sms_centre.specs.Centre.Pushes.{centre_pushes}
 use Rattle.sms_centre.specs.Centre.Value.{CentreValue}
 use Rattle.sms_centre.specs.Centre.Standing.{StandsFor}
-use Rattle.sms_centre.specs.Centre.Kept.{free_at}
 use Rattle.sms_message.specs.declared.message.Message.{Message}
-use Rattle.sms_message.specs.declared.message.Tag.{Tag}
-use Rattle.sms_centre.specs.declared.centre.check.Check.{Check}
-use Rattle.sms_centre.specs.declared.centre.check.Check.TheVariants.{Refuse, Accept}
 use Rattle.sms_message.specs.declared.outcome.Step.{Step}
 use Rattle.sms_message.specs.declared.outcome.Dropped.{Dropped}
 use Rattle.sms_message.specs.declared.outcome.Dropped.TheVariants as dropped
@@ -53,27 +47,6 @@ IsPushed now phone old =
     (limit : ℕ) (phones : List AddressValue) (clock : ℕ) (c : CentreState) → clock ≤ now
     → StandsFor limit phones clock old c
     → (centre_pushes phones c now phone).answer ≡ Ok Pushed
-
--- what was accepted has the next stamp of its recipient
-abbrev pub IsCheckIn : ℕ → ℕ → Submission → Check → CentreValue → Type 0
-IsCheckIn now phone s (Refuse cause failure) v = Unit {0}
-IsCheckIn now phone s (Accept recipient ends stamp) v =
-    (stamp ≡ max (free_at v.lines recipient) now) × (now < ends)
-
--- the same for a call that begins at its moment, with what is done in a state
-abbrev pub Steps : ℕ → (ℕ → List AddressValue → CentreState → Option Origin → Does CentreState)
-    → CentreValue → Result Step Dropped → CentreValue → Type 0
-Steps now does old result new =
-    (limit : ℕ) (phones : List AddressValue) (c : CentreState) (origin : Option Origin)
-    → StandsFor limit phones now old c
-    → CentreAnswers limit phones now c (does limit phones c origin) result new
-
--- a submission is answered as it was checked
-abbrev pub SettlesAs : ℕ → ℕ → Tag → Submission → Check → CentreValue → Result Step Dropped
-    → CentreValue → Type 0
-SettlesAs now phone tag s check old result new =
-    IsCheckIn now phone s check old
-    → Steps now (λ limit phones c origin. checked c now phone tag s origin check) old result new
 
 -- Octets come from a phone: they are read as a message, and it does what the message makes it do,
 -- whatever text the message is of. If memory runs out, it stands for the state that was.

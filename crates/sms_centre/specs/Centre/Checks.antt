@@ -2,11 +2,11 @@
 -- number is the RP-Cause (3GPP TS 24.011, 8.2.5.4), the second the TP-Failure-Cause (3GPP TS
 -- 23.040, 9.2.3.22).
 use Rattle.std.specs.Prelude.{ℕ, Bool, ◌&&◌, if◌then◌else◌, nat_lt, nat_le, List, length, Option, Some, None, Result, Ok, Err}
-use Rattle.sms_field.specs.AddressValue.{AddressValue}
+use Rattle.sms_field.specs.Address.Value.{AddressValue}
 use Rattle.sms_field.specs.declared.validity.ValidityFault.{ValidityFault}
 use Rattle.sms_field.specs.declared.validity.ValidityFault.TheVariants.{EnhancedValidity, NoMoment}
 use Rattle.sms_tpdu.specs.Submit.{Submission}
-use Rattle.sms_field.specs.Times.{end_of, end_of_2099}
+use Rattle.sms_field.specs.Time.Computed.{end_of, end_of_2099}
 use Rattle.sms_message.specs.Address.{phone_at}
 use Rattle.sms_centre.specs.Centre.State.{Acceptance}
 use Rattle.sms_centre.specs.Centre.Held.{unended, is_held, next_stamp}

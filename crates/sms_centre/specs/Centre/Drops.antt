@@ -1,6 +1,6 @@
 -- What the centre drops puts nothing out.
 use Rattle.std.specs.Prelude.{ℕ, List, Option}
-use Rattle.sms_field.specs.AddressValue.{AddressValue}
+use Rattle.sms_field.specs.Address.Value.{AddressValue}
 use Rattle.sms_message.specs.declared.message.Message.{Message}
 use Rattle.sms_message.specs.Message.{Origin}
 use Rattle.sms_message.specs.Drops.{DoesOrDrops}

@@ -1,7 +1,7 @@
 -- By what a phone tells the deliveries of one-piece messages. Calls and acceptances have the newest
 -- first.
 use Rattle.std.specs.Prelude.{◌≡◌, ℕ, false, List, [], ◌∷◌, None}
-use Rattle.sms_field.specs.AddressValue.{AddressValue}
+use Rattle.sms_field.specs.Address.Value.{AddressValue}
 use Rattle.sms_tpdu.specs.Deliver.{Delivery}
 use Rattle.sms_tpdu.specs.UserData.ConcatenationFound.{concat_of_header}
 use Rattle.sms_join.specs.declared.key.Key.{Key}

@@ -1,9 +1,9 @@
 -- The centre puts out a message to a phone: an SMS-DELIVER (3GPP TS 23.040, 9.2.2.1).
 use Rattle.std.specs.Prelude.{ℕ, suc, Bool, false, List, [], ◌∷◌, ◌++◌, Some, Ok}
-use Rattle.sms_field.specs.AddressValue.{AddressValue}
+use Rattle.sms_field.specs.Address.Value.{AddressValue}
 use Rattle.sms_tpdu.specs.Deliver.{Delivery}
 use Rattle.sms_relay.specs.declared.side.Side.TheVariants.{ToPhone}
-use Rattle.sms_field.specs.Times.{stamp_octets}
+use Rattle.sms_field.specs.Time.Computed.{stamp_octets}
 use Rattle.sms_message.specs.Address.{address_of}
 use Rattle.sms_message.specs.Message.{tag_of}
 use Rattle.sms_message.specs.Does.{Does}

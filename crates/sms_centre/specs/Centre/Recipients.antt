@@ -1,6 +1,6 @@
 -- Whom the accepted messages are for. Calls and acceptances have the newest first.
 use Rattle.std.specs.Prelude.{◌≡◌, ℕ, List, [], ◌∷◌, Some}
-use Rattle.sms_field.specs.AddressValue.{AddressValue}
+use Rattle.sms_field.specs.Address.Value.{AddressValue}
 use Rattle.sms_message.specs.Address.{phone_at}
 use Rattle.sms_centre.specs.Centre.State.{Acceptance}
 use Rattle.sms_centre.specs.Centre.Stamps.{Call, called_all}

@@ -1,7 +1,8 @@
 -- The states of the machine for which the code of the centre stands.
-use Rattle.std.specs.Prelude.{◌≡◌, ℕ, ◌≤◌, ◌<◌, ◌%◌, max, List, [], ◌∷◌, All, length, Option, Some, None, slice_get}
-use Rattle.sms_field.specs.AddressValue.{AddressValue}
+use Rattle.std.specs.Prelude.{◌≡◌, ℕ, ◌≤◌, ◌<◌, max, List, [], ◌∷◌, All, length, Option, Some, None, slice_get}
+use Rattle.sms_field.specs.Address.Value.{AddressValue}
 use Rattle.sms_message.specs.Address.{address_of}
+use Rattle.sms_message.specs.Message.{tag_of}
 use Rattle.sms_centre.specs.Centre.State.{Acceptance, Pushing, Line, CentreState}
 use Rattle.sms_centre.specs.Centre.Held.{unended, is_held, next_stamp}
 use Rattle.sms_centre.specs.Centre.Value.{WaitingValue, LineValue, HeldValue, CentreValue, phones_of, endings_after}
@@ -35,19 +36,13 @@ waiting_in phones (a ∷ queue) = waiting_of phones a ∷ waiting_in phones queu
 abbrev pub push_of : Option Pushing → Option Push
 push_of None = None
 push_of (Some p) =
-    Some (record {
-      value = p.tag.value;
-      reference = p.tag.reference;
-      stamp = p.message.stamp;
-      ends = p.message.ends;
-    })
+    Some (record { tag = p.tag; stamp = p.message.stamp; ends = p.message.ends })
 
 pub record LineStands (phones : List AddressValue) (clock : ℕ) (accepted : List Acceptance)
     (recipient : ℕ) (v : LineValue) (l : Line) : Type 0 where
   pub queue : v.queue ≡ waiting_in phones (unended l.queue clock)
   pub free : (now : ℕ) → next_stamp accepted recipient now ≡ max v.free now
-  pub value : v.value ≡ l.pushes % 7
-  pub reference : v.reference ≡ l.pushes % 256
+  pub next : v.next ≡ tag_of l.pushes
   pub latest : v.latest ≡ push_of l.latest
 
 -- The centre stands for a state at a moment: its limit and phones are these, it holds the messages

@@ -1,8 +1,9 @@
 -- What the code of the centre holds, as contracts see it.
 use Rattle.std.specs.Prelude.{ℕ, Bool, nat_lt, List, map, Option}
 use Rattle.std.specs.List.{filter}
-use Rattle.sms_field.specs.AddressValue.{AddressValue}
+use Rattle.sms_field.specs.Address.Value.{AddressValue}
 use Rattle.sms_tpdu.specs.Submit.{Submission}
+use Rattle.sms_message.specs.declared.message.Tag.{Tag}
 use Rattle.sms_centre.specs.declared.centre.held.HeldKey.{HeldKey}
 use Rattle.sms_centre.specs.declared.centre.held.Ending.{Ending}
 use Rattle.sms_centre.specs.contracts.centre.held.HeldKeyPartialEq.TheImpl as derived
@@ -22,8 +23,7 @@ pub record LineValue : Type 0 where
   -- no stamp below this one is given
   pub free : ℕ
   -- of the next push
-  pub value : ℕ
-  pub reference : ℕ
+  pub next : Tag
   -- until it is answered
   pub latest : Option Push
 

@@ -1,7 +1,7 @@
 //! The packets of the centre's answers to submissions.
 
 ghost use Rattle.std.specs.Prelude.{◌<◌, true, None, Some};
-ghost use Rattle.sms_field.specs.Times.{end_of_2099};
+ghost use Rattle.sms_field.specs.Time.Computed.{end_of_2099};
 ghost use Rattle.sms_relay.specs.declared.side.Side.TheVariants.{ToPhone};
 ghost use Rattle.sms_message.specs.Message.Answers.{answers, submit_error_of, submit_ack_of};
 ghost use Rattle.sms_message.specs.Does.{Puts};
@@ -64,6 +64,7 @@ pub(crate) fn approval(alloc: Global, tag: Tag, stamp: u64) -> Result<Step, Drop
 {
     let report = SubmitAck {
         has_header: false,
+        cause: (),
         stamp: stamp_of(stamp),
         pid: None,
         dcs: None,

@@ -3,7 +3,8 @@
 ghost use Rattle.std.specs.Prelude.{◌≡◌, ◌≢◌, [], length, All, OnOk, OnErr};
 ghost use Rattle.indexmap.specs.IndexMap.{IsUnique};
 ghost use Rattle.sms_centre.specs.Centre.Value.{key_eq};
-ghost use Rattle.sms_centre.specs.Centre.Kept.{is_kept, HoldsAlso, ForgetsEnded, ForgetsFirst};
+ghost use Rattle.sms_centre.specs.Centre.Kept.{is_kept};
+ghost use Rattle.sms_centre.specs.Inside.Kept.{HoldsAlso, ForgetsEnded, ForgetsFirst};
 
 use indexmap::IndexMap;
 use std::alloc::{AllocError, Global};
@@ -46,7 +47,7 @@ impl Model for HeldMessages {
     ghost use Rattle.indexmap.specs.IndexMap.{IsUnique};
     ghost use Rattle.std.specs.Map.{keys_of};
     ghost use Rattle.sms_centre.specs.Centre.Value.{HeldValue, key_eq};
-    ghost use Rattle.sms_centre.specs.Centre.Kept.{AreOfMessages};
+    ghost use Rattle.sms_centre.specs.Inside.Kept.{AreOfMessages};
 
     ghost Value = { HeldValue };
 

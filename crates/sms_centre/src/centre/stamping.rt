@@ -1,7 +1,7 @@
 //! Stamps that the centre gives.
 
 ghost use Rattle.std.specs.Prelude.{◌≡◌, ◌<◌};
-ghost use Rattle.sms_field.specs.Times.{end_of_2099, stamp_octets};
+ghost use Rattle.sms_field.specs.Time.Computed.{end_of_2099, stamp_octets};
 
 use sms_field::Stamp;
 

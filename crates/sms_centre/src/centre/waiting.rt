@@ -1,10 +1,11 @@
 //! Messages that wait for their delivery.
 
 ghost use Rattle.std.specs.Prelude.{◌≡◌, IfOk};
-ghost use Rattle.sms_centre.specs.Centre.Lines.{delivery_of};
+ghost use Rattle.sms_centre.specs.Inside.Lines.{delivery_of, is_awaited};
 
 use crate::centre::stamping::stamp_of;
 use sms_field::Address;
+use sms_message::Tag;
 use sms_tpdu::{Deliver, Submit};
 use std::alloc::{AllocError, Global};
 use std::marker::Model;
@@ -12,14 +13,22 @@ use std::marker::Model;
 /// The latest push to a phone.
 #[derive(Drop)]
 pub struct Push {
-    /// The TI value of its transaction, 0 to 6.
-    pub value: u8,
-    /// Its RP-Message Reference.
-    pub reference: u8,
+    /// The tag of its packet.
+    pub tag: Tag,
     /// The moment of its TP-SCTS, in seconds since the beginning of 2000.
     pub stamp: u64,
     /// The end of the message's validity (TP-VP), in seconds since the beginning of 2000.
     pub ends: u64,
+}
+
+impl Push {
+    /// Whether an answer with this tag is awaited at this moment: the tag is its own, and the
+    /// message has not ended.
+    pub(crate) fn is_awaited(&self, now: u64, tag: Tag) -> bool
+        ensures { result ≡ is_awaited now tag self.now }
+    {
+        tag.is_same(self.tag) && self.ends > now
+    }
 }
 
 /// A message that is to be delivered.
@@ -34,7 +43,7 @@ pub(crate) struct WaitingMessage {
 
 impl Model for WaitingMessage {
     ghost use Rattle.std.specs.Prelude.{◌<◌};
-    ghost use Rattle.sms_field.specs.Times.{end_of_2099};
+    ghost use Rattle.sms_field.specs.Time.Computed.{end_of_2099};
     ghost use Rattle.sms_centre.specs.Centre.Value.{WaitingValue};
 
     ghost Value = { WaitingValue };

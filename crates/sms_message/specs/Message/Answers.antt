@@ -2,7 +2,7 @@
 -- 9.2.2.2a).
 use Rattle.std.specs.Prelude.{ℕ, true, false, List, [], ◌∷◌, Option, None}
 use Rattle.sms_relay.specs.declared.side.Side.{Side}
-use Rattle.sms_field.specs.Times.{stamp_octets}
+use Rattle.sms_field.specs.Time.Computed.{stamp_octets}
 use Rattle.sms_message.specs.declared.message.Tag.{Tag}
 use Rattle.sms_message.specs.declared.message.Report.{Report}
 use Rattle.sms_message.specs.declared.message.Report.TheVariants.{SubmitAck, SubmitError, DeliverAck, DeliverError}
@@ -21,6 +21,7 @@ abbrev pub submit_ack_of : ℕ → Report
 submit_ack_of moment =
     SubmitAck (record {
       has_header = false;
+      cause = tt;
       stamp = stamp_octets moment;
       pid = None;
       dcs = None;
@@ -39,13 +40,22 @@ submit_error_of failure moment =
     })
 
 abbrev pub plain_ack : Report
-plain_ack = DeliverAck (record { has_header = false; pid = None; dcs = None; user = None })
+plain_ack =
+    DeliverAck (record {
+      has_header = false;
+      cause = tt;
+      stamp = tt;
+      pid = None;
+      dcs = None;
+      user = None;
+    })
 
 abbrev pub deliver_error_of : ℕ → Report
 deliver_error_of failure =
     DeliverError (record {
       has_header = false;
       cause = failure;
+      stamp = tt;
       pid = None;
       dcs = None;
       user = None;

@@ -1,12 +1,9 @@
 -- Packets that carry messages (3GPP TS 24.011, 7.2 and 7.3).
 use Rattle.std.specs.Prelude.{ℕ, List, [], ◌∷◌, Option, Some, None}
-use Rattle.sms_field.specs.RelayAddressValue.{RelayAddressValue}
+use Rattle.sms_field.specs.RelayAddress.Value.{RelayAddressValue}
 use Rattle.sms_tpdu.specs.Submit.{SpellsSubmit}
 use Rattle.sms_tpdu.specs.Deliver.{SpellsDeliver}
-use Rattle.sms_tpdu.specs.Report.SubmitAck.{SpellsSubmitAck}
-use Rattle.sms_tpdu.specs.Report.SubmitError.{SpellsSubmitError}
-use Rattle.sms_tpdu.specs.Report.DeliverAck.{SpellsDeliverAck}
-use Rattle.sms_tpdu.specs.Report.DeliverError.{SpellsDeliverError}
+use Rattle.sms_tpdu.specs.Report.{SpellsSubmitAck, SpellsSubmitError, SpellsDeliverAck, SpellsDeliverError}
 use Rattle.sms_relay.specs.Carried as carried
 use Rattle.sms_relay.specs.declared.side.Side.{Side}
 use Rattle.sms_relay.specs.declared.side.Side.TheVariants.{FromPhone, ToPhone}

@@ -1,20 +1,18 @@
 -- The message as which octets are read (3GPP TS 24.011, 7.2 and 7.3).
 use Rattle.std.specs.Prelude.{◌≡◌, ℕ, ◌<◌, ◌≤◌, Bool, List, ◌∷◌, length, Option, Some, None}
 use Rattle.sms_text.specs.Octets.{IsOctets}
-use Rattle.sms_field.specs.Reading.{Reads, IsReadable}
-use Rattle.sms_field.specs.Reasons.{StartsAs}
-use Rattle.sms_field.specs.RelayAddressValue.{RelayAddressValue}
+use Rattle.sms_field.specs.Field.{HasReading}
+use Rattle.sms_field.specs.Reading.{Reads}
+use Rattle.sms_field.specs.Reading.Reasons.{StartsAs}
+use Rattle.sms_field.specs.RelayAddress.Value.{RelayAddressValue}
 use Rattle.sms_tpdu.specs.Submit.{submit}
 use Rattle.sms_tpdu.specs.Submit.Flags.{submit_flags}
 use Rattle.sms_tpdu.specs.Deliver.{deliver}
 use Rattle.sms_tpdu.specs.Deliver.Flags.{deliver_flags}
-use Rattle.sms_tpdu.specs.Report.SubmitAck.{submit_ack}
-use Rattle.sms_tpdu.specs.Report.SubmitError.{submit_error}
-use Rattle.sms_tpdu.specs.Report.DeliverAck.{deliver_ack}
-use Rattle.sms_tpdu.specs.Report.DeliverError.{deliver_error}
+use Rattle.sms_tpdu.specs.Report.{submit_ack, submit_error, deliver_ack, deliver_error}
 use Rattle.sms_tpdu.specs.declared.fault.UnitFault.TheVariants.{WrongType}
 use Rattle.sms_relay.specs.Cp.{cp_message}
-use Rattle.sms_relay.specs.RpKind.{rp_type}
+use Rattle.sms_relay.specs.Rp.Kind.{rp_type}
 use Rattle.sms_relay.specs.Rp.{rp_message}
 use Rattle.sms_relay.specs.Carried as carried
 use Rattle.sms_relay.specs.declared.side.Side.{Side}
@@ -38,11 +36,11 @@ abbrev pub ReadsUnit : Side → List ℕ → TransferUnit → Type 0
 ReadsUnit FromPhone octets (Submit s) = (used : ℕ) × Reads submit s octets used
 ReadsUnit FromPhone octets OtherUnit = StartsAs submit_flags WrongType octets
 ReadsUnit FromPhone octets BadUnit =
-    (¬ IsReadable (Reads submit) octets) × (¬ StartsAs submit_flags WrongType octets)
+    (¬ HasReading submit octets) × (¬ StartsAs submit_flags WrongType octets)
 ReadsUnit ToPhone octets (Deliver d) = (used : ℕ) × Reads deliver d octets used
 ReadsUnit ToPhone octets OtherUnit = StartsAs deliver_flags WrongType octets
 ReadsUnit ToPhone octets BadUnit =
-    (¬ IsReadable (Reads deliver) octets) × (¬ StartsAs deliver_flags WrongType octets)
+    (¬ HasReading deliver octets) × (¬ StartsAs deliver_flags WrongType octets)
 ReadsUnit _ octets _ = ⊥
 
 -- a report of the kind that the answer has
@@ -55,10 +53,10 @@ ReadsSomeReport FromPhone None octets (Some (DeliverAck r)) =
     (used : ℕ) × Reads deliver_ack r octets used
 ReadsSomeReport FromPhone (Some cause) octets (Some (DeliverError r)) =
     (used : ℕ) × Reads deliver_error r octets used
-ReadsSomeReport ToPhone None octets None = ¬ IsReadable (Reads submit_ack) octets
-ReadsSomeReport ToPhone (Some cause) octets None = ¬ IsReadable (Reads submit_error) octets
-ReadsSomeReport FromPhone None octets None = ¬ IsReadable (Reads deliver_ack) octets
-ReadsSomeReport FromPhone (Some cause) octets None = ¬ IsReadable (Reads deliver_error) octets
+ReadsSomeReport ToPhone None octets None = ¬ HasReading submit_ack octets
+ReadsSomeReport ToPhone (Some cause) octets None = ¬ HasReading submit_error octets
+ReadsSomeReport FromPhone None octets None = ¬ HasReading deliver_ack octets
+ReadsSomeReport FromPhone (Some cause) octets None = ¬ HasReading deliver_error octets
 ReadsSomeReport _ _ octets _ = ⊥
 
 abbrev pub ReadsReport : Side → Option ℕ → Option (List ℕ) → Option Report → Type 0
@@ -102,7 +100,7 @@ ReadsRelay octets reference (Answer side cause report) =
     ReadsAnswer octets side reference cause report
 ReadsRelay octets reference UnknownType = StartsAs rp_type fault.UnknownType octets
 ReadsRelay octets reference Unreadable =
-    (¬ IsReadable (Reads rp_message) octets) × (¬ StartsAs rp_type fault.UnknownType octets)
+    (¬ HasReading rp_message octets) × (¬ StartsAs rp_type fault.UnknownType octets)
 
 abbrev pub IsSecond : ℕ → List ℕ → Type 0
 IsSecond octet (first ∷ second ∷ rest) = octet ≡ second
@@ -127,7 +125,7 @@ IsLongData packet =
 -- The octets are no CP message; a CP-ACK or CP-ERROR; a CP-DATA of fewer than two octets; or a
 -- CP-DATA, with the second of its octets as the reference, whether or not they are an RP message.
 abbrev pub ReadsAs : List ℕ → Message → Type 0
-ReadsAs packet NotCp = ¬ IsReadable (Reads cp_message) packet
+ReadsAs packet NotCp = ¬ HasReading cp_message packet
 ReadsAs packet (Note flag value) =
     (body : CpBody) × (used : ℕ) × IsNote body
     × Reads cp_message (carried.in_transaction flag value body) packet used

@@ -1,6 +1,6 @@
 -- The sets of segments that have been open for too long are dropped.
 use Rattle.std.specs.Prelude.{ℕ}
-use Rattle.sms_join.specs.Aging.{is_old, aged}
+use Rattle.sms_join.specs.Joiner.Aging.{is_old, aged}
 use Rattle.sms_join.specs.Arrivals.{remaining}
 use Rattle.sms_party.specs.Receiver.State.{ReceiverState}
 

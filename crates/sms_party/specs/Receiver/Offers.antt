@@ -1,7 +1,7 @@
 -- The text of a delivery is offered to the joiner of a phone, and goes to its store when it is
 -- whole.
 use Rattle.std.specs.Prelude.{ℕ, Bool, ◌&&◌, if◌then◌else◌, nat_le, List, ◌∷◌, length, Option, Some, None, Ok}
-use Rattle.sms_field.specs.AddressValue.{AddressValue}
+use Rattle.sms_field.specs.Address.Value.{AddressValue}
 use Rattle.sms_tpdu.specs.Deliver.{Delivery}
 use Rattle.sms_relay.specs.declared.side.Side.TheVariants.{FromPhone}
 use Rattle.sms_join.specs.declared.units.Units.{Units}
@@ -9,21 +9,26 @@ use Rattle.sms_join.specs.Piece.{Piece}
 use Rattle.sms_join.specs.Reading.{text_of_segments}
 use Rattle.sms_join.specs.Joiner as joiner
 use Rattle.sms_join.specs.Joiner.{Answer, answer, answered}
-use Rattle.sms_join.specs.Finishing.{would_finish}
+use Rattle.sms_join.specs.Joiner.Finishing.{would_finish}
 use Rattle.sms_join.specs.Arrivals.{Arrival}
 use Rattle.sms_message.specs.Message.{Origin}
 use Rattle.sms_message.specs.Message.Answers.{answers, plain_ack, deliver_error_of}
-use Rattle.sms_message.specs.Does.{Does, refuses_with}
+use Rattle.sms_message.specs.Does.{Does, refuses_with, turns_away}
 use Rattle.sms_party.specs.Receiver.State.{Entry, ReceiverLimits, ReceiverState}
 use Rattle.sms_party.specs.Receiver.Pieces.{piece_in}
 use Rattle.sms_message.specs.declared.message.Tag.{Tag}
 use Rattle.sms_message.specs.declared.outcome.Outcome.{Outcome}
 use Rattle.sms_message.specs.declared.outcome.Outcome.TheVariants as outcome
+use Rattle.sms_message.specs.declared.request.NotTaken.{NotTaken}
 
 -- an RP-ERROR with an SMS-DELIVER-REPORT
 abbrev pub refuses : ReceiverState → Tag → ℕ → ℕ → Does ReceiverState
 refuses s tag cause failure =
     refuses_with s FromPhone tag cause (Some failure) (Some (deliver_error_of failure))
+
+-- what is not taken is dropped, or refused so
+abbrev pub turned_away : ReceiverState → Tag → NotTaken → Does ReceiverState
+turned_away s tag why = turns_away s FromPhone tag deliver_error_of why
 
 -- an RP-ACK with an SMS-DELIVER-REPORT
 abbrev pub accepts : Tag → Outcome → ReceiverState → Does ReceiverState

@@ -1,8 +1,8 @@
 -- What the code of a receiving phone holds, the states for which it stands, and what it means that
 -- a call is a step.
 use Rattle.std.specs.Prelude.{◌≡◌, ℕ, List, reverse, Option, Result, Err}
-use Rattle.sms_join.specs.JoinerValue.{JoinerValue}
-use Rattle.sms_join.specs.Same.{IsSame}
+use Rattle.sms_join.specs.Joiner.Value.{JoinerValue}
+use Rattle.sms_join.specs.Joiner.Same.{IsSame}
 use Rattle.sms_message.specs.Message.{Origin}
 use Rattle.sms_message.specs.Message.Reading.{ReadsAs}
 use Rattle.sms_message.specs.Does.{Does, Answered}

@@ -1,6 +1,6 @@
 -- What a receiving phone holds. The lists have the newest first.
 use Rattle.std.specs.Prelude.{ℕ, List, []}
-use Rattle.sms_field.specs.AddressValue.{AddressValue}
+use Rattle.sms_field.specs.Address.Value.{AddressValue}
 use Rattle.sms_join.specs.Joiner.{Joiner, new_joiner}
 use Rattle.sms_join.specs.Arrivals.{Arrival}
 

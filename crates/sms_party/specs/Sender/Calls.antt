@@ -1,9 +1,10 @@
 -- A text is typed, or an answer does not come in time.
 use Rattle.std.specs.Prelude.{ℕ, Bool, true, false, if◌then◌else◌, ◌==◌, nat_lt, nat_le, List, [], ◌∷◌, ◌++◌, length, Ok}
-use Rattle.sms_field.specs.AddressValue.{AddressValue}
+use Rattle.sms_field.specs.Address.Value.{AddressValue}
 use Rattle.sms_join.specs.declared.units.Units.{Units}
 use Rattle.sms_message.specs.declared.outcome.Outcome.TheVariants.{Typed, Repeated, GaveUp, Idle}
 use Rattle.sms_message.specs.declared.outcome.Dropped.TheVariants.{Busy, TooManySegments}
+use Rattle.sms_party.specs.declared.sender.TheConstants.{PENDING_MAX}
 use Rattle.sms_party.specs.Sent.{nth, Sends}
 use Rattle.sms_party.specs.Sender.Texts.{Text, Sender, SenderState, new_text, number_of}
 use Rattle.sms_party.specs.Sender.Putting.{puts, sender_drops, does}
@@ -30,7 +31,7 @@ typed x phone t =
 -- Too many texts wait, or the text has too many segments; else it is one more.
 unfoldable pub composes : SenderState → ℕ → AddressValue → List ℕ → List Units → Sends SenderState
 composes x phone target characters pieces =
-    if nat_le 1000 (length (x.sender phone).pending) then sender_drops x Busy
+    if nat_le PENDING_MAX (length (x.sender phone).pending) then sender_drops x Busy
     else (if nat_lt 255 (length pieces) then sender_drops x TooManySegments
     else typed x phone (new_text x.wide x.texts phone target characters pieces))
 

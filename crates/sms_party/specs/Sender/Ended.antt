@@ -1,6 +1,6 @@
 -- How a text has ended is told by its number. Calls have the newest first.
 use Rattle.std.specs.Prelude.{◌≡◌, ℕ, suc, Bool, List, [], ◌∷◌, length, Some}
-use Rattle.sms_field.specs.AddressValue.{AddressValue}
+use Rattle.sms_field.specs.Address.Value.{AddressValue}
 use Rattle.sms_join.specs.declared.units.Units.{Units}
 use Rattle.sms_message.specs.declared.message.Message.{Message}
 use Rattle.sms_party.specs.Sent.{nth}

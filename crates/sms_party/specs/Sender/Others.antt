@@ -1,6 +1,6 @@
 -- What one phone does leaves the sender of another as it is.
 use Rattle.std.specs.Prelude.{◌≢◌, ℕ, List}
-use Rattle.sms_field.specs.AddressValue.{AddressValue}
+use Rattle.sms_field.specs.Address.Value.{AddressValue}
 use Rattle.sms_join.specs.declared.units.Units.{Units}
 use Rattle.sms_message.specs.declared.message.Message.{Message}
 use Rattle.sms_party.specs.Sender.Texts.{SenderState}

@@ -4,7 +4,7 @@ use Rattle.sms_field.specs.declared.validity.Validity.TheVariants.{Absent}
 use Rattle.sms_tpdu.specs.Submit.{Submission}
 use Rattle.sms_join.specs.declared.units.Units.{Units}
 use Rattle.sms_join.specs.declared.units.Units.TheVariants.{Gsm}
-use Rattle.sms_join.specs.SegmentUser.{dcs_of, user_of}
+use Rattle.sms_join.specs.Segments.User.{dcs_of, user_of}
 use Rattle.sms_party.specs.Sender.Texts.{Text}
 
 -- the units of the segment; segments count from 1

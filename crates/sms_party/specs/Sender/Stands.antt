@@ -1,6 +1,6 @@
 -- The states for which a sender's value stands, and what its calls answer.
 use Rattle.std.specs.Prelude.{◌≡◌, ℕ, suc, ◌+◌, ◌-◌, ◌%◌, ◌<◌, Bool, if◌then◌else◌, List, [], ◌∷◌, ◌++◌, length, Option, Some, Result, Err}
-use Rattle.sms_field.specs.AddressValue.{AddressValue}
+use Rattle.sms_field.specs.Address.Value.{AddressValue}
 use Rattle.sms_tpdu.specs.declared.user_data.concat.Width.{Width}
 use Rattle.sms_join.specs.declared.units.Units.{Units}
 use Rattle.sms_join.specs.Cut.{IsCut}

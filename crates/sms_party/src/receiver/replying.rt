@@ -27,6 +27,7 @@ fn error_packet(alloc: Global, tag: Tag, cause: u8, failure: u8) -> Result<Vec<u
     let report = DeliverError {
         has_header: false,
         cause: failure,
+        stamp: (),
         pid: None,
         dcs: None,
         user: None,
@@ -51,6 +52,8 @@ fn ack_packet(alloc: Global, tag: Tag) -> Result<Vec<u8>, Dropped>
 {
     let report = DeliverAck {
         has_header: false,
+        cause: (),
+        stamp: (),
         pid: None,
         dcs: None,
         user: None,

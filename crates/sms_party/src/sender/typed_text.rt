@@ -1,8 +1,8 @@
 //! A typed text on its way.
 
 ghost use Rattle.std.specs.Prelude.{◌≡◌, ◌<◌, false, Some, IfOk, IfErr};
-ghost use Rattle.sms_join.specs.SegmentUser.{IsSendable};
-ghost use Rattle.sms_party.specs.Sender.Value.{submission_in, text_put, CarriesOptional};
+ghost use Rattle.sms_join.specs.Segments.User.{IsSendable};
+ghost use Rattle.sms_party.specs.Inside.Sender.{submission_in, text_put, CarriesOptional};
 ghost use Rattle.sms_message.specs.Message.Carrying.{Carries};
 ghost use Rattle.sms_message.specs.declared.message.Message.TheVariants.{Data};
 ghost use Rattle.sms_message.specs.declared.message.Relay.TheVariants.{Transfer};
@@ -36,7 +36,7 @@ pub(crate) struct TypedText {
 impl Model for TypedText {
     ghost use Rattle.std.specs.Prelude.{◌≡◌, ◌<◌, ◌≤◌, All, length};
     ghost use Rattle.sms_tpdu.specs.declared.user_data.concat.Width.TheVariants.{Eight};
-    ghost use Rattle.sms_join.specs.SegmentUser.{IsSendable};
+    ghost use Rattle.sms_join.specs.Segments.User.{IsSendable};
     ghost use Rattle.sms_party.specs.Sender.Value.{TextValue};
 
     ghost Value = { TextValue };

@@ -1,12 +1,12 @@
 //! CP messages, seen in their octets.
 
 ghost use Rattle.std.specs.Prelude.{◌≡◌, ℕ, IfOk, IfErr, IsOk};
-ghost use Rattle.sms_field.specs.Answer.{SeesAs};
+ghost use Rattle.sms_field.specs.Reading.Answer.{SeesAs};
 ghost use Rattle.sms_field.specs.Reading.{Reads};
-ghost use Rattle.sms_field.specs.WholeAnswer.{IsFaultOf, SeesExactly};
-ghost use Rattle.sms_relay.specs.CpValue.{IsCpBody};
+ghost use Rattle.sms_field.specs.Reading.WholeAnswer.{IsFaultOf, SeesExactly};
+ghost use Rattle.sms_relay.specs.Cp.Value.{IsCpBody};
 ghost use Rattle.sms_relay.specs.Cp.{cp_body, cp_message};
-ghost use Rattle.sms_relay.specs.CpSeen.{seen_cp_body};
+ghost use Rattle.sms_relay.specs.Cp.Seen.{seen_cp_body};
 ghost use Rattle.sms_relay.specs.declared.cp.view.CpBodyView.TheVariants as seen;
 ghost use Rattle.sms_relay.specs.declared.fault.RelayFault.TheVariants.{Short};
 
@@ -44,8 +44,8 @@ pub struct CpView<'a> {
 }
 
 impl<'a> Model for CpView<'a> {
-    ghost use Rattle.sms_relay.specs.CpValue.{CpValue, IsCpMessage};
-    ghost use Rattle.sms_relay.specs.CpSeen.{seen_cp_body};
+    ghost use Rattle.sms_relay.specs.Cp.Value.{CpValue, IsCpMessage};
+    ghost use Rattle.sms_relay.specs.Cp.Seen.{seen_cp_body};
 
     ghost Value = { CpValue };
 

@@ -1,12 +1,12 @@
 //! RP messages, seen in their octets.
 
 ghost use Rattle.std.specs.Prelude.{◌≡◌, None, IfOk, IfErr, IsOk};
-ghost use Rattle.sms_field.specs.Answer.{SeesAs};
+ghost use Rattle.sms_field.specs.Reading.Answer.{SeesAs};
 ghost use Rattle.sms_field.specs.Reading.{Reads};
-ghost use Rattle.sms_field.specs.WholeAnswer.{IsFaultOf, SeesExactly};
-ghost use Rattle.sms_relay.specs.RpValue.{IsRpBody};
+ghost use Rattle.sms_field.specs.Reading.WholeAnswer.{IsFaultOf, SeesExactly};
+ghost use Rattle.sms_relay.specs.Rp.Value.{IsRpBody};
 ghost use Rattle.sms_relay.specs.Rp.{rp_data, rp_error, rp_body, rp_message};
-ghost use Rattle.sms_relay.specs.RpSeen.{seen_rp_body};
+ghost use Rattle.sms_relay.specs.Rp.Seen.{seen_rp_body};
 ghost use Rattle.sms_relay.specs.declared.rp.view.RpBodyView.TheVariants as seen;
 ghost use Rattle.sms_relay.specs.declared.fault.RelayFault.TheVariants.{Short};
 
@@ -64,8 +64,8 @@ pub struct RpView<'a> {
 }
 
 impl<'a> Model for RpView<'a> {
-    ghost use Rattle.sms_relay.specs.RpValue.{RpValue, IsRpMessage};
-    ghost use Rattle.sms_relay.specs.RpSeen.{seen_rp_body};
+    ghost use Rattle.sms_relay.specs.Rp.Value.{RpValue, IsRpMessage};
+    ghost use Rattle.sms_relay.specs.Rp.Seen.{seen_rp_body};
 
     ghost Value = { RpValue };
 

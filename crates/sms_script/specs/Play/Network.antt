@@ -1,6 +1,6 @@
 -- What a network does, as contracts see it.
 use Rattle.std.specs.Prelude.{ℕ, List}
-use Rattle.sms_field.specs.AddressValue.{AddressValue}
+use Rattle.sms_field.specs.Address.Value.{AddressValue}
 use Rattle.sms_script.specs.Transcript.{Ended}
 use Rattle.sms_script.specs.Transcript.Lines.{PacketValue}
 use Rattle.sms_script.specs.declared.meaning.event.Event.{Event}

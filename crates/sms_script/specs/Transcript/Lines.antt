@@ -2,8 +2,8 @@
 use Rattle.std.specs.Prelude.{ℕ, List, [], ◌∷◌, length, ◌==◌, Bool, codes, decimal, if◌then◌else◌}
 use Rattle.std.specs.Str.{encode_utf8_all}
 use Rattle.hex.specs.Hex.{encode_upper}
-use Rattle.sms_field.specs.AddressText.{address_text}
-use Rattle.sms_field.specs.AddressValue.{AddressValue}
+use Rattle.sms_field.specs.Address.Text.{address_text}
+use Rattle.sms_field.specs.Address.Value.{AddressValue}
 use Rattle.sms_script.specs.Transcript.Escapes.{escaped}
 use Rattle.sms_script.specs.Transcript.Appended.{◌⊕◌}
 

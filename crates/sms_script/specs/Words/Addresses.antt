@@ -1,8 +1,8 @@
 -- Addresses in a script (3GPP TS 23.040, 9.1.2.5).
 use Rattle.std.specs.Prelude.{ℕ, List, ◌∷◌, Bool, true, false, ◌&&◌, nat_lt, Result, Ok, Err}
 use Rattle.std.specs.Str.{chars}
-use Rattle.sms_field.specs.AddressText.{address_of_text}
-use Rattle.sms_field.specs.AddressValue.{AddressValue}
+use Rattle.sms_field.specs.Address.Text.{address_of_text}
+use Rattle.sms_field.specs.Address.Value.{AddressValue}
 use Rattle.sms_field.specs.declared.fault.AddressFault.{AddressFault}
 use Rattle.sms_field.specs.declared.symbols.Symbols.{Symbols}
 use Rattle.sms_field.specs.declared.symbols.Symbols.TheVariants.{Digits}

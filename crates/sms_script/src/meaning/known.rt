@@ -4,7 +4,7 @@ ghost use Rattle.std.specs.Prelude.{◌≡◌, ◌<◌, OnOk, OnErr, false, true
 ghost use Rattle.std.specs.Option.{option_map};
 ghost use Rattle.std.specs.List.{list_any};
 ghost use Rattle.std.specs.Str.{bytes_eq};
-ghost use Rattle.sms_field.specs.SameAddress.{same_address};
+ghost use Rattle.sms_field.specs.Address.Same.{same_address};
 ghost use Rattle.sms_script.specs.Meaning.Known.{no_phones, with_phone, running, IsNew, ArePhones};
 
 use crate::meaning::statement::Phone;

@@ -1,7 +1,7 @@
 //! One event of a script, and its lines.
 
 ghost use Rattle.std.specs.Prelude.{◌≡◌, ◌+◌, ◌++◌, ◌≤◌, false, OnOk, IfOk, length, drop};
-ghost use Rattle.sms_script.specs.Play.Events.{event_text, new_packet_lines, TakesEvent};
+ghost use Rattle.sms_script.specs.Inside.Events.{event_text, new_packet_lines, TakesEvent};
 ghost use Rattle.sms_script.specs.Play.Puts.{HasFailed};
 
 use crate::devices::Sink;

@@ -4,7 +4,7 @@ ghost use Rattle.std.specs.Prelude.{◌≡◌, ◌≢◌, ◌+◌, ◌<◌, ◌�
 ghost use Rattle.sms_script.specs.Lines.{line_limit};
 ghost use Rattle.sms_script.specs.Script.{lines_limit, TakesLine};
 ghost use Rattle.sms_script.specs.Script.Settings.{SettingsValue};
-ghost use Rattle.sms_script.specs.Play.Standing.{at, Advances};
+ghost use Rattle.sms_script.specs.Inside.Standing.{at, Advances};
 ghost use Rattle.sms_script.specs.declared.fault.PlayFault.TheVariants.{Write};
 
 use crate::devices::Sink;

@@ -2,7 +2,7 @@
 
 ghost use Rattle.std.specs.Prelude.{◌≡◌, ◌≢◌, None, Err, true, false};
 ghost use Rattle.sms_script.specs.Script.{before_all};
-ghost use Rattle.sms_script.specs.Play.Standing.{PlaysLines};
+ghost use Rattle.sms_script.specs.Inside.Standing.{PlaysLines};
 ghost use Rattle.sms_script.specs.declared.fault.PlayFault.TheVariants.{Read, Write};
 
 use crate::devices::{Sink, Source};

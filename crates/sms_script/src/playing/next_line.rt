@@ -1,7 +1,7 @@
 //! The next line of a script.
 
 ghost use Rattle.std.specs.Prelude.{◌≡◌, ◌≢◌, ◌≤◌, Ok, Err, true, false};
-ghost use Rattle.sms_script.specs.Play.NextLine.{TakesNext};
+ghost use Rattle.sms_script.specs.Inside.NextLine.{TakesNext};
 ghost use Rattle.sms_script.specs.Script.{lines_limit};
 ghost use Rattle.sms_script.specs.declared.fault.PlayFault.TheVariants.{Read};
 

@@ -1,7 +1,7 @@
 //! The network of a script.
 
 ghost use Rattle.std.specs.Prelude.{◌≡◌, IfOk, IfErr, OnErr, None};
-ghost use Rattle.sms_script.specs.Play.Standing.{OpensAt};
+ghost use Rattle.sms_script.specs.Inside.Standing.{OpensAt};
 ghost use Rattle.sms_script.specs.declared.fault.PlayFault.TheVariants.{Memory};
 
 use crate::fault::PlayFault;

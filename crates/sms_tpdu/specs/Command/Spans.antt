@@ -1,7 +1,7 @@
 -- Where the parts of an SMS-COMMAND lie in its octets (3GPP TS 23.040, 9.2.2.4).
 use Rattle.std.specs.Prelude.{◌≡◌, ℕ, List}
 use Rattle.sms_field.specs.Address.{address}
-use Rattle.sms_field.specs.Lies.{LiesAt}
+use Rattle.sms_field.specs.Reading.Lies.{LiesAt}
 use Rattle.sms_tpdu.specs.Command.{CommandValue}
 use Rattle.sms_tpdu.specs.DataSpans.{DataLie}
 use Rattle.sms_tpdu.specs.declared.command.spans.CommandSpans.{CommandSpans}

@@ -1,7 +1,7 @@
 -- Where the parts of an SMS-DELIVER lie in its octets (3GPP TS 23.040, 9.2.2.1).
 use Rattle.std.specs.Prelude.{◌≡◌, ℕ, ◌+◌, List}
 use Rattle.sms_field.specs.Address.{address}
-use Rattle.sms_field.specs.Lies.{LiesAt}
+use Rattle.sms_field.specs.Reading.Lies.{LiesAt}
 use Rattle.sms_tpdu.specs.Deliver.{Delivery}
 use Rattle.sms_tpdu.specs.UserData.Spans.{UserLies}
 use Rattle.sms_tpdu.specs.declared.deliver.spans.DeliverSpans.{DeliverSpans}

@@ -4,7 +4,7 @@ use Rattle.std.specs.Prelude.{◌≡◌, ℕ, Bool, false, ◌||◌, List, [], �
 use Rattle.sms_field.specs.Field.{Field, ◌>>=◌}
 use Rattle.sms_tpdu.specs.IfMore.{if_more}
 use Rattle.sms_tpdu.specs.Report.ParameterIndicator.{indicator, indicator_octet}
-use Rattle.sms_tpdu.specs.Report.{Parts, parts, indicator_of, parts_octets}
+use Rattle.sms_tpdu.specs.Report.AnnouncedParts.{Parts, parts, indicator_of, parts_octets}
 use Rattle.sms_tpdu.specs.declared.report.indicator.Indicator.{Indicator}
 use Rattle.sms_tpdu.specs.declared.fault.UnitFault.{UnitFault}
 

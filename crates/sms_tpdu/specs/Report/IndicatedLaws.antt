@@ -3,15 +3,15 @@
 use Rattle.std.proofs.Common.{◌≡◌, inl, inr, ℕ, ◌||◌, Bool, true, false, cond, List, [], ◌∷◌, ◌++◌, Option, Some, None, is_some, refl, ap, subst, ◌∙◌}
 use Rattle.sms_text.specs.Octets.{IsOctets}
 use Rattle.sms_field.specs.Field.{HasReading, IsLawful}
-use Rattle.sms_field.specs.ChainLaws.{chain_lawful}
-use Rattle.sms_field.specs.ChainReading.{chained}
-use Rattle.sms_tpdu.specs.IfMoreLaws.{if_more_lawful}
+use Rattle.sms_field.specs.Inside.ChainLaws.{chain_lawful}
+use Rattle.sms_field.specs.Inside.ChainReading.{chained}
+use Rattle.sms_tpdu.specs.Inside.IfMoreLaws.{if_more_lawful}
 use Rattle.sms_tpdu.specs.Report.ParameterIndicator.{indicator, indicator_octet}
 use Rattle.sms_tpdu.specs.Report.ParameterIndicatorLaws.{indicator_self, indicator_lawful, indicator_is, indicator_again}
-use Rattle.sms_tpdu.specs.Report.{Parts, indicator_of, AreParts, parts_octets}
-use Rattle.sms_tpdu.specs.Report.Laws.{parts_lawful, parts_again, parts_are_octets}
+use Rattle.sms_tpdu.specs.Report.AnnouncedParts.{Parts, indicator_of, AreParts, parts_octets}
+use Rattle.sms_tpdu.specs.Report.AnnouncedPartsLaws.{parts_lawful, parts_again, parts_are_octets}
 use Rattle.sms_tpdu.specs.Report.Indicated.{indicated_parts, no_parts, optional_parts, is_any, optional_parts_octets, MayFollowParts}
-use Rattle.sms_tpdu.specs.declared.report.ReportData.{ReportData}
+use Rattle.sms_tpdu.specs.declared.report.parts.ReportData.{ReportData}
 use Rattle.sms_tpdu.specs.declared.fault.UnitFault.TheVariants.{Short}
 
 indicated_lawful : IsLawful Short indicated_parts

@@ -1,102 +1,75 @@
--- The parts of a report are a lawful field, and what is written is read back.
-use Rattle.std.proofs.Common.{◌≡◌, ℕ, ◌<◌, ◌≤◌, leb, List, [], ◌∷◌, Option, Some, None, is_some, Ok, refl, lit<}
-use Rattle.std.specs.Prelude.{IfSome}
-use Rattle.std.proofs.lemmas.Bool.{le-leb}
+-- A report is a lawful field, and what is written is read back.
+use Rattle.std.proofs.Common.{ℕ, List, [], ◌∷◌, refl}
 use Rattle.sms_text.specs.Octets.{IsOctets}
-use Rattle.sms_field.specs.Field.{octet, IsSelfContained, IsLawful}
-use Rattle.sms_field.specs.declared.coding.Alphabet.{Alphabet}
-use Rattle.sms_field.specs.declared.coding.Alphabet.TheVariants.{Gsm7, EightBit, Ucs2, Compressed}
-use Rattle.sms_field.specs.ChainLaws.{chain_lawful, chain_self_contained}
-use Rattle.sms_field.specs.OctetLists.{octets-append}
-use Rattle.sms_field.specs.SingleLaws.{always_self, always_lawful, octet_self, octet_lawful, octet_by_self, octet_by_lawful, octets_of_self, octets_of_lawful, apart_else}
-use Rattle.sms_tpdu.specs.UserData.Lengths.{octets_of_length}
-use Rattle.sms_field.specs.ChainReading.{chained, ended}
-use Rattle.sms_field.specs.Optional.{part_if}
-use Rattle.sms_field.specs.OptionalLaws.{part_if_self, part_if_lawful}
-use Rattle.sms_tpdu.specs.Report.{Parts, report_length, report_data, IsReportData, report_data_octets, report_alphabet, parts, indicator_of, AreParts, octet_if_some, data_if_some, parts_octets}
-use Rattle.sms_tpdu.specs.declared.report.indicator.Indicator.{Indicator}
-use Rattle.sms_tpdu.specs.declared.report.ReportData.{ReportData}
-use Rattle.sms_tpdu.specs.declared.fault.UnitFault.{UnitFault}
-use Rattle.sms_tpdu.specs.declared.fault.UnitFault.TheVariants.{Short, DataTooLong}
+use Rattle.sms_field.specs.Field.{IsLawful}
+use Rattle.sms_field.specs.Inside.ChainLaws.{chain_lawful}
+use Rattle.sms_field.specs.Inside.ChainReading.{chained, ended}
+use Rattle.sms_field.specs.Inside.OctetLists.{octets-append}
+use Rattle.sms_field.specs.Inside.SingleLaws.{always_lawful, octet_by_self}
+use Rattle.sms_tpdu.specs.UnitLaws.{AreUnitLaws, laws_by}
+use Rattle.sms_tpdu.specs.Report.Octet.{FirstOctet, on_submission, on_delivery}
+use Rattle.sms_tpdu.specs.Report.OctetLaws.{AreFirstOctetLaws, on_submission_laws, on_delivery_laws}
+use Rattle.sms_tpdu.specs.Report.ParameterIndicator.{indicator_octet}
+use Rattle.sms_tpdu.specs.Report.ParameterIndicatorLaws.{indicator_self, indicator_lawful, indicator_is, indicator_again}
+use Rattle.sms_tpdu.specs.Report.AnnouncedParts.{indicator_of, parts_octets}
+use Rattle.sms_tpdu.specs.Report.AnnouncedPartsLaws.{parts_self, parts_lawful, parts_again, parts_are_octets}
+use Rattle.sms_tpdu.specs.Report.Kind.{KindPart, AreKindPartLaws, no_part, failure_cause, centre_stamp}
+use Rattle.sms_tpdu.specs.Report.KindLaws.{no_part_laws, failure_cause_laws, centre_stamp_laws}
+use Rattle.sms_tpdu.specs.Report.{ReportValue, parts_in, IsReport, report, report_octets, SpellsReport, deliver_ack, deliver_error, submit_ack, submit_error, SpellsDeliverAck, SpellsDeliverError, SpellsSubmitAck, SpellsSubmitError}
+use Rattle.sms_tpdu.specs.declared.fault.UnitFault.TheVariants.{Short}
 
--- ---- data
+module _ {C S : Type 0} (first : FirstOctet) (cause : KindPart C) (stamp : KindPart S) (of_first : AreFirstOctetLaws first) (of_cause : AreKindPartLaws cause) (of_stamp : AreKindPartLaws stamp) where
+  pub report_lawful : IsLawful Short (report first cause stamp)
+  unfolding report
+  report_lawful =
+      chain_lawful _ _ Short (octet_by_self Short first.meaning) of_first.lawful (λ header _ _ _.
+      chain_lawful _ _ Short of_cause.alone of_cause.lawful (λ why _ _ _.
+      chain_lawful _ _ Short indicator_self indicator_lawful (λ there _ _ _.
+      chain_lawful _ _ Short of_stamp.alone of_stamp.lawful (λ time _ _ _.
+      chain_lawful _ _ Short (parts_self there) (parts_lawful there) (λ those _ _ _.
+      always_lawful Short _)))))
 
-any_length : (alphabet : Alphabet) → report_length alphabet 0 ≡ Ok 0
-any_length Gsm7 = refl
-any_length EightBit = refl
-any_length Ucs2 = refl
-any_length Compressed = refl
+  -- ---- what is written
 
-report_data_self : (alphabet : Alphabet) → IsSelfContained (report_data alphabet)
-unfolding report_data
-report_data_self alphabet =
-    chain_self_contained _ _ (octet_by_self Short (report_length alphabet)) (λ count.
-    chain_self_contained _ _ (octets_of_self Short (octets_of_length alphabet count)) (λ octets.
-    always_self UnitFault _))
+  report_again : (r : ReportValue C S) (rest : List ℕ) → IsReport cause stamp r → (report first cause stamp).reads r (report_octets first cause stamp r) rest
+  unfolding report
+  report_again r rest fits =
+      let there = indicator_of (parts_in r) in
+      chained _ _ r.has_header r (first.octet r.has_header ∷ []) _ rest (first.octet r.has_header, refl, (of_first.again r.has_header).again) (
+      chained _ _ r.cause r (cause.octets r.cause) _ rest (of_cause.again r.cause _ fits.cause) (
+      chained _ _ there r (indicator_octet there ∷ []) _ rest (indicator_again there _) (
+      chained _ _ r.stamp r (stamp.octets r.stamp) _ rest (of_stamp.again r.stamp _ fits.stamp) (
+      ended _ _ (parts_in r) r (parts_octets (parts_in r)) rest (parts_again (parts_in r) rest fits.parts)
+      (refl, refl)))))
 
-report_data_lawful : (alphabet : Alphabet) → IsLawful Short (report_data alphabet)
-unfolding report_data
-report_data_lawful alphabet =
-    chain_lawful _ _ Short (octet_by_self Short (report_length alphabet)) (octet_by_lawful Short (report_length alphabet) (0, lit< tt, 0, any_length alphabet) (λ o. apart_else Short (leb (octets_of_length alphabet o) 159) o DataTooLong (λ e. cc))) (λ count _ _ _.
-    chain_lawful _ _ Short (octets_of_self Short (octets_of_length alphabet count)) (octets_of_lawful Short (octets_of_length alphabet count)) (λ octets _ _ _.
-    always_lawful Short _))
+  report_is_octets : (r : ReportValue C S) → IsReport cause stamp r → IsOctets (report_octets first cause stamp r)
+  report_is_octets r fits = ((of_first.again r.has_header).small, octets-append (cause.octets r.cause) _ (of_cause.octets r.cause fits.cause) ((indicator_is (indicator_of (parts_in r))).small, octets-append (stamp.octets r.stamp) _ (of_stamp.octets r.stamp fits.stamp) (parts_are_octets (parts_in r) fits.parts)))
 
-few_octets : (alphabet : Alphabet) (count : ℕ) → octets_of_length alphabet count ≤ 159 → report_length alphabet count ≡ Ok count
-few_octets alphabet count h = rw (le-leb (octets_of_length alphabet count) 159 h) refl
+  pub report_laws : AreUnitLaws Short (report first cause stamp) (SpellsReport first cause stamp) (λ _ _. Unit {0})
+  report_laws = laws_by Short (report first cause stamp) (IsReport cause stamp) (report_octets first cause stamp) report_lawful report_is_octets report_again
 
-counted : (alphabet : Alphabet) (user : ReportData) → IsReportData alphabet user → octets_of_length alphabet user.length ≤ 159
-counted alphabet user fits = rw fits.counted at fits.few
+-- ---- the four
 
-report_data_again : (alphabet : Alphabet) (user : ReportData) (rest : List ℕ) → IsReportData alphabet user → (report_data alphabet).reads user (report_data_octets user) rest
-unfolding report_data
-report_data_again alphabet user rest fits =
-    chained _ _ user.length user (user.length ∷ []) user.octets rest (user.length, refl, few_octets alphabet user.length (counted alphabet user fits)) (
-    ended _ _ user.octets user user.octets rest (refl, fits.counted)
-    (refl, refl))
+pub deliver_ack_laws : AreUnitLaws Short deliver_ack SpellsDeliverAck (λ _ _. Unit {0})
+deliver_ack_laws = report_laws on_delivery no_part no_part on_delivery_laws no_part_laws no_part_laws
 
--- ---- parts that are there or not
+pub deliver_ack_lawful : IsLawful Short deliver_ack
+deliver_ack_lawful = deliver_ack_laws.lawful
 
-octet_again : (value : Option ℕ) (rest : List ℕ) → (part_if (is_some value) (octet Short)).reads value (octet_if_some value) rest
-octet_again None rest = (refl, refl)
-octet_again (Some value) rest = ended _ _ value (Some value) (value ∷ []) rest refl (refl, refl)
+pub deliver_error_laws : AreUnitLaws Short deliver_error SpellsDeliverError (λ _ _. Unit {0})
+deliver_error_laws = report_laws on_delivery failure_cause no_part on_delivery_laws failure_cause_laws no_part_laws
 
-data_again : (alphabet : Alphabet) (user : Option ReportData) (rest : List ℕ) → IfSome user (IsReportData alphabet) → (part_if (is_some user) (report_data alphabet)).reads user (data_if_some user) rest
-data_again alphabet None rest fits = (refl, refl)
-data_again alphabet (Some user) rest fits = ended _ _ user (Some user) (report_data_octets user) rest (report_data_again alphabet user rest fits) (refl, refl)
+pub deliver_error_lawful : IsLawful Short deliver_error
+deliver_error_lawful = deliver_error_laws.lawful
 
--- ---- all parts
+pub submit_ack_laws : AreUnitLaws Short submit_ack SpellsSubmitAck (λ _ _. Unit {0})
+submit_ack_laws = report_laws on_submission no_part centre_stamp on_submission_laws no_part_laws centre_stamp_laws
 
-pub parts_self : (there : Indicator) → IsSelfContained (parts there)
-unfolding parts
-parts_self there =
-    chain_self_contained _ _ (part_if_self there.pid (octet Short) (octet_self Short)) (λ pid.
-    chain_self_contained _ _ (part_if_self there.dcs (octet Short) (octet_self Short)) (λ dcs.
-    chain_self_contained _ _ (part_if_self there.user (report_data (report_alphabet dcs)) (report_data_self (report_alphabet dcs))) (λ user.
-    always_self UnitFault _)))
+pub submit_ack_lawful : IsLawful Short submit_ack
+submit_ack_lawful = submit_ack_laws.lawful
 
-pub parts_lawful : (there : Indicator) → IsLawful Short (parts there)
-unfolding parts
-parts_lawful there =
-    chain_lawful _ _ Short (part_if_self there.pid (octet Short) (octet_self Short)) (part_if_lawful Short there.pid (octet Short) (octet_self Short) (octet_lawful Short)) (λ pid _ _ _.
-    chain_lawful _ _ Short (part_if_self there.dcs (octet Short) (octet_self Short)) (part_if_lawful Short there.dcs (octet Short) (octet_self Short) (octet_lawful Short)) (λ dcs _ _ _.
-    chain_lawful _ _ Short (part_if_self there.user (report_data (report_alphabet dcs)) (report_data_self (report_alphabet dcs))) (part_if_lawful Short there.user (report_data (report_alphabet dcs)) (report_data_self (report_alphabet dcs)) (report_data_lawful (report_alphabet dcs))) (λ user _ _ _.
-    always_lawful Short _)))
+pub submit_error_laws : AreUnitLaws Short submit_error SpellsSubmitError (λ _ _. Unit {0})
+submit_error_laws = report_laws on_submission failure_cause centre_stamp on_submission_laws failure_cause_laws centre_stamp_laws
 
-pub parts_again : (those : Parts) (rest : List ℕ) → AreParts those → (parts (indicator_of those)).reads those (parts_octets those) rest
-unfolding parts
-parts_again those rest fits =
-    chained _ _ those.pid those (octet_if_some those.pid) _ rest (octet_again those.pid _) (
-    chained _ _ those.dcs those (octet_if_some those.dcs) _ rest (octet_again those.dcs _) (
-    ended _ _ those.user those (data_if_some those.user) rest (data_again (report_alphabet those.dcs) those.user rest fits.user)
-    (refl, refl)))
-
-octet_is : (value : Option ℕ) → IfSome value (λ n. n < 256) → IsOctets (octet_if_some value)
-octet_is None small = tt
-octet_is (Some n) small = (small, tt)
-
-data_are : (alphabet : Alphabet) (user : Option ReportData) → IfSome user (IsReportData alphabet) → IsOctets (data_if_some user)
-data_are alphabet None fits = tt
-data_are alphabet (Some user) fits = (fits.small, fits.octets)
-
-pub parts_are_octets : (those : Parts) → AreParts those → IsOctets (parts_octets those)
-parts_are_octets those fits = octets-append (octet_if_some those.pid) _ (octet_is those.pid fits.pid) (octets-append (octet_if_some those.dcs) _ (octet_is those.dcs fits.dcs) (data_are (report_alphabet those.dcs) those.user fits.user))
+pub submit_error_lawful : IsLawful Short submit_error
+submit_error_lawful = submit_error_laws.lawful

@@ -19,3 +19,17 @@ submit_report_octet header = weight 0 true + weight 6 header
 
 abbrev pub deliver_report_octet : Bool → ℕ
 deliver_report_octet header = weight 6 header
+
+-- ---- by what the report is on
+
+pub record FirstOctet : Type 0 where
+  -- what an octet says
+  pub meaning : ℕ → Result Bool UnitFault
+  -- how it is written
+  pub octet : Bool → ℕ
+
+abbrev pub on_submission : FirstOctet
+on_submission = record { meaning = submit_report; octet = submit_report_octet }
+
+abbrev pub on_delivery : FirstOctet
+on_delivery = record { meaning = deliver_report; octet = deliver_report_octet }

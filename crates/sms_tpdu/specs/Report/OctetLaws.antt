@@ -1,8 +1,8 @@
 -- The first octet of a report is a lawful field, and what is written is read back.
 use Rattle.std.proofs.Common.{◌≡◌, ℕ, ◌<◌, Bool, true, false, Result, Ok, refl, lit<}
 use Rattle.sms_field.specs.Field.{octet_by, IsLawful}
-use Rattle.sms_field.specs.SingleLaws.{octet_by_lawful, apart_then}
-use Rattle.sms_tpdu.specs.Report.Octet.{submit_report, deliver_report, submit_report_octet, deliver_report_octet}
+use Rattle.sms_field.specs.Inside.SingleLaws.{octet_by_lawful, apart_then}
+use Rattle.sms_tpdu.specs.Report.Octet.{submit_report, deliver_report, submit_report_octet, deliver_report_octet, FirstOctet, on_submission, on_delivery}
 use Rattle.sms_tpdu.specs.declared.fault.UnitFault.{UnitFault}
 use Rattle.sms_tpdu.specs.declared.fault.UnitFault.TheVariants.{Short, WrongType}
 
@@ -25,3 +25,15 @@ submit_report_again false = record { again = refl; small = lit< tt }
 pub deliver_report_again : (header : Bool) → IsReportOctet deliver_report header (deliver_report_octet header)
 deliver_report_again true = record { again = refl; small = lit< tt }
 deliver_report_again false = record { again = refl; small = lit< tt }
+
+-- ---- by what the report is on
+
+pub record AreFirstOctetLaws (first : FirstOctet) : Type 0 where
+  pub lawful : IsLawful Short (octet_by Short first.meaning)
+  pub again : (header : Bool) → IsReportOctet first.meaning header (first.octet header)
+
+pub on_submission_laws : AreFirstOctetLaws on_submission
+on_submission_laws = record { lawful = submit_report_lawful; again = submit_report_again }
+
+pub on_delivery_laws : AreFirstOctetLaws on_delivery
+on_delivery_laws = record { lawful = deliver_report_lawful; again = deliver_report_again }

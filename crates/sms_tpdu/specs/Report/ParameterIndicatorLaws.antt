@@ -2,12 +2,12 @@
 use Rattle.std.proofs.Common.{◌≡◌, ℕ, ◌+◌, ◌<◌, Bool, true, false, List, [], ◌∷◌, ◌++◌, refl, sym, ap, subst, ◌∙◌, arith, inl, inr, lit<}
 use Rattle.sms_text.specs.Octets.{IsOctets}
 use Rattle.sms_field.specs.Bit.{bit}
-use Rattle.sms_field.specs.BitLaws.{summed_bits}
+use Rattle.sms_field.specs.Inside.BitLaws.{summed_bits}
 use Rattle.sms_field.specs.Field.{Outcome, found, refused, HasReading, CanContinue, IsAnswer, IsSelfContained, IsLawful}
-use Rattle.sms_field.specs.ChainLaws.{chain_lawful, chain_self_contained}
-use Rattle.sms_field.specs.SingleLaws.{always_self, always_lawful, octet_self, octet_lawful}
+use Rattle.sms_field.specs.Inside.ChainLaws.{chain_lawful, chain_self_contained}
+use Rattle.sms_field.specs.Inside.SingleLaws.{always_self, always_lawful, octet_self, octet_lawful}
 use Rattle.sms_tpdu.specs.Report.ParameterIndicator.{AreFurther, further_at, further, indicated, indicator, indicator_octet}
-use Rattle.sms_field.specs.ChainReading.{chained, ended}
+use Rattle.sms_field.specs.Inside.ChainReading.{chained, ended}
 use Rattle.sms_tpdu.specs.declared.report.indicator.Indicator.{Indicator}
 use Rattle.sms_tpdu.specs.declared.fault.UnitFault.{UnitFault}
 use Rattle.sms_tpdu.specs.declared.fault.UnitFault.TheVariants.{Short}

@@ -1,7 +1,7 @@
 -- Where the parts of an SMS-STATUS-REPORT lie in its octets (3GPP TS 23.040, 9.2.2.3).
 use Rattle.std.specs.Prelude.{◌≡◌, ℕ, List}
 use Rattle.sms_field.specs.Address.{address}
-use Rattle.sms_field.specs.Lies.{LiesAt}
+use Rattle.sms_field.specs.Reading.Lies.{LiesAt}
 use Rattle.sms_tpdu.specs.DataSpans.{DataLieIf}
 use Rattle.sms_tpdu.specs.StatusReport.{StatusReportValue}
 use Rattle.sms_tpdu.specs.declared.status_report.spans.StatusReportSpans.{StatusReportSpans}

@@ -1,7 +1,7 @@
 -- An SMS-SUBMIT in two parts (3GPP TS 23.040, 9.2.2.2): what stands before its user data, and
 -- these.
 use Rattle.std.specs.Prelude.{ℕ, ◌<◌, Bool}
-use Rattle.sms_field.specs.AddressValue.{AddressValue, HasSpelling}
+use Rattle.sms_field.specs.Address.Value.{AddressValue, HasSpelling}
 use Rattle.sms_field.specs.declared.validity.Validity.{Validity}
 use Rattle.sms_tpdu.specs.Submit.{Submission}
 use Rattle.sms_tpdu.specs.Submit.ValidityPeriod.{format_of, IsInRange}

@@ -1,7 +1,7 @@
 -- Where the parts of an SMS-SUBMIT lie in its octets (3GPP TS 23.040, 9.2.2.2).
 use Rattle.std.specs.Prelude.{◌≡◌, ℕ, ◌+◌, List, length}
 use Rattle.sms_field.specs.Address.{address}
-use Rattle.sms_field.specs.Lies.{LiesAt}
+use Rattle.sms_field.specs.Reading.Lies.{LiesAt}
 use Rattle.sms_tpdu.specs.Submit.{Submission}
 use Rattle.sms_tpdu.specs.Submit.ValidityPeriod.{validity_octets}
 use Rattle.sms_tpdu.specs.UserData.Spans.{UserLies}

@@ -1,7 +1,7 @@
 -- The validity period of a submission, TP-VP, in one of four formats (3GPP TS 23.040, 9.2.3.12).
 use Rattle.std.specs.Prelude.{ℕ, ◌<◌, List, [], ◌∷◌, Bool, true, false}
 use Rattle.sms_field.specs.Field.{Field, ◌>>=◌, always, octet, octets_of}
-use Rattle.sms_field.specs.Stamp.{stamp, IsStamp}
+use Rattle.sms_field.specs.Time.Stamp.{stamp, IsStamp}
 use Rattle.sms_field.specs.declared.validity.Validity.{Validity}
 use Rattle.sms_field.specs.declared.validity.Validity.TheVariants as period
 use Rattle.sms_tpdu.specs.declared.fault.UnitFault.{UnitFault}

@@ -5,7 +5,7 @@ use Rattle.sms_text.specs.Bits.{unpacked}
 use Rattle.sms_field.specs.declared.coding.Alphabet.{Alphabet}
 use Rattle.sms_field.specs.declared.coding.Alphabet.TheVariants.{Gsm7}
 use Rattle.sms_field.specs.declared.span.Span.{Span}
-use Rattle.sms_field.specs.Lies.{octets_at}
+use Rattle.sms_field.specs.Reading.Lies.{octets_at}
 use Rattle.sms_field.specs.Reading.{Reads}
 use Rattle.sms_tpdu.specs.UserData.{header_octets, data_length, user_data}
 use Rattle.sms_tpdu.specs.UserData.Lengths.{octets_of_length, fill_bits}
@@ -42,6 +42,11 @@ abbrev pub body_size : ℕ → Body → ℕ
 body_size taken (body.Septets septets) =
     octets_of_length Gsm7 (data_length taken (body.Septets septets)) - taken
 body_size taken (body.Octets octets) = length octets
+
+-- how many septets or octets it has
+abbrev pub body_count : Body → ℕ
+body_count (body.Septets septets) = length septets
+body_count (body.Octets octets) = length octets
 
 -- the bits before its first septet
 abbrev pub fill_of : ℕ → Body → ℕ

@@ -2,7 +2,7 @@
 
 ghost use Rattle.std.specs.Prelude.{IfOk, IfErr};
 ghost use Rattle.sms_field.specs.Reading.{Reads};
-ghost use Rattle.sms_field.specs.WholeAnswer.{IsFaultOf, SeesExactly};
+ghost use Rattle.sms_field.specs.Reading.WholeAnswer.{IsFaultOf, SeesExactly};
 ghost use Rattle.sms_tpdu.specs.Command.{command};
 ghost use Rattle.sms_tpdu.specs.declared.fault.UnitFault.TheVariants.{Short};
 

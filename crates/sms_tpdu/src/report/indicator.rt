@@ -2,7 +2,7 @@
 
 ghost use Rattle.std.specs.Prelude.{◌≡◌};
 ghost use Rattle.sms_field.specs.Bit.{bit};
-ghost use Rattle.sms_field.specs.Answer.{Sees};
+ghost use Rattle.sms_field.specs.Reading.Answer.{Sees};
 ghost use Rattle.sms_tpdu.specs.Report.ParameterIndicator.{further, indicated, indicator, indicator_octet};
 ghost use Rattle.sms_tpdu.specs.declared.fault.UnitFault.TheVariants.{Short};
 

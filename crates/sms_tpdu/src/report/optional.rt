@@ -1,15 +1,15 @@
 //! An indicator and the parts of a report, or nothing at all.
 
 ghost use Rattle.std.specs.Prelude.{◌≡◌, ◌++◌, IfOk, OnOk};
-ghost use Rattle.sms_field.specs.Answer.{Sees};
-ghost use Rattle.sms_tpdu.specs.Report.{AreParts};
+ghost use Rattle.sms_field.specs.Reading.Answer.{Sees};
+ghost use Rattle.sms_tpdu.specs.Report.AnnouncedParts.{AreParts};
 ghost use Rattle.sms_tpdu.specs.Report.Indicated as formats;
 ghost use Rattle.sms_tpdu.specs.Report.Indicated.{indicated_parts, optional_parts_octets};
 
 use crate::fault::UnitFault;
 use crate::report::indicator::{Indicator, indicator_at};
-use crate::report::parts::PartsView;
-use crate::report::{ReportData, indicator_of, put_parts};
+use crate::report::parts::{PartsView, ReportData};
+use crate::report::writing::{indicator_of, put_parts};
 use sms_field::{Cursor, Fault};
 use std::alloc::AllocError;
 

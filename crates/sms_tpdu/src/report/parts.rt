@@ -1,14 +1,13 @@
 //! The data of a report and the parts that are not always there, where they lie.
 
 ghost use Rattle.std.specs.Prelude.{◌≡◌, ◌≤◌, length, None, IfOk, IsOk, IfSome};
-ghost use Rattle.sms_field.specs.Answer.{Sees};
+ghost use Rattle.sms_field.specs.Reading.Answer.{Sees};
 ghost use Rattle.sms_tpdu.specs.UserData.Lengths as lengths;
-ghost use Rattle.sms_tpdu.specs.Report as formats;
-ghost use Rattle.sms_field.specs.Optional.{part_if};
-ghost use Rattle.sms_tpdu.specs.Report.{report_data, IsReportData, AreParts};
+ghost use Rattle.sms_tpdu.specs.Report.AnnouncedParts as formats;
+ghost use Rattle.sms_field.specs.Field.Optional.{part_if};
+ghost use Rattle.sms_tpdu.specs.Report.AnnouncedParts.{report_data, IsReportData, AreParts};
 
 use crate::fault::UnitFault;
-use crate::report::ReportData;
 use crate::report::indicator::Indicator;
 use crate::user_data::lengths::octets_of_length;
 use sms_field::{Alphabet, Cursor, Fault, Octets, alphabet_of};
@@ -17,6 +16,15 @@ use std::marker::Model;
 
 /// The most octets of a report's data.
 const DATA_MAX: usize = 159;
+
+/// The data of a report: their length as the data coding scheme counts it, and their octets.
+#[derive(Drop)]
+pub struct ReportData {
+    /// TP-UDL: septets under the 7-bit alphabet, else octets.
+    pub length: u8,
+    /// TP-UD: the octets as they came, at most 159.
+    pub octets: Octets,
+}
 
 /// The data of a report, where they lie. Contracts see them as the data.
 #[derive(Drop)]
@@ -28,7 +36,7 @@ pub struct ReportDataView<'a> {
 }
 
 impl<'a> Model for ReportDataView<'a> {
-    ghost use Rattle.sms_tpdu.specs.declared.report.ReportData.{ReportData};
+    ghost use Rattle.sms_tpdu.specs.declared.report.parts.ReportData.{ReportData};
 
     ghost Value = { ReportData };
 
@@ -47,7 +55,7 @@ pub struct PartsView<'a> {
 }
 
 impl<'a> Model for PartsView<'a> {
-    ghost use Rattle.sms_tpdu.specs.Report.{Parts};
+    ghost use Rattle.sms_tpdu.specs.Report.AnnouncedParts.{Parts};
 
     ghost Value = { Parts };
 
@@ -89,7 +97,7 @@ fn data_seen<'a>(alphabet: Alphabet, count: u8, octets: &'a [u8]) -> ReportDataV
 }
 
 /// The data of a report.
-#[tactic(auto, unfolding(crate::specs::Report::report_data))]
+#[tactic(auto, unfolding(crate::specs::Report::AnnouncedParts::report_data))]
 fn report_data_seen_at<'a>(
     input: &mut Cursor<'a>,
     alphabet: Alphabet,
@@ -121,7 +129,7 @@ fn report_data_seen_if<'a>(
 
 impl<'a> PartsView<'a> {
     /// Sees the parts of a report that are there at a cursor.
-    #[tactic(auto, unfolding(crate::specs::Report::parts))]
+    #[tactic(auto, unfolding(crate::specs::Report::AnnouncedParts::parts))]
     pub fn read_at(
         input: &mut Cursor<'a>,
         there: Indicator,

@@ -2,8 +2,8 @@
 
 ghost use Rattle.std.specs.Prelude.{◌≡◌, ◌++◌, OnOk, IfOk};
 ghost use Rattle.sms_field.specs.Field.{octets_of};
-ghost use Rattle.sms_field.specs.Answer.{Sees};
-ghost use Rattle.sms_field.specs.Stamp.{IsStamp};
+ghost use Rattle.sms_field.specs.Reading.Answer.{Sees};
+ghost use Rattle.sms_field.specs.Time.Stamp.{IsStamp};
 ghost use Rattle.sms_tpdu.specs.declared.fault.UnitFault.TheVariants.{Short};
 ghost use Rattle.sms_tpdu.specs.Submit.ValidityPeriod as formats;
 ghost use Rattle.sms_tpdu.specs.Submit.ValidityPeriod.{validity, format_of, validity_octets, IsInRange};

@@ -124,7 +124,7 @@ pub(crate) fn put_element(out: &mut Vec<u8>, concat: Concat) -> Result<(), Alloc
 /// The length octet and the octets; a length above 139 is `UnitFault::HeaderTooLong`.
 impl Unit for Header {
     ghost use Rattle.sms_tpdu.specs.UserData.Header.{header, SpellsHeader};
-    ghost use Rattle.sms_tpdu.specs.UserData.HeaderLaws.{header_laws};
+    ghost use Rattle.sms_tpdu.specs.Inside.HeaderLaws.{header_laws};
 
     type Why = UnitFault;
 

@@ -1,18 +1,20 @@
 //! User data seen in a unit's octets: a header, and septets or octets.
 
-ghost use Rattle.std.specs.Prelude.{true, false, ◌≡◌, ◌+◌, ◌-◌, ◌≤◌, length, Some, None, IfOk, option_map};
-ghost use Rattle.sms_field.specs.Answer.{Sees};
+ghost use Rattle.std.specs.Prelude.{true, false, ◌≡◌, ◌+◌, ◌-◌, ◌≤◌, ℕ, List, length, Some, None, IfOk, option_map};
+ghost use Rattle.sms_field.specs.Reading.Answer.{Sees};
 ghost use Rattle.sms_tpdu.specs.UserData as formats;
-ghost use Rattle.sms_tpdu.specs.UserData.{FitsAlphabet, header_octets, user_data, length_in};
+ghost use Rattle.sms_tpdu.specs.UserData.{FitsAlphabet, header_octets, body_of, user_data, length_in};
 ghost use Rattle.sms_tpdu.specs.UserData.Lengths as lengths;
+ghost use Rattle.sms_tpdu.specs.UserData.ConcatenationFound.{IsPlace, concat_of_header};
 ghost use Rattle.sms_tpdu.specs.UserData.Seen.{user_data_in};
-ghost use Rattle.sms_tpdu.specs.UserData.Spans.{span_of, spans_before};
+ghost use Rattle.sms_tpdu.specs.UserData.Spans.{body_count, fill_of, span_of, spans_before};
 
 pub mod body;
 pub mod header;
 
 use crate::fault::UnitFault;
 use crate::user_data::UserData;
+use crate::user_data::concat::Concat;
 use crate::user_data::lengths::{fill_bits, greatest_length, length_of_header, octets_of_length};
 use crate::user_data::spans::UserSpans;
 use crate::user_data::view::body::{BodyView, SeptetsView, body_from};
@@ -29,6 +31,10 @@ pub struct UserDataView<'a> {
     alphabet: Alphabet,
     /// Septets under the 7-bit alphabet, else octets; those of the header too.
     count: u8,
+    /// The bits before the first septet.
+    fill: u8,
+    /// Septets or octets after the header.
+    left: u8,
     /// After the header.
     octets: &'a [u8],
 }
@@ -41,7 +47,7 @@ impl<'a> Model for UserDataView<'a> {
 
     ghost view = { λ u. user_data_in u.header u.alphabet u.count u.octets.now };
 
-    ghost invariant = { λ u. IsUserDataIn u.header u.alphabet u.count u.octets.now };
+    ghost invariant = { λ u. IsUserDataIn u.header u.alphabet u.count u.octets.now u.fill u.left };
 }
 
 /// User data without a header, of a length.
@@ -55,6 +61,8 @@ fn body_seen<'a>(alphabet: Alphabet, count: u8, octets: &'a [u8]) -> UserDataVie
         header: None,
         alphabet,
         count,
+        fill: 0,
+        left: count,
         octets,
     }
 }
@@ -73,11 +81,27 @@ fn header_and_body_seen<'a>(
     ensures is { result ≡ user_data_in (Some header.now) alphabet count octets.now }
     ensures fits { FitsAlphabet alphabet result }
 {
+    let taken = header.len() + 1;
     UserDataView {
         header: Some(HeaderView::new(header)),
         alphabet,
         count,
+        fill: fill_after(alphabet, taken),
+        left: (usize::from(count) - length_of_header(alphabet, taken)) as u8,
         octets,
+    }
+}
+
+/// The bits between the octets of a header and the first septet; 0 where octets follow.
+#[inline(always)]
+fn fill_after(alphabet: Alphabet, octets: usize) -> u8
+    requires { octets ≤ 256 }
+    ensures { (count : ℕ) (body : List ℕ)
+        → result ≡ fill_of octets (body_of alphabet octets count body) }
+{
+    match alphabet {
+        Alphabet::Gsm7 => fill_bits(octets),
+        _ => 0,
     }
 }
 
@@ -204,22 +228,36 @@ impl<'a> UserDataView<'a> {
         &self.header
     }
 
+    /// The place of a segment that the header tells, if there is one and it tells one.
+    pub fn concat(&self) -> Option<Concat>
+        ensures value { result ≡ concat_of_header self.now.header }
+        ensures in_range { IsPlace result }
+    {
+        match &self.header {
+            Some(header) => header.concat(),
+            None => None,
+        }
+    }
+
     /// The body where it lies.
     pub fn body(&self) -> BodyView<'a>
         ensures { seen_body result ≡ self.now.body }
     {
         match self.alphabet {
-            Alphabet::Gsm7 => {
-                let taken = self.taken();
-                BodyView::Septets(SeptetsView {
-                    octets: self.octets,
-                    fill: fill_bits(taken),
-                    count: (usize::from(self.count)
-                        - length_of_header(Alphabet::Gsm7, taken)) as u8,
-                })
-            }
+            Alphabet::Gsm7 => BodyView::Septets(SeptetsView {
+                octets: self.octets,
+                fill: self.fill,
+                count: self.left,
+            }),
             _ => BodyView::Octets(self.octets),
         }
+    }
+
+    /// How many septets or octets the body has.
+    pub fn body_count(&self) -> u8
+        ensures { result ≡ body_count self.now.body }
+    {
+        self.left
     }
 
     /// Where header and body lie in the octets of which these user data were read, which end before
@@ -229,14 +267,10 @@ impl<'a> UserDataView<'a> {
     {
         let length = self.octets.len();
         let offset = end.saturating_sub(length);
-        let fill = match self.alphabet {
-            Alphabet::Gsm7 => fill_bits(self.taken()),
-            _ => 0,
-        };
         UserSpans {
             header: header_span(&self.header, offset),
             body: Span { offset, length },
-            fill,
+            fill: self.fill,
         }
     }
 }

@@ -1,7 +1,7 @@
 -- The open sets of each phone are those of its open texts, one each, with just the text's taken
 -- segments. Lists have the newest entry first.
 use Rattle.std.specs.Prelude.{◌≡◌, ℕ, List}
-use Rattle.sms_field.specs.AddressValue.{AddressValue}
+use Rattle.sms_field.specs.Address.Value.{AddressValue}
 use Rattle.sms_join.specs.Arrivals.{open_pieces, OpenApart}
 use Rattle.sms_world.specs.Told.{Told}
 use Rattle.sms_script.specs.declared.script.limits.Limits.{Limits}

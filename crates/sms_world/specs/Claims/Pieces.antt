@@ -3,18 +3,16 @@
 -- one stamp. Lists have the newest entry first.
 use Rattle.std.specs.Prelude.{◌≡◌, ℕ, ◌<◌, ◌≤◌, Bool, false, List, [], ◌∷◌, length, Option, Some, None}
 use Rattle.std.specs.List.{AllByRecursion}
-use Rattle.sms_field.specs.AddressValue.{AddressValue}
+use Rattle.sms_field.specs.Address.Value.{AddressValue}
 use Rattle.sms_tpdu.specs.Submit.{Submission}
 use Rattle.sms_tpdu.specs.Deliver.{Delivery}
 use Rattle.sms_join.specs.UnitsOfText.{IsText}
 use Rattle.sms_join.specs.Cut.{IsCut}
-use Rattle.sms_message.specs.declared.message.TransferUnit.{TransferUnit}
-use Rattle.sms_message.specs.declared.message.TransferUnit.TheVariants.{Submit, Deliver, OtherUnit, BadUnit}
-use Rattle.sms_message.specs.declared.message.Relay.{Relay}
-use Rattle.sms_message.specs.declared.message.Relay.TheVariants.{Transfer, Answer, UnknownType, Unreadable}
+use Rattle.sms_message.specs.declared.message.TransferUnit.TheVariants.{Submit, Deliver}
+use Rattle.sms_message.specs.declared.message.Relay.TheVariants.{Transfer, Answer}
 use Rattle.sms_message.specs.declared.message.Message.{Message}
-use Rattle.sms_message.specs.declared.message.Message.TheVariants.{NotCp, Note, Tiny, Data}
-use Rattle.sms_field.specs.Times.{stamp_octets}
+use Rattle.sms_message.specs.declared.message.Message.TheVariants.{Note, Data}
+use Rattle.sms_field.specs.Time.Computed.{stamp_octets}
 use Rattle.sms_message.specs.Address.{phone_at, address_of}
 use Rattle.sms_message.specs.Message.{Origin}
 use Rattle.sms_centre.specs.Centre.State.{Acceptance, CentreState}
@@ -74,44 +72,21 @@ abbrev pub IsTyped : List AddressValue → List Text → List Acceptance → Acc
 IsTyped phones texts accepted a =
     (o : Origin) × (a.origin ≡ Some o) × AcceptanceOf phones texts accepted a o
 
-abbrev pub SubmitOf : List Text → Submission → Place → Option Origin → Type 0
-SubmitOf texts s (Centre phone) (Some o) = SubmissionOf texts phone s o
-SubmitOf texts s (Centre phone) None = ⊥
-SubmitOf texts s (Phone phone) origin = ⊥
-
-abbrev pub DeliverOf : List AddressValue → List Text → List Acceptance → Delivery → Place
+-- The message has its piece: a submission or a delivery is of a segment of a typed text, and has
+-- that text's piece. A CP-ACK, a CP-ERROR and an answer have none, and no other message is put out.
+abbrev pub HasItsPiece : List AddressValue → List Text → List Acceptance → Message → Place
     → Option Origin → Type 0
-DeliverOf phones texts accepted d (Phone phone) (Some o) =
+HasItsPiece phones texts accepted (Note flag value) to origin = Unit {0}
+HasItsPiece phones texts accepted (Data _ _ (Answer side cause report)) to origin = Unit {0}
+HasItsPiece phones texts accepted (Data _ _ (Transfer _ (Submit s))) (Centre phone) (Some o) =
+    SubmissionOf texts phone s o
+HasItsPiece phones texts accepted (Data _ _ (Transfer _ (Deliver d))) (Phone phone) (Some o) =
     DeliveryOf phones texts accepted phone d o
-DeliverOf phones texts accepted d (Phone phone) None = ⊥
-DeliverOf phones texts accepted d (Centre phone) origin = ⊥
+HasItsPiece phones texts accepted _ to origin = ⊥
 
-abbrev pub UnitOf : List AddressValue → List Text → List Acceptance → TransferUnit → Place
-    → Option Origin → Type 0
-UnitOf phones texts accepted (Submit s) to origin = SubmitOf texts s to origin
-UnitOf phones texts accepted (Deliver d) to origin = DeliverOf phones texts accepted d to origin
-UnitOf phones texts accepted OtherUnit to origin = ⊥
-UnitOf phones texts accepted BadUnit to origin = ⊥
-
-abbrev pub RelayOf : List AddressValue → List Text → List Acceptance → Relay → Place → Option Origin
-    → Type 0
-RelayOf phones texts accepted (Transfer side unit) to origin =
-    UnitOf phones texts accepted unit to origin
-RelayOf phones texts accepted (Answer side cause report) to origin = Unit {0}
-RelayOf phones texts accepted UnknownType to origin = ⊥
-RelayOf phones texts accepted Unreadable to origin = ⊥
-
-abbrev pub MessageOf : List AddressValue → List Text → List Acceptance → Message → Place
-    → Option Origin → Type 0
-MessageOf phones texts accepted NotCp to origin = ⊥
-MessageOf phones texts accepted (Note flag value) to origin = Unit {0}
-MessageOf phones texts accepted (Tiny flag value) to origin = ⊥
-MessageOf phones texts accepted (Data flag tag relay) to origin =
-    RelayOf phones texts accepted relay to origin
-
--- a submission or delivery is of a segment of a typed text, and has that text's piece
+-- what was put out has its piece
 abbrev pub IsSentOf : List AddressValue → List Text → List Acceptance → Sent → Type 0
-IsSentOf phones texts accepted x = MessageOf phones texts accepted x.message x.to x.origin
+IsSentOf phones texts accepted x = HasItsPiece phones texts accepted x.message x.to x.origin
 
 abbrev pub IsPending : List Text → ℕ → ℕ → Type 0
 IsPending texts phone n =

@@ -1,7 +1,7 @@
 -- The keys that a phone remembers are those of the last texts that finished there. Lists have the
 -- newest entry first.
 use Rattle.std.specs.Prelude.{◌≡◌, ℕ, List, map, take}
-use Rattle.sms_field.specs.AddressValue.{AddressValue}
+use Rattle.sms_field.specs.Address.Value.{AddressValue}
 use Rattle.sms_world.specs.Told.{Told}
 use Rattle.sms_script.specs.declared.script.limits.Limits.{Limits}
 use Rattle.sms_world.specs.Machine.{Machine, start}

@@ -1,7 +1,7 @@
 -- What is promised of one run: these events came, each with its answer, the newest first, and led
 -- from the first state of these limits and phones to m, for which the world stands.
 use Rattle.std.specs.Prelude.{◌≡◌, ℕ, ◌<◌, List, [], ◌∷◌, length}
-use Rattle.sms_field.specs.AddressValue.{AddressValue}
+use Rattle.sms_field.specs.Address.Value.{AddressValue}
 use Rattle.sms_party.specs.Sent.{Sent}
 use Rattle.sms_script.specs.declared.script.limits.Limits.{Limits}
 use Rattle.sms_world.specs.Told.{Told}

@@ -1,7 +1,7 @@
 -- The centre accepts each segment at most once. The list of acceptances has the newest first.
 use Rattle.std.specs.Prelude.{◌≡◌, ◌≢◌, List, ◌∷◌, ◌++◌, Some}
 use Rattle.std.specs.List.{Contains}
-use Rattle.sms_field.specs.AddressValue.{AddressValue}
+use Rattle.sms_field.specs.Address.Value.{AddressValue}
 use Rattle.sms_message.specs.Message.{Origin}
 use Rattle.sms_centre.specs.Centre.State.{Acceptance}
 use Rattle.sms_world.specs.Told.{Told}

@@ -1,8 +1,7 @@
 -- What becomes of a delivery that comes to a phone.
 use Rattle.std.specs.Prelude.{◌≡◌, ◌≢◌, ◌⊎◌, ℕ, ◌<◌, ◌≤◌, Bool, true, false, List, [], length, Option, Some, Ok}
-use Rattle.sms_field.specs.AddressValue.{AddressValue}
+use Rattle.sms_field.specs.Address.Value.{AddressValue}
 use Rattle.sms_tpdu.specs.Deliver.{Delivery}
-use Rattle.sms_join.specs.Arrivals.{is_listed, open_texts}
 use Rattle.sms_message.specs.declared.outcome.Outcome.TheVariants.{Refused, Finished, Kept, Repeat}
 use Rattle.sms_relay.specs.declared.side.Side.TheVariants.{FromPhone}
 use Rattle.sms_message.specs.Message.{Origin}
@@ -17,8 +16,8 @@ use Rattle.sms_world.specs.Machine.Next.{to_centre}
 use Rattle.sms_world.specs.Machine.Step.{no_memory, Step}
 use Rattle.sms_world.specs.Texts.{size_in}
 use Rattle.sms_world.specs.Texts.TypedTo.{IsTypedTo}
-use Rattle.sms_world.specs.Texts.Taken.{IsTaken}
-use Rattle.sms_world.specs.Texts.Finished.{finished}
+use Rattle.sms_world.specs.Texts.Taken.{IsTaken, open_at}
+use Rattle.sms_world.specs.Texts.Finished.{finished, IsUnfinished}
 use Rattle.sms_world.specs.Orderly.{OrderlyRun, IsOrderly}
 use Rattle.sms_world.specs.Orderly.Brought.{BringsDelivery}
 
@@ -29,6 +28,9 @@ is_taking (Ok Kept) = true
 is_taking (Ok Repeat) = true
 is_taking _ = false
 
+abbrev pub WasTaken : Told → Type 0
+WasTaken told = is_taking told ≡ true
+
 -- The phone answered RP-ERROR with cause 22, memory capacity exceeded (3GPP TS 24.011, 8.2.5.4),
 -- and failure cause D3, memory capacity exceeded (3GPP TS 23.040, 9.2.3.22).
 abbrev pub no_room : Told
@@ -38,17 +40,14 @@ no_room = Ok (Refused 22 (Some 0xD3))
 -- not among them.
 pub record StoreIsFull (m : Machine) (phone : ℕ) (o : Origin) : Type 0 where
   pub full : length (finished m phone) ≡ m.limits.store
-  pub unfinished : is_listed (finished m phone) o.text ≡ false
+  pub unfinished : IsUnfinished m phone o.text
   pub last : (s : ℕ) → 0 < s → s ≤ size_in m.senders.texts o.text → s ≢ o.segment
       → IsTaken m phone o.text s
 
 -- As many texts are open as may be, no segment of this one's text was taken, and it is not the only
 -- one.
 pub record SetsAreFull (m : Machine) (phone : ℕ) (o : Origin) : Type 0 where
-  pub full :
-      length
-      (open_texts (size_in m.senders.texts) (m.receiver phone).taken (m.receiver phone).taken)
-      ≡ m.limits.open_max
+  pub full : length (open_at m phone) ≡ m.limits.open_max
   pub none_taken : (s : ℕ) → ¬ IsTaken m phone o.text s
   pub more : 1 < size_in m.senders.texts o.text
 
@@ -70,7 +69,7 @@ pub record WasRefused (old : Machine) (phone : ℕ) (o : Origin) (tag : Tag) (to
 -- It is taken; or refused where a table is full; or memory runs out, and nothing has changed.
 abbrev pub Received : Machine → ℕ → Origin → Tag → Told → List Sent → Machine → Type 0
 Received old phone o tag told put new =
-    (is_taking told ≡ true)
+    WasTaken told
     ⊎ WasRefused old phone o tag told put new
     ⊎ ((told ≡ no_memory) × (put ≡ []) × (new ≡ old))
 

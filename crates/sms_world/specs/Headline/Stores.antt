@@ -1,6 +1,6 @@
 -- Each phone's store.
 use Rattle.std.specs.Prelude.{◌≡◌, ℕ, List}
-use Rattle.sms_field.specs.AddressValue.{AddressValue}
+use Rattle.sms_field.specs.Address.Value.{AddressValue}
 use Rattle.sms_world.specs.Told.{Told}
 use Rattle.sms_script.specs.declared.script.limits.Limits.{Limits}
 use Rattle.sms_world.specs.Machine.{Machine, start}

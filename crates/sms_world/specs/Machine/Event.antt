@@ -1,7 +1,7 @@
 -- What can happen to the machine.
 use Rattle.std.specs.Prelude.{◌≡◌, ℕ, List}
 use Rattle.sms_text.specs.Octets.{IsOctets}
-use Rattle.sms_field.specs.AddressValue.{AddressValue}
+use Rattle.sms_field.specs.Address.Value.{AddressValue}
 use Rattle.sms_tpdu.specs.declared.user_data.concat.Width.{Width}
 use Rattle.sms_join.specs.declared.units.Units.{Units}
 use Rattle.sms_join.specs.UnitsOfText.{IsText}
@@ -28,23 +28,23 @@ pub data Event : Type 0 where
 -- An event as the machine meets it: a typed text with its cut into segments, octets with the
 -- message as which they are read.
 pub data Act : Type 0 where
-  Composes : (phone : ℕ) → (target : AddressValue) → (characters : List ℕ) → (pieces : List Units)
+  TypesText : (phone : ℕ) → (target : AddressValue) → (characters : List ℕ) → (pieces : List Units)
       → Act
-  Carries : (packet : ℕ) → Act
-  TimesOut : (phone : ℕ) → Act
-  Pushes : (phone : ℕ) → Act
-  Ticks : (seconds : ℕ) → Act
-  Injects : Place → Message → Act
+  MovesPacket : (packet : ℕ) → Act
+  EndsWait : (phone : ℕ) → Act
+  HandsOver : (phone : ℕ) → Act
+  MovesClock : (seconds : ℕ) → Act
+  SlipsIn : Place → Message → Act
 
 -- The event is this act, where texts are cut for concatenation references of this width. (Each
 -- event is just one act.)
-abbrev pub Is : Width → Event → Act → Type 0
-Is width (Compose phone target characters) act =
+abbrev pub IsMetAs : Width → Event → Act → Type 0
+IsMetAs width (Compose phone target characters) act =
     (pieces : List Units) × IsText characters × IsCut width characters pieces
-    × (act ≡ Composes phone target characters pieces)
-Is width (Carry k) act = act ≡ Carries k
-Is width (Timeout phone) act = act ≡ TimesOut phone
-Is width (Push phone) act = act ≡ Pushes phone
-Is width (Tick seconds) act = act ≡ Ticks seconds
-Is width (Inject place octets) act =
-    (message : Message) × IsOctets octets × ReadsAs octets message × (act ≡ Injects place message)
+    × (act ≡ TypesText phone target characters pieces)
+IsMetAs width (Carry k) act = act ≡ MovesPacket k
+IsMetAs width (Timeout phone) act = act ≡ EndsWait phone
+IsMetAs width (Push phone) act = act ≡ HandsOver phone
+IsMetAs width (Tick seconds) act = act ≡ MovesClock seconds
+IsMetAs width (Inject place octets) act =
+    (message : Message) × IsOctets octets × ReadsAs octets message × (act ≡ SlipsIn place message)

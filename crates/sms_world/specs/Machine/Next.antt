@@ -8,7 +8,7 @@ use Rattle.sms_message.specs.declared.message.Message.{Message}
 use Rattle.sms_message.specs.declared.message.Message.TheVariants.{NotCp, Note, Tiny, Data}
 use Rattle.sms_message.specs.declared.outcome.Outcome.TheVariants.{Noted, Ticked}
 use Rattle.sms_message.specs.declared.outcome.Dropped.TheVariants as dropped
-use Rattle.sms_field.specs.Times.{end_of_2099}
+use Rattle.sms_field.specs.Time.Computed.{end_of_2099}
 use Rattle.sms_party.specs.Sent.{nth, Place, Centre, Phone, Sent, Sends, bare}
 use Rattle.sms_message.specs.Does.{Does}
 use Rattle.sms_party.specs.Sender.Texts.{size_of, SenderState}
@@ -25,7 +25,7 @@ use Rattle.sms_script.specs.declared.script.limits.Limits.{Limits}
 use Rattle.sms_world.specs.declared.fault.WorldFault.TheVariants.{NoSuchPacket, NoSuchPhone, ClockEnd, Party}
 use Rattle.sms_world.specs.Told.{Told, of_party}
 use Rattle.sms_world.specs.Machine.{Machine}
-use Rattle.sms_world.specs.Machine.Event.{Act, Composes, Carries, TimesOut, Pushes, Ticks, Injects}
+use Rattle.sms_world.specs.Machine.Event.{Act, TypesText, MovesPacket, EndsWait, HandsOver, MovesClock, SlipsIn}
 
 -- a list that has the newest first, with these entered, the first of them first
 abbrev pub entered : {X : Type 0} → List X → List X → List X
@@ -154,14 +154,14 @@ abbrev pub at_phone : Machine → ℕ → Next → Next
 at_phone m phone does = if nat_lt phone (length m.phones) then does else stays m (Err NoSuchPhone)
 
 unfoldable pub next : Machine → Act → Next
-next m (Composes phone target characters pieces) =
+next m (TypesText phone target characters pieces) =
     at_phone m phone (by_sender m (composes m.senders phone target characters pieces))
-next m (Carries k) = carries m (packet m k)
-next m (TimesOut phone) = at_phone m phone (by_sender m (times_out m.senders phone))
-next m (Pushes phone) =
+next m (MovesPacket k) = carries m (packet m k)
+next m (EndsWait phone) = at_phone m phone (by_sender m (times_out m.senders phone))
+next m (HandsOver phone) =
     at_phone m phone (by_centre m (pushed phone (centre_pushes m.phones m.centre m.clock phone)))
-next m (Ticks seconds) =
+next m (MovesClock seconds) =
     if nat_lt (m.clock + seconds) end_of_2099
     then record { answer = Ok Ticked; put = []; after = ticked m (m.clock + seconds) }
     else stays m (Err ClockEnd)
-next m (Injects place message) = at_phone m (phone_of place) (comes m place message None None)
+next m (SlipsIn place message) = at_phone m (phone_of place) (comes m place message None None)

@@ -7,17 +7,17 @@ use Rattle.sms_world.specs.declared.fault.WorldFault.TheVariants.{Party}
 use Rattle.sms_world.specs.Told.{Told}
 use Rattle.sms_party.specs.Sender.Texts.{width_of}
 use Rattle.sms_world.specs.Machine.{Machine}
-use Rattle.sms_world.specs.Machine.Event.{Event, Act, Composes, Carries, TimesOut, Pushes, Ticks, Injects, Is}
+use Rattle.sms_world.specs.Machine.Event.{Event, Act, TypesText, MovesPacket, EndsWait, HandsOver, MovesClock, SlipsIn, IsMetAs}
 use Rattle.sms_world.specs.Machine.Next.{next, packet, phone_of}
 
 -- An event takes memory where it is for a packet or a phone that there is. A tick takes none.
 unfoldable pub takes_memory : Machine → Act → Bool
-takes_memory m (Composes phone target characters pieces) = nat_lt phone (length m.phones)
-takes_memory m (Carries k) = is_some (packet m k)
-takes_memory m (TimesOut phone) = nat_lt phone (length m.phones)
-takes_memory m (Pushes phone) = nat_lt phone (length m.phones)
-takes_memory m (Ticks seconds) = false
-takes_memory m (Injects place message) = nat_lt (phone_of place) (length m.phones)
+takes_memory m (TypesText phone target characters pieces) = nat_lt phone (length m.phones)
+takes_memory m (MovesPacket k) = is_some (packet m k)
+takes_memory m (EndsWait phone) = nat_lt phone (length m.phones)
+takes_memory m (HandsOver phone) = nat_lt phone (length m.phones)
+takes_memory m (MovesClock seconds) = false
+takes_memory m (SlipsIn place message) = nat_lt (phone_of place) (length m.phones)
 
 abbrev pub no_memory : Told
 no_memory = Err (Party dropped.Memory)
@@ -32,7 +32,7 @@ Acts old act told put new =
 -- The event was answered so, and this was put out, the first packet first.
 abbrev pub Step : Machine → Event → Told → List Sent → Machine → Type 0
 Step old event told put new =
-    (act : Act) × Is (width_of old.senders.wide) event act × Acts old act told put new
+    (act : Act) × IsMetAs (width_of old.senders.wide) event act × Acts old act told put new
 
 -- A run from the first state to the last, in which the condition holds at each event, of the
 -- machine as it is when the event comes.

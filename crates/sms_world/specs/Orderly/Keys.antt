@@ -1,6 +1,6 @@
 -- No key is used again meanwhile.
 use Rattle.std.specs.Prelude.{◌≡◌, ◌≢◌, ◌⊎◌, ℕ, List, length, Some}
-use Rattle.sms_field.specs.AddressValue.{AddressValue}
+use Rattle.sms_field.specs.Address.Value.{AddressValue}
 use Rattle.sms_tpdu.specs.Deliver.{Delivery}
 use Rattle.sms_tpdu.specs.declared.user_data.concat.Concat.{Concat}
 use Rattle.sms_message.specs.Address.{address_of}

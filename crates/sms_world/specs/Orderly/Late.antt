@@ -1,11 +1,10 @@
 -- Late segments fall within the remembered texts.
-use Rattle.std.specs.Prelude.{◌≡◌, ℕ, true, Some}
+use Rattle.std.specs.Prelude.{ℕ, Some}
 use Rattle.sms_tpdu.specs.Deliver.{Delivery}
-use Rattle.sms_join.specs.Arrivals.{is_listed}
 use Rattle.sms_message.specs.Message.{Origin}
 use Rattle.sms_world.specs.Machine.{Machine}
 use Rattle.sms_world.specs.Machine.Event.{Event}
-use Rattle.sms_world.specs.Texts.Finished.{finished, IsAmongLast}
+use Rattle.sms_world.specs.Texts.Finished.{HasFinished, IsAmongLast}
 use Rattle.sms_world.specs.Orderly.Brought.{BringsDelivery}
 
 -- Where a delivery of a text that has finished at a phone comes to it once more, the text is among
@@ -13,4 +12,4 @@ use Rattle.sms_world.specs.Orderly.Brought.{BringsDelivery}
 abbrev pub LateSegmentsAreRemembered : Machine → Event → Type 0
 LateSegmentsAreRemembered m event =
     (phone : ℕ) (d : Delivery) (o : Origin) → BringsDelivery m event phone d (Some o)
-    → is_listed (finished m phone) o.text ≡ true → IsAmongLast m phone o.text
+    → HasFinished m phone o.text → IsAmongLast m phone o.text

@@ -1,6 +1,6 @@
 -- What is to stand in a phone's store.
 use Rattle.std.specs.Prelude.{ℕ, List, [], map, Option, Some, None}
-use Rattle.sms_field.specs.AddressValue.{AddressValue}
+use Rattle.sms_field.specs.Address.Value.{AddressValue}
 use Rattle.sms_message.specs.Address.{address_of}
 use Rattle.sms_party.specs.Sent.{nth}
 use Rattle.sms_party.specs.Sender.Texts.{Text}

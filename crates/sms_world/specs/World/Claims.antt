@@ -1,7 +1,7 @@
 -- What is claimed of a world, whatever events led to it.
 use Rattle.std.specs.Prelude.{◌≡◌, ◌≢◌, ℕ, ◌<◌, ◌≤◌, ◌-◌, true, List, ◌∷◌, ◌++◌, length, reverse, Some, slice_get}
 use Rattle.std.specs.List.{Contains}
-use Rattle.sms_field.specs.AddressValue.{AddressValue}
+use Rattle.sms_field.specs.Address.Value.{AddressValue}
 use Rattle.sms_message.specs.Message.{Origin}
 use Rattle.sms_centre.specs.Centre.State.{Acceptance}
 use Rattle.sms_party.specs.Sender.Ended.{IsTypedAt}

@@ -1,8 +1,8 @@
 -- The states of the machine for which the code of the whole stands.
 use Rattle.std.specs.Prelude.{◌≡◌, ℕ, ◌<◌, if◌then◌else◌, List, [], ◌∷◌, length, reverse, Some, slice_get}
 use Rattle.std.specs.List.{AllByRecursion}
-use Rattle.sms_field.specs.AddressValue.{AddressValue}
-use Rattle.sms_field.specs.Times.{end_of_2099}
+use Rattle.sms_field.specs.Address.Value.{AddressValue}
+use Rattle.sms_field.specs.Time.Computed.{end_of_2099}
 use Rattle.sms_party.specs.Sent.{Place, Centre, Phone, Sent}
 use Rattle.sms_message.specs.Message.Carrying.{Carries}
 use Rattle.sms_centre.specs.Centre.Standing as centre

@@ -1,7 +1,7 @@
 -- What it means that a call of the whole is a step of the machine.
 use Rattle.std.specs.Prelude.{◌≡◌, ℕ, List, [], ◌∷◌, ◌++◌, length, reverse, Option, Some, None, Err}
 use Rattle.std.specs.Str.{chars}
-use Rattle.sms_field.specs.AddressValue.{AddressValue}
+use Rattle.sms_field.specs.Address.Value.{AddressValue}
 use Rattle.sms_party.specs.Sent.{Sent}
 use Rattle.sms_message.specs.Message.Carrying.{Carries}
 use Rattle.sms_party.specs.Receiver.State.{Entry}

@@ -1,6 +1,6 @@
 use Rattle.std.proofs.Common.{ℕ, List, drop, subst, ap, ◌∙◌}
 use Rattle.std.proofs.lemmas.List.{drop_min}
-use Rattle.sms_field.specs.Lies.{TakesOctets}
+use Rattle.sms_field.specs.Reading.Lies.{TakesOctets}
 use Rattle.sms_field.specs.RelayAddress.{relay_address}
 use Rattle.sms_c.proofs.relay.address_after.Goals as goal
 

@@ -1,5 +1,5 @@
 use Rattle.std.proofs.Common.{ℕ, drop, subst}
-use Rattle.sms_field.specs.Lies.{TakesOctets}
+use Rattle.sms_field.specs.Reading.Lies.{TakesOctets}
 use Rattle.sms_field.specs.RelayAddress.{relay_address}
 use Rattle.sms_c.proofs.relay.address_span.Goals as goal
 

@@ -1,8 +1,8 @@
 use Rattle.std.proofs.Common.{◌≡◌, ℕ, List, Option, refl, sym, ap, subst, ◌∙◌}
 use Rattle.sms_field.specs.Reading.{Reads}
 use Rattle.sms_relay.specs.Cp.{cp_message}
-use Rattle.sms_relay.specs.CpSeen.{seen_cp_body}
-use Rattle.sms_relay.specs.CpValue.{CpValue}
+use Rattle.sms_relay.specs.Cp.Seen.{seen_cp_body}
+use Rattle.sms_relay.specs.Cp.Value.{CpValue}
 use Rattle.sms_c.specs.SeenRelay.{LieLast, span_before, cp_user, ShowsCp}
 use Rattle.sms_c.specs.declared.parts.Span.{Span}
 use Rattle.sms_c.specs.declared.relay.CpSeen.{CpSeen}

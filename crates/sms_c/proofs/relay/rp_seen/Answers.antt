@@ -2,8 +2,8 @@ use Rattle.std.proofs.Common.{◌≡◌, ℕ, List, length, Option, Some, None, 
 use Rattle.std.specs.Prelude.{unwrap_or}
 use Rattle.sms_field.specs.Reading.{Reads}
 use Rattle.sms_relay.specs.Rp.{rp_message}
-use Rattle.sms_relay.specs.RpSeen.{seen_rp_body}
-use Rattle.sms_relay.specs.RpValue.{RpValue}
+use Rattle.sms_relay.specs.Rp.Seen.{seen_rp_body}
+use Rattle.sms_relay.specs.Rp.Value.{RpValue}
 use Rattle.sms_c.specs.Parts.{bit}
 use Rattle.sms_c.specs.SeenRelay.{LieLast, span_before, rp_user, ShowsRp}
 use Rattle.sms_c.specs.declared.parts.Span.{Span}

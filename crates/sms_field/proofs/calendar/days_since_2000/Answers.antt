@@ -1,5 +1,5 @@
 use Rattle.std.proofs.Common.{arith, ◌≡◌, ◌≤◌, ◌-◌}
-use Rattle.sms_field.specs.Days.{days_before}
+use Rattle.sms_field.specs.Time.Days.{days_before}
 use Rattle.sms_field.proofs.DayLemmas.{days_before-date}
 use Rattle.sms_field.proofs.calendar.days_since_2000.Goals as goal
 

@@ -1,4 +1,4 @@
-use Rattle.sms_field.specs.ChainLaws.{chain_lawful}
+use Rattle.sms_field.specs.Inside.ChainLaws.{chain_lawful}
 use Rattle.sms_field.proofs.chain.law_of_chains.Goals as goal
 
 pub returns : goal.returns

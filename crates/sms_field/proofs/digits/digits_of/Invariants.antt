@@ -1,6 +1,6 @@
 use Rattle.std.proofs.Common.{◌≡◌, length, drop}
 use Rattle.std.specs.Str.{chars}
-use Rattle.sms_field.specs.DigitText.{digits_of_text}
+use Rattle.sms_field.specs.Address.DigitText.{digits_of_text}
 use Rattle.sms_field.proofs.DigitTexts.{with_digits}
 use Rattle.sms_field.proofs.digits.digits_of.Given as goal
 

@@ -1,5 +1,5 @@
 use Rattle.std.proofs.Common.{◌≡◌, ◌+◌, ◌/◌, ◌<◌, ◌≤◌, ◌++◌, length, vec_len, vec_capacity, All}
-use Rattle.sms_field.specs.DigitOctets.{digit_octets}
+use Rattle.sms_field.specs.Address.DigitOctets.{digit_octets}
 use Rattle.sms_field.proofs.digits.put_digits.Given as goal
 
 abbrev pub invariant-loop-rest : goal.invariant-loop-rest

@@ -1,6 +1,5 @@
-use Rattle.sms_field.specs.ReadableLaws.{decided, unread}
-use Rattle.sms_field.specs.ReadingLaws.{one_reading}
-use Rattle.sms_field.specs.Reading.{Reads}
+use Rattle.sms_field.specs.Inside.ReadableLaws.{decided, unread}
+use Rattle.sms_field.specs.Inside.ReadingLaws.{one_reading}
 use Rattle.sms_field.proofs.laws.law_of_readings.Goals as goal
 
 pub returns-clause-one : goal.returns-clause-one
@@ -10,4 +9,4 @@ pub returns-clause-decided : goal.returns-clause-decided
 returns-clause-decided g c = let f = g.F.Lawful in decided f.short f.field f.is_lawful
 
 pub returns-clause-unread : goal.returns-clause-unread
-returns-clause-unread g c = let f = g.F.Lawful in unread (Reads f.field) f.field.reason f.short
+returns-clause-unread g c = let f = g.F.Lawful in unread f.field f.short

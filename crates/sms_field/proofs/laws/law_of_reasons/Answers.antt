@@ -1,4 +1,4 @@
-use Rattle.sms_field.specs.ReasonLaws.{never_chain}
+use Rattle.sms_field.specs.Inside.ReasonLaws.{never_chain}
 use Rattle.sms_field.proofs.laws.law_of_reasons.Goals as goal
 
 pub returns : goal.returns

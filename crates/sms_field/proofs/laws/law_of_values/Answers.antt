@@ -1,4 +1,4 @@
-use Rattle.sms_field.specs.ReadValueLaws.{has_chain}
+use Rattle.sms_field.specs.Inside.ReadValueLaws.{has_chain}
 use Rattle.sms_field.proofs.laws.law_of_values.Goals as goal
 
 pub returns : goal.returns

@@ -1,4 +1,4 @@
-use Rattle.sms_field.specs.NameSpelling.{name_packed, only_name_octets}
+use Rattle.sms_field.specs.Inside.NameSpelling.{name_packed, only_name_octets}
 use Rattle.sms_field.proofs.laws.names_are_packed.Goals as goal
 
 pub returns-clause-packed : goal.returns-clause-packed

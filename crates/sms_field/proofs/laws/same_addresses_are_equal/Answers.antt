@@ -1,4 +1,4 @@
-use Rattle.sms_field.specs.SameAddressLaws.{same_address_refl, same_address_is_equal, same_address_symmetric, same_address_transitive}
+use Rattle.sms_field.specs.Inside.SameAddressLaws.{same_address_refl, same_address_is_equal, same_address_symmetric, same_address_transitive}
 use Rattle.sms_field.proofs.laws.same_addresses_are_equal.Goals as goal
 
 pub returns-clause-equal : goal.returns-clause-equal

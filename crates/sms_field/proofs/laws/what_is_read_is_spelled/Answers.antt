@@ -1,4 +1,4 @@
-use Rattle.sms_field.specs.ReadAddressLaws.{has_address, has_relay_address}
+use Rattle.sms_field.specs.Inside.ReadAddressLaws.{has_address, has_relay_address}
 use Rattle.sms_field.proofs.laws.what_is_read_is_spelled.Goals as goal
 
 pub returns-clause-transfer : goal.returns-clause-transfer

@@ -1,8 +1,8 @@
 use Rattle.std.proofs.Common.{◌≡◌, ◌∙◌, ◌++◌, ◌∷◌, [], ℕ, List, ap, refl, append_assoc}
 use Rattle.sms_text.specs.Bits.{PackedPlain}
 use Rattle.sms_text.specs.Octets.{IsOctets}
-use Rattle.sms_field.specs.Name.{name_octets}
-use Rattle.sms_field.specs.NameSpelling.{only_name_octets}
+use Rattle.sms_field.specs.Address.NameOctets.{name_octets}
+use Rattle.sms_field.specs.Inside.NameSpelling.{only_name_octets}
 use Rattle.sms_field.proofs.name.put_name.Goals as goal
 
 after_two : (name old two items packed : List ℕ) (first second : ℕ) → PackedPlain 0 name packed → IsOctets packed → two ≡ (old ++ first ∷ []) ++ second ∷ [] → items ≡ two ++ packed → items ≡ old ++ first ∷ second ∷ name_octets name

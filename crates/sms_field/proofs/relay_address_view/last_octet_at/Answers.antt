@@ -1,9 +1,9 @@
 use Rattle.std.proofs.Common.{◌≡◌, Ok, Err}
 use Rattle.std.specs.Prelude.{MatchResult}
 use Rattle.sms_field.specs.declared.fault.FieldFault.TheVariants.{Short}
-use Rattle.sms_field.specs.AnswerLaws.{sees_as_by_meaning}
+use Rattle.sms_field.specs.Inside.AnswerLaws.{sees_as_by_meaning}
 use Rattle.sms_field.specs.RelayAddress.{last_digits}
-use Rattle.sms_field.specs.RelayAddressSeen.{last_digits_in}
+use Rattle.sms_field.specs.Inside.RelayAddressSeen.{last_digits_in}
 use Rattle.sms_field.proofs.relay_address_view.last_octet_at.Goals as goal
 
 pub returns : goal.returns

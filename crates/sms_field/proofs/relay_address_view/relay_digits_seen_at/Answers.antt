@@ -2,9 +2,9 @@ use Rattle.std.proofs.Common.{Ok, Err, ◌*◌, arith}
 use Rattle.std.proofs.lemmas.Result.{err_from_is_err_and}
 use Rattle.sms_field.specs.declared.fault.FieldFault.TheVariants.{Short}
 use Rattle.sms_field.specs.declared.refusal.Refusal.TheVariants.{At}
-use Rattle.sms_field.specs.AnswerLaws.{sees_by_meaning}
-use Rattle.sms_field.specs.AddressSeen.{digits_in}
-use Rattle.sms_field.specs.DigitOctets.{both_digits}
+use Rattle.sms_field.specs.Inside.AnswerLaws.{sees_by_meaning}
+use Rattle.sms_field.specs.Inside.AddressSeen.{digits_in}
+use Rattle.sms_field.specs.Address.DigitOctets.{both_digits}
 use Rattle.sms_field.proofs.RelayDigitLoop.{ends, fails_last}
 use Rattle.sms_field.proofs.RelayDigitsSeen.{seen_start, sees_on, sees_none, sees_last}
 use Rattle.sms_field.proofs.relay_address_view.relay_digits_seen_at.Goals as goal

@@ -6,8 +6,8 @@ use Rattle.sms_join.specs.declared.segment.Segment.{Segment}
 use Rattle.sms_join.specs.declared.units.Units.{Units}
 use Rattle.sms_join.specs.Cut.{IsCut}
 use Rattle.sms_join.specs.Segments.{AreSegments}
-use Rattle.sms_join.specs.SegmentUser.{IsSendable}
-use Rattle.sms_join.specs.SegmentsValue.{pieces_at, segments_at}
+use Rattle.sms_join.specs.Segments.User.{IsSendable}
+use Rattle.sms_join.specs.Inside.SegmentsAt.{pieces_at, segments_at}
 use Rattle.sms_join.proofs.Ends.{are_numbered, length-pieces_at, length-segments_from}
 use Rattle.sms_join.proofs.OneCut.{as_many_pieces}
 use Rattle.sms_join.proofs.TextUnits.{text_is}

@@ -1,6 +1,6 @@
 use Rattle.std.proofs.Common.{◌≡◌, ℕ, length, subst, arith}
 use Rattle.sms_join.specs.UnitsOfText.{numbers}
-use Rattle.sms_join.specs.SegmentsValue.{RiseTo, pieces_at}
+use Rattle.sms_join.specs.Inside.SegmentsAt.{RiseTo, pieces_at}
 use Rattle.sms_join.proofs.CutPlaces.{all_parted}
 use Rattle.sms_join.proofs.Ends.{nothing_ends, one_end_more}
 use Rattle.sms_join.proofs.cut.ends_by.Goals as goal

@@ -1,6 +1,6 @@
 use Rattle.std.proofs.Common.{◌≡◌, take}
 use Rattle.sms_join.specs.Reading.{lent}
-use Rattle.sms_join.specs.Slots.{filled_with}
+use Rattle.sms_join.specs.Inside.Slots.{filled_with}
 use Rattle.sms_join.proofs.reading.lend_with.Given as goal
 
 abbrev pub invariant-loop-place : goal.invariant-loop-place

@@ -1,10 +1,9 @@
 use Rattle.std.proofs.Common.{arith, ◌∙◌, sym, ap}
-use Rattle.sms_field.specs.OctetLists.{octets_are}
-use Rattle.sms_field.specs.Reading.{Reads}
-use Rattle.sms_field.specs.ReadableLaws.{unread}
+use Rattle.sms_field.specs.Inside.OctetLists.{octets_are}
+use Rattle.sms_field.specs.Inside.ReadableLaws.{unread}
 use Rattle.sms_relay.specs.Cp.{cp_message}
-use Rattle.sms_relay.specs.CpSeen.{seen_cp_body}
-use Rattle.sms_relay.specs.InnerSeen.{seen_inner}
+use Rattle.sms_relay.specs.Cp.Seen.{seen_cp_body}
+use Rattle.sms_relay.specs.Carried.InnerSeen.{seen_inner}
 use Rattle.sms_relay.specs.declared.fault.RelayFault.TheVariants.{Short}
 use Rattle.sms_message.proofs.Glances.{none_seen, seen_by, note_by, tiny_by, data_by, glance_by, glance_by_octets}
 use Rattle.sms_message.proofs.glance.glance_at.Goals as goal
@@ -12,7 +11,7 @@ use Rattle.sms_message.proofs.glance.glance_at.Goals as goal
 pub returns-in_default-clause-seen : goal.returns-in_default-clause-seen
 returns-in_default-clause-seen c = λ m read.
     none_seen c.args.octets.now m
-    (unread (Reads cp_message) cp_message.reason Short c.args.octets.now c.in_default.field-0.place c.in_default.field-0.why (octets_are c.args.octets.now (λ i. omega (arith, c.type_inv.octets i))) c.in_default.ensures.refused)
+    (unread cp_message Short c.args.octets.now c.in_default.field-0.place c.in_default.field-0.why (octets_are c.args.octets.now (λ i. omega (arith, c.type_inv.octets i))) c.in_default.ensures.refused)
     read
 
 pub returns-in_default-body : goal.returns-in_default-body

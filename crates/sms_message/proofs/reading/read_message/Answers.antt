@@ -1,18 +1,17 @@
 use Rattle.std.proofs.Common.{arith, ◌∙◌, sym, ap, subst}
-use Rattle.sms_field.specs.OctetLists.{octets_are}
+use Rattle.sms_field.specs.Inside.OctetLists.{octets_are}
 use Rattle.sms_relay.specs.Cp.{cp_message}
-use Rattle.sms_relay.specs.CpSeen.{seen_cp_body}
-use Rattle.sms_relay.specs.Unwrapped.{Holds}
+use Rattle.sms_relay.specs.Cp.Seen.{seen_cp_body}
+use Rattle.sms_relay.specs.Carried.Unwrapped.{Holds}
 use Rattle.sms_relay.specs.declared.inner.Inner.{Inner}
-use Rattle.sms_field.specs.Reading.{Reads}
 use Rattle.sms_relay.specs.declared.fault.RelayFault.TheVariants.{Short}
-use Rattle.sms_field.specs.ReadableLaws.{unread}
+use Rattle.sms_field.specs.Inside.ReadableLaws.{unread}
 use Rattle.sms_message.proofs.Read.{data_read, long_read}
 use Rattle.sms_message.proofs.reading.read_message.Goals as goal
 
 pub returns-in_default-clause-read : goal.returns-in_default-clause-read
 returns-in_default-clause-read c =
-    unread (Reads cp_message) cp_message.reason Short c.args.octets.now c.in_default.field-0.place c.in_default.field-0.why
+    unread cp_message Short c.args.octets.now c.in_default.field-0.place c.in_default.field-0.why
     (octets_are c.args.octets.now (λ i. omega (arith, c.type_inv.octets i))) c.in_default.ensures.refused
 
 pub returns-in_err-to_value-clause-data : goal.returns-in_err-to_value-clause-data

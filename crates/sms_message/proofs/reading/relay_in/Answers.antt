@@ -1,12 +1,12 @@
 use Rattle.std.proofs.Common.{◌∷◌, subst}
-use Rattle.sms_field.specs.Reading.{Reads, IsRefused}
+use Rattle.sms_field.specs.Reading.{IsRefused}
 use Rattle.sms_field.specs.declared.refusal.Refusal.TheVariants.{At}
 use Rattle.sms_relay.specs.Rp.{rp_message}
-use Rattle.sms_relay.specs.Unwrapped.{IsReadAs}
+use Rattle.sms_relay.specs.Carried.Unwrapped.{IsReadAs}
 use Rattle.sms_relay.specs.declared.inner.Inner.{Inner}
 use Rattle.sms_relay.specs.declared.fault.RelayFault.{RelayFault}
 use Rattle.sms_relay.specs.declared.fault.RelayFault.TheVariants.{Short}
-use Rattle.sms_relay.specs.TypeLaws.{tells_unknown_types}
+use Rattle.sms_relay.specs.Inside.TypeLaws.{tells_unknown_types}
 use Rattle.sms_message.proofs.Read.{relay_read}
 use Rattle.sms_message.proofs.reading.relay_in.Goals as goal
 
@@ -16,7 +16,7 @@ returns-in-Relay-clause-read c = relay_read c.relay_of.result c.in-Relay.message
 pub returns-in-UnknownType-clause-read : goal.returns-in-UnknownType-clause-read
 returns-in-UnknownType-clause-read c = λ first second rest fits h.
     tells_unknown_types.unknown (first ∷ second ∷ rest) c.in-Bad.place
-    (subst (λ (w : RelayFault). IsRefused (Reads rp_message) rp_message.reason Short (first ∷ second ∷ rest) (At c.in-Bad.place w)) c.in-UnknownType.is (subst (λ (i : Inner). IsReadAs (first ∷ second ∷ rest) i) c.in-Bad.is h))
+    (subst (λ (w : RelayFault). IsRefused rp_message Short (first ∷ second ∷ rest) (At c.in-Bad.place w)) c.in-UnknownType.is (subst (λ (i : Inner). IsReadAs (first ∷ second ∷ rest) i) c.in-Bad.is h))
 
 pub returns-in_default : goal.returns-in_default
 returns-in_default c =

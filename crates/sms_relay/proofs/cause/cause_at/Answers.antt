@@ -1,5 +1,5 @@
 use Rattle.std.proofs.Common.{rules}
-use Rattle.sms_relay.specs.RpCause.{rp_cause}
+use Rattle.sms_relay.specs.Rp.Cause.{rp_cause}
 use Rattle.sms_relay.proofs.cause.cause_at.Goals as goal
 
 pub returns-clause-fits : goal.returns-clause-fits

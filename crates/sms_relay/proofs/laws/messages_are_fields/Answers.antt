@@ -1,5 +1,5 @@
-use Rattle.sms_relay.specs.CpLaws.{cp_laws}
-use Rattle.sms_relay.specs.RpLaws.{rp_laws}
+use Rattle.sms_relay.specs.Inside.CpLaws.{cp_laws}
+use Rattle.sms_relay.specs.Inside.RpLaws.{rp_laws}
 use Rattle.sms_relay.proofs.laws.messages_are_fields.Goals as goal
 
 pub returns-clause-cp : goal.returns-clause-cp

@@ -1,4 +1,4 @@
-use Rattle.sms_relay.specs.OneRefusalLaws.{cp_refused_once, rp_refused_once}
+use Rattle.sms_relay.specs.Inside.OneRefusalLaws.{cp_refused_once, rp_refused_once}
 use Rattle.sms_relay.proofs.laws.messages_are_refused_once.Goals as goal
 
 pub returns-clause-cp : goal.returns-clause-cp

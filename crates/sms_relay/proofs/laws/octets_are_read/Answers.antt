@@ -1,4 +1,4 @@
-use Rattle.sms_relay.specs.ReadOctetLaws.{cp_octets_are, rp_octets_are}
+use Rattle.sms_relay.specs.Inside.ReadOctetLaws.{cp_octets_are, rp_octets_are}
 use Rattle.sms_relay.proofs.laws.octets_are_read.Goals as goal
 
 pub returns-clause-cp : goal.returns-clause-cp

@@ -1,5 +1,5 @@
-use Rattle.sms_relay.specs.CpLaws.{transaction_laws}
-use Rattle.sms_relay.specs.RpLaws.{user_data_laws, optional_user_data_laws, cause_laws}
+use Rattle.sms_relay.specs.Inside.CpLaws.{transaction_laws}
+use Rattle.sms_relay.specs.Inside.RpLaws.{user_data_laws, optional_user_data_laws, cause_laws}
 use Rattle.sms_relay.proofs.laws.parts_are_fields.Goals as goal
 
 pub returns-clause-transaction : goal.returns-clause-transaction

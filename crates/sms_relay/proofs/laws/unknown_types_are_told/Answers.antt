@@ -1,4 +1,4 @@
-use Rattle.sms_relay.specs.TypeLaws.{tells_unknown_types}
+use Rattle.sms_relay.specs.Inside.TypeLaws.{tells_unknown_types}
 use Rattle.sms_relay.proofs.laws.unknown_types_are_told.Goals as goal
 
 pub returns : goal.returns

@@ -1,8 +1,8 @@
 use Rattle.std.proofs.Common.{◌≤◌, ◌+◌, ◌∷◌, ℕ, List, length, length-append, arith}
-use Rattle.sms_field.specs.AddressLengthLaws.{relay_address_few}
+use Rattle.sms_field.specs.Inside.AddressLengthLaws.{relay_address_few}
 use Rattle.sms_field.specs.RelayAddress.{optional_address_octets}
 use Rattle.sms_relay.specs.Rp.{rp_data_octets}
-use Rattle.sms_relay.specs.RpUserData.{user_octets}
+use Rattle.sms_relay.specs.Rp.UserData.{user_octets}
 use Rattle.sms_relay.specs.declared.side.Side.{Side}
 use Rattle.sms_relay.specs.declared.side.Side.TheVariants.{FromPhone, ToPhone}
 use Rattle.sms_relay.proofs.rp.room_for_body.Goals as goal

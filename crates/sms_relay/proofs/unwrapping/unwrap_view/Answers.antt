@@ -1,7 +1,7 @@
 use Rattle.std.proofs.Common.{rules}
 use Rattle.sms_relay.specs.Carried.{relay_of}
-use Rattle.sms_relay.specs.InnerSeen.{seen_inner}
-use Rattle.sms_relay.specs.Unwrapped.{Holds}
+use Rattle.sms_relay.specs.Carried.InnerSeen.{seen_inner}
+use Rattle.sms_relay.specs.Carried.Unwrapped.{Holds}
 use Rattle.sms_relay.proofs.PacketRead.{carrier_read, unwrapped}
 use Rattle.sms_relay.proofs.unwrapping.unwrap_view.Goals as goal
 use Rattle.sms_relay.proofs.unwrapping.unwrap_view.Goals.{in-Transfer, in-Ack}

@@ -1,5 +1,5 @@
 use Rattle.std.proofs.Common.{rules}
-use Rattle.sms_relay.specs.RpUserData.{user_data}
+use Rattle.sms_relay.specs.Rp.UserData.{user_data}
 use Rattle.sms_relay.proofs.user.user_data_at.Goals as goal
 
 pub returns-clause-fits : goal.returns-clause-fits

@@ -1,6 +1,6 @@
 use Rattle.std.proofs.Common.{sym, subst}
 use Rattle.sms_relay.specs.Rp.{SpellsRp}
-use Rattle.sms_relay.specs.RpLaws.{rp_laws}
+use Rattle.sms_relay.specs.Inside.RpLaws.{rp_laws}
 use Rattle.sms_relay.proofs.Sizes.{message_size}
 use Rattle.sms_relay.proofs.wrap.wrap_message.Goals as goal
 

@@ -1,5 +1,5 @@
 use Rattle.std.proofs.Common.{length}
-use Rattle.sms_text.specs.Same.{StandsAfterSame}
+use Rattle.sms_text.specs.Inside.Same.{StandsAfterSame}
 use Rattle.sms_text.proofs.alphabet.after_blocks.Given as goal
 
 abbrev pub invariant-loop-others : goal.invariant-loop-others

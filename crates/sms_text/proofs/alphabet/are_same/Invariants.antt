@@ -1,5 +1,5 @@
 use Rattle.std.proofs.Common.{◌≡◌, true, take}
-use Rattle.sms_text.specs.Same.{AreSame}
+use Rattle.sms_text.specs.Inside.Same.{AreSame}
 use Rattle.sms_text.proofs.alphabet.are_same.Given as goal
 
 abbrev pub invariant-loop-octet : goal.invariant-loop-octet

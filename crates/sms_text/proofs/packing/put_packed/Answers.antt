@@ -1,7 +1,7 @@
 use Rattle.std.proofs.Common.{◌≡◌, ◌∙◌, ◌≤◌, ◌+◌, ◌-◌, ◌*◌, ◌/◌, ℕ, List, length, take, drop, refl, sym, ap, subst, length-drop, arith}
 use Rattle.std.proofs.lemmas.List.{take_rest}
 use Rattle.sms_text.specs.Bits.{AreSeptets, octet_bits}
-use Rattle.sms_text.specs.Words.{low_septets}
+use Rattle.sms_text.specs.Inside.Words.{low_septets}
 use Rattle.sms_text.proofs.Words.{block_packed, octets_more, eight_are, eight_taken, septets-take, first_eight}
 use Rattle.sms_text.proofs.Spread.{block_written}
 use Rattle.sms_text.proofs.packing.put_packed.Goals as goal

@@ -1,6 +1,6 @@
 use Rattle.std.proofs.Common.{◌≡◌, ◌+◌, ◌*◌, ◌/◌, ◌%◌, ◌^◌, take, drop, ℕ, List, subst, ◌∙◌, arith}
 use Rattle.sms_text.specs.Bits.{from_bits, octet_bits}
-use Rattle.sms_text.specs.Words.{low_octets}
+use Rattle.sms_text.specs.Inside.Words.{low_octets}
 use Rattle.sms_text.proofs.SeptetAt.{septet_there}
 use Rattle.sms_text.proofs.packing.septet_at.Goals as goal
 

@@ -1,5 +1,5 @@
 use Rattle.std.proofs.Common.{subst}
-use Rattle.sms_text.specs.Same.{AreSame}
+use Rattle.sms_text.specs.Inside.Same.{AreSame}
 use Rattle.sms_text.proofs.SameRuns.{same_whole, whole_text}
 use Rattle.sms_text.proofs.written.text_from_gsm.Goals as goal
 

@@ -1,7 +1,7 @@
 use Rattle.std.proofs.Common.{ℕ, List, drop, subst, ap, ◌∙◌}
 use Rattle.std.proofs.lemmas.List.{drop_min}
 use Rattle.sms_field.specs.Address.{address}
-use Rattle.sms_field.specs.Lies.{TakesOctets}
+use Rattle.sms_field.specs.Reading.Lies.{TakesOctets}
 use Rattle.sms_tpdu.proofs.address.address_after.Goals as goal
 
 pub returns-clause-takes : goal.returns-clause-takes

@@ -1,4 +1,4 @@
-use Rattle.sms_tpdu.specs.RefusalLaws.{submit_tells, deliver_tells, submit_ack_tells, submit_error_tells, deliver_ack_tells, deliver_error_tells, status_report_tells, command_tells}
+use Rattle.sms_tpdu.specs.Inside.RefusalLaws.{submit_tells, deliver_tells, submit_ack_tells, submit_error_tells, deliver_ack_tells, deliver_error_tells, status_report_tells, command_tells}
 use Rattle.sms_tpdu.proofs.laws.other_types_are_told.Goals as goal
 
 pub returns-clause-submit : goal.returns-clause-submit

@@ -1,4 +1,4 @@
-use Rattle.sms_tpdu.specs.SizeLaws.{submit_within, deliver_within, submit_ack_within, submit_error_within, deliver_ack_within, deliver_error_within, status_report_within, command_within}
+use Rattle.sms_tpdu.specs.Inside.SizeLaws.{submit_within, deliver_within, submit_ack_within, submit_error_within, deliver_ack_within, deliver_error_within, status_report_within, command_within}
 use Rattle.sms_tpdu.proofs.laws.units_are_short.Goals as goal
 
 pub returns-clause-submit : goal.returns-clause-submit

@@ -1,4 +1,4 @@
-use Rattle.sms_tpdu.specs.SpellingLaws.{submit_spelled, deliver_spelled, submit_ack_spelled, submit_error_spelled, deliver_ack_spelled, deliver_error_spelled, status_report_spelled, command_spelled, header_spelled}
+use Rattle.sms_tpdu.specs.Inside.SpellingLaws.{submit_spelled, deliver_spelled, submit_ack_spelled, submit_error_spelled, deliver_ack_spelled, deliver_error_spelled, status_report_spelled, command_spelled, header_spelled}
 use Rattle.sms_tpdu.proofs.laws.values_are_spelled.Goals as goal
 
 pub returns-clause-submit : goal.returns-clause-submit

@@ -1,7 +1,7 @@
 use Rattle.std.proofs.Common.{◌≡◌, arith}
 use Rattle.std.proofs.lemmas.Result.{err_from_is_err_and}
 use Rattle.sms_field.specs.declared.refusal.Refusal.TheVariants.{Memory, At}
-use Rattle.sms_field.specs.ReadingLaws.{read_found, read_refused, read_exact, refused_without}
+use Rattle.sms_field.specs.Inside.ReadingLaws.{read_found, read_refused, read_exact, refused_without}
 use Rattle.sms_tpdu.proofs.view.see.Goals as goal
 
 pub returns-in_err-view-clause-refused : goal.returns-in_err-view-clause-refused

@@ -2,7 +2,7 @@
 
 ghost use Rattle.std.specs.Prelude.{◌≡◌, ◌≤◌, length, Option, Some, IfOk, IfErr};
 ghost use Rattle.sms_field.specs.Reading.{Reads};
-ghost use Rattle.sms_field.specs.WholeAnswer.{IsFaultOf, SeesExactly};
+ghost use Rattle.sms_field.specs.Reading.WholeAnswer.{IsFaultOf, SeesExactly};
 ghost use Rattle.sms_tpdu.specs.UserData.Header.{header};
 ghost use Rattle.sms_tpdu.specs.declared.user_data.concat.Concat.{Concat};
 ghost use Rattle.sms_tpdu.specs.UserData.ConcatenationFound.{IsPlace, concat_of_header};
@@ -37,7 +37,7 @@ impl<'a> Model for HeaderView<'a> {
 
 impl<'a> HeaderView<'a> {
     /// The header of these octets, which are those after the length octet.
-    #[tactic(auto, using(sms_field::specs::OctetLists::octets_are))]
+    #[tactic(auto, using(sms_field::specs::Inside::OctetLists::octets_are))]
     pub fn new(octets: &'a [u8]) -> HeaderView<'a>
         requires { length octets.now ≤ 139 }
         ensures { result ≡ octets.now }

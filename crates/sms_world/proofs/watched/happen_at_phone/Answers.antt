@@ -1,8 +1,8 @@
 use Rattle.std.proofs.Common.{◌≡◌, ◌≤◌, ◌-◌, List, length, Ok, Err, refl, sym, ap, ◌∙◌, subst, arith}
 use Rattle.sms_message.specs.declared.outcome.Dropped.TheVariants.{Memory}
 use Rattle.sms_world.specs.declared.fault.WorldFault.TheVariants.{Party}
-use Rattle.sms_world.specs.Followed.{Follows}
-use Rattle.sms_world.specs.NotesValue.{ledger_in}
+use Rattle.sms_world.specs.Inside.Followed.{Follows}
+use Rattle.sms_world.specs.Inside.NotesValue.{ledger_in}
 use Rattle.sms_world.specs.World.Steps.{event_of, Steps}
 use Rattle.sms_world.proofs.Alike.{same, joined}
 use Rattle.sms_world.proofs.Followed.{wants, wants_so, fails, goes, few_new, may_hold, still_holds, facts_are, goes_so}

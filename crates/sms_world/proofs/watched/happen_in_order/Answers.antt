@@ -1,5 +1,5 @@
 use Rattle.std.proofs.Common.{◌≡◌, None, Err, OnErr, sym, ◌∙◌, subst}
-use Rattle.sms_world.specs.NotesValue.{ledger_in}
+use Rattle.sms_world.specs.Inside.NotesValue.{ledger_in}
 use Rattle.sms_world.specs.World.Steps.{event_of}
 use Rattle.sms_world.proofs.Followed.{passes}
 use Rattle.sms_world.proofs.watched.happen_in_order.Goals as goal

@@ -1,6 +1,6 @@
 use Rattle.std.proofs.Common.{◌≡◌, ℕ, ◌++◌, List, length, map, arith, sym, ap, ◌∙◌}
 use Rattle.std.specs.Global.{Vec}
-use Rattle.sms_world.specs.World.Parties.{on_way}
+use Rattle.sms_world.specs.Inside.Parties.{on_way}
 use Rattle.sms_world.proofs.Ways.{kept_one, kept_all}
 use Rattle.sms_world.proofs.world.keep.Goals as goal
 

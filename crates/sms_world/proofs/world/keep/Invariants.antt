@@ -1,7 +1,7 @@
 use Rattle.std.proofs.Common.{◌≡◌, ◌≤◌, ◌+◌, ◌++◌, length, map}
 use Rattle.std.specs.Vec.{vec_len, vec_capacity}
 use Rattle.sms_message.specs.Does.{packets_of}
-use Rattle.sms_world.specs.World.Parties.{on_way}
+use Rattle.sms_world.specs.Inside.Parties.{on_way}
 use Rattle.sms_world.proofs.world.keep.Given as goal
 
 abbrev pub invariant-loop-octets : goal.invariant-loop-octets

@@ -1,9 +1,9 @@
 use Rattle.std.proofs.Common.{sym, ap, ◌∙◌, Err}
 use Rattle.sms_tpdu.specs.Submit.{Submission}
 use Rattle.sms_message.specs.Address.{phone_at}
-use Rattle.sms_field.specs.Times.{end_of}
+use Rattle.sms_field.specs.Time.Computed.{end_of}
 use Rattle.sms_centre.specs.Centre.Value.{addresses}
-use Rattle.sms_centre.specs.Centre.Kept.{books_in}
+use Rattle.sms_centre.specs.Inside.Kept.{books_in}
 use Rattle.sms_centre.proofs.Taking.{no_moment, ended, unknown, known}
 use Rattle.sms_centre.proofs.centre.Centre.check.Goals as goal
 

@@ -1,6 +1,6 @@
 use Rattle.std.proofs.Common.{◌≡◌, ◌<◌, length, max, sym, ap, subst, ◌∙◌, arith, rules}
 use Rattle.sms_centre.specs.Centre.Value.{CentreValue}
-use Rattle.sms_centre.specs.Centre.Kept.{books_in, free_at}
+use Rattle.sms_centre.specs.Inside.Kept.{books_in, free_at}
 use Rattle.sms_centre.proofs.Taking.{space_late, space_free}
 use Rattle.sms_centre.proofs.centre.Centre.check_space.Goals as goal
 

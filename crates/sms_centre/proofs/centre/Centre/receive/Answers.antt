@@ -1,9 +1,9 @@
 use Rattle.std.proofs.Common.{◌≡◌, ◌<◌, List, length, Some, sym, ap, subst, ◌∙◌, arith}
-use Rattle.sms_field.specs.AddressValue.{AddressValue}
-use Rattle.sms_field.specs.OctetLists.{octets_are}
+use Rattle.sms_field.specs.Address.Value.{AddressValue}
+use Rattle.sms_field.specs.Inside.OctetLists.{octets_are}
 use Rattle.sms_message.specs.declared.outcome.Dropped.{Dropped}
 use Rattle.sms_message.specs.declared.outcome.Dropped.TheVariants.{Memory}
-use Rattle.sms_centre.specs.Centre.Seen.{awaited_at}
+use Rattle.sms_centre.specs.Inside.Seen.{awaited_at}
 use Rattle.sms_centre.proofs.Receiving.{receives}
 use Rattle.sms_centre.proofs.Later.{later_as}
 use Rattle.sms_centre.proofs.Seen.{drop_receives, none_dropped, never_memory}

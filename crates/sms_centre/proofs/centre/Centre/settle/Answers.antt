@@ -1,13 +1,15 @@
 use Rattle.std.proofs.Common.{◌≡◌, List, max, sym, ap, subst, ◌∙◌, Ok}
-use Rattle.sms_field.specs.AddressValue.{AddressValue}
+use Rattle.sms_field.specs.Address.Value.{AddressValue}
 use Rattle.sms_tpdu.specs.Submit.{Submission}
 use Rattle.sms_centre.specs.declared.centre.check.Check.{Check}
 use Rattle.sms_centre.specs.Centre.State.{Acceptance}
 use Rattle.sms_centre.specs.Centre.Submissions.{checked, accept}
 use Rattle.sms_centre.specs.Centre.Value.{CentreValue, LineValue, phones_of}
 use Rattle.sms_centre.specs.Centre.Standing.{StandsFor}
-use Rattle.sms_centre.specs.Centre.Calls.{CentreAnswers, IsCheckIn}
-use Rattle.sms_centre.specs.Centre.Kept.{free_at, key_of, HoldsAlso}
+use Rattle.sms_centre.specs.Centre.Calls.{CentreAnswers}
+use Rattle.sms_centre.specs.Inside.Calls.{IsCheckIn}
+use Rattle.sms_centre.specs.Inside.Kept.{free_at, HoldsAlso}
+use Rattle.sms_centre.specs.Centre.Kept.{key_of}
 use Rattle.sms_centre.proofs.Taking.{puts_answer}
 use Rattle.sms_centre.proofs.Accepting.{accepted_stands, accepted_phones, waiting_from, ending_in}
 use Rattle.sms_centre.proofs.centre.Centre.settle.Goals as goal

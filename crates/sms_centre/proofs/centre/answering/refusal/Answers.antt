@@ -3,10 +3,10 @@ use Rattle.sms_message.specs.Message.Answers.{answers, submit_error_of}
 use Rattle.sms_relay.specs.declared.side.Side.TheVariants.{ToPhone}
 use Rattle.sms_message.specs.declared.outcome.Outcome.TheVariants.{Refused}
 use Rattle.sms_centre.proofs.Replies.{error_carried}
-use Rattle.sms_tpdu.specs.Report.SubmitError.{SpellsSubmitError}
-use Rattle.sms_tpdu.specs.SizeLaws.{submit_error_within}
+use Rattle.sms_tpdu.specs.Report.{SpellsSubmitError}
+use Rattle.sms_tpdu.specs.Inside.SizeLaws.{submit_error_within}
 use Rattle.sms_message.specs.Few.{few_put}
-use Rattle.sms_message.specs.Short.{not_long}
+use Rattle.sms_message.specs.Inside.Short.{not_long}
 use Rattle.sms_centre.proofs.centre.answering.refusal.Goals as goal
 
 pub returns-clause-puts : goal.returns-clause-puts

@@ -1,6 +1,6 @@
 use Rattle.sms_tpdu.specs.Deliver.{SpellsDeliver}
-use Rattle.sms_tpdu.specs.SizeLaws.{deliver_within}
-use Rattle.sms_message.specs.Short.{not_long}
+use Rattle.sms_tpdu.specs.Inside.SizeLaws.{deliver_within}
+use Rattle.sms_message.specs.Inside.Short.{not_long}
 use Rattle.sms_centre.proofs.centre.line.delivery_packet.Goals as goal
 
 pub wrapped-requires : goal.wrapped-requires

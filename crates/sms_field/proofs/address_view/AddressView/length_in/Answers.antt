@@ -1,5 +1,5 @@
 use Rattle.std.proofs.Common.{arith}
-use Rattle.sms_field.specs.ReadLengthLaws.{takes_address}
+use Rattle.sms_field.specs.Inside.ReadLengthLaws.{takes_address}
 use Rattle.sms_field.proofs.address_view.AddressView.length_in.Goals as goal
 
 pub returns-in-len1-up : goal.returns-in-len1-up

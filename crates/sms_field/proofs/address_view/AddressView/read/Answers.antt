@@ -3,8 +3,8 @@ use Rattle.std.proofs.lemmas.Result.{err_from_is_err_and}
 use Rattle.sms_field.specs.declared.fault.FieldFault.TheVariants.{Short}
 use Rattle.sms_field.specs.declared.refusal.Refusal.TheVariants.{Memory, At}
 use Rattle.sms_field.specs.Address.{address}
-use Rattle.sms_field.specs.AddressLaws.{address_lawful}
-use Rattle.sms_field.specs.ReadingLaws.{read_found, read_refused, read_exact, refused_without}
+use Rattle.sms_field.specs.Inside.AddressLaws.{address_lawful}
+use Rattle.sms_field.specs.Inside.ReadingLaws.{read_found, read_refused, read_exact, refused_without}
 use Rattle.sms_field.proofs.address_view.AddressView.read.Goals as goal
 
 pub returns-in_err-address-clause-refused : goal.returns-in_err-address-clause-refused

@@ -1,6 +1,6 @@
 use Rattle.std.proofs.Common.{◌∙◌, sym, subst, arith}
 use Rattle.sms_text.specs.Octets.{IsOctets}
-use Rattle.sms_field.specs.OctetLists.{octets_are}
+use Rattle.sms_field.specs.Inside.OctetLists.{octets_are}
 use Rattle.sms_field.proofs.octets.Octets.from_slice.Goals as goal
 
 pub returns-clause-octets : goal.returns-clause-octets

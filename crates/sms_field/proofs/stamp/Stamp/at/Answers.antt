@@ -1,6 +1,6 @@
 use Rattle.std.proofs.Common.{◌≡◌, ◌≤ℤ◌, ◌∙◌, ◌*ℤ◌, ap, subst, arith, pos, negsuc}
 use Rattle.std.proofs.lemmas.Int.{ints}
-use Rattle.sms_field.specs.Stamping.{IsStampAt}
+use Rattle.sms_field.specs.Time.Stamping.{IsStampAt}
 use Rattle.sms_field.proofs.TimeLaws.{stamp_is_one}
 use Rattle.sms_field.proofs.MomentLaws.{stamp_is, same_quarters, local_sum}
 use Rattle.sms_field.proofs.stamp.Stamp.at.Goals as goal

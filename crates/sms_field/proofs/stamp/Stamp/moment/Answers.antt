@@ -1,5 +1,5 @@
 use Rattle.std.proofs.Common.{rules, arith, refl}
-use Rattle.sms_field.specs.Moment.{MomentIs}
+use Rattle.sms_field.specs.Time.Moment.{MomentIs}
 use Rattle.sms_field.proofs.TimeLaws.{moment_is_one}
 use Rattle.sms_field.proofs.MomentLaws.{IsLocal, moment_is, offset_of, local_of}
 use Rattle.sms_field.proofs.stamp.Stamp.moment.Goals as goal

@@ -2,9 +2,9 @@ use Rattle.std.proofs.Common.{◌≡◌, arith}
 use Rattle.std.proofs.lemmas.Result.{err_from_is_err_and}
 use Rattle.sms_field.specs.declared.fault.FieldFault.TheVariants.{Short}
 use Rattle.sms_field.specs.declared.refusal.Refusal.TheVariants.{Memory, At}
-use Rattle.sms_field.specs.Stamp.{stamp}
+use Rattle.sms_field.specs.Time.Stamp.{stamp}
 use Rattle.sms_field.proofs.StampLaws.{stamp_lawful}
-use Rattle.sms_field.specs.ReadingLaws.{read_found, read_refused, read_exact, refused_without}
+use Rattle.sms_field.specs.Inside.ReadingLaws.{read_found, read_refused, read_exact, refused_without}
 use Rattle.sms_field.proofs.stamp.Stamp.read.Goals as goal
 
 pub returns-in_err-stamp-clause-refused : goal.returns-in_err-stamp-clause-refused

@@ -1,5 +1,5 @@
 use Rattle.std.proofs.Common.{◌≡◌, ◌<◌, ℕ, List, length, get_or, sym, ap, ◌∙◌, arith}
-use Rattle.sms_field.specs.AddressSeen.{digits_in, digit_in}
+use Rattle.sms_field.specs.Inside.AddressSeen.{digits_in, digit_in}
 use Rattle.sms_field.proofs.DigitsSeen.{length-digits_in, digits_in_at, low_at, high_at, digit_below}
 use Rattle.sms_field.proofs.symbols_view.DigitsView.digit.Goals as goal
 

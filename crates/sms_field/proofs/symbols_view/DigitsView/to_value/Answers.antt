@@ -1,5 +1,5 @@
 use Rattle.std.proofs.Common.{◌≡◌, ℕ, ◌+◌, ◌*◌, ◌/◌, ◌<◌, ◌≤◌, ◌∙◌, List, ap, take, length, refl, arith}
-use Rattle.sms_field.specs.AddressSeen.{digits_in}
+use Rattle.sms_field.specs.Inside.AddressSeen.{digits_in}
 use Rattle.sms_field.proofs.DigitsSeen.{digits_none, length-digits_in, both_more, first_digits}
 use Rattle.sms_field.proofs.symbols_view.DigitsView.to_value.Goals as goal
 

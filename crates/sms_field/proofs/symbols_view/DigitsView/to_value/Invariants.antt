@@ -1,5 +1,5 @@
 use Rattle.std.proofs.Common.{◌≡◌, ◌*◌}
-use Rattle.sms_field.specs.AddressSeen.{digits_in}
+use Rattle.sms_field.specs.Inside.AddressSeen.{digits_in}
 use Rattle.sms_field.proofs.symbols_view.DigitsView.to_value.Given as goal
 
 abbrev pub invariant-loop-place : goal.invariant-loop-place

@@ -1,5 +1,5 @@
 use Rattle.std.proofs.Common.{length, sym, ap, ◌∙◌}
-use Rattle.sms_text.specs.PackingLaws.{unpacked_septets}
+use Rattle.sms_text.specs.Inside.PackingLaws.{unpacked_septets}
 use Rattle.sms_field.proofs.symbols_view.NameView.count.Goals as goal
 
 pub returns-clause-is : goal.returns-clause-is

@@ -1,6 +1,6 @@
 use Rattle.std.proofs.Common.{◌≡◌, ◌∙◌, ℕ, length, ap, sym, subst, arith}
 use Rattle.sms_text.specs.Bits.{unpacked}
-use Rattle.sms_text.specs.PackingLaws.{unpacked_septets}
+use Rattle.sms_text.specs.Inside.PackingLaws.{unpacked_septets}
 use Rattle.sms_field.proofs.symbols_view.NameView.packed.Goals as goal
 
 pub returns-clause-enough : goal.returns-clause-enough

@@ -1,5 +1,5 @@
 use Rattle.std.proofs.Common.{◌<◌, ◌∙◌, ap, length, arith}
-use Rattle.sms_text.specs.PackingLaws.{unpacked_septets}
+use Rattle.sms_text.specs.Inside.PackingLaws.{unpacked_septets}
 use Rattle.sms_field.proofs.NamesHeld.{none_held, one_more_held}
 use Rattle.sms_field.proofs.symbols_view.NameView.to_value.Goals as goal
 

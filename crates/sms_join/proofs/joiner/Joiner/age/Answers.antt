@@ -1,11 +1,11 @@
 -- The sets that stay are those that are not old.
 use Rattle.std.proofs.Common.{◌≡◌, ◌≤◌, List, length, sym, ap, subst, ◌∙◌, arith}
 use Rattle.sms_join.specs.declared.key.Key.{Key}
-use Rattle.sms_join.specs.Aging.{aged}
-use Rattle.sms_join.specs.JoinerValue.{JoinerValue}
-use Rattle.sms_join.specs.OpenSet.{SetValue, AreOpen, all_pieces}
+use Rattle.sms_join.specs.Joiner.Aging.{aged}
+use Rattle.sms_join.specs.Joiner.Value.{JoinerValue}
+use Rattle.sms_join.specs.Inside.OpenSet.{SetValue, AreOpen, all_pieces}
 use Rattle.sms_join.specs.Piece.{Piece}
-use Rattle.sms_join.specs.Same.{IsSame}
+use Rattle.sms_join.specs.Joiner.Same.{IsSame}
 use Rattle.sms_join.proofs.AgedSets.{stays, sets_age, still_open}
 use Rattle.sms_join.proofs.Few.{fewer_filtered}
 use Rattle.sms_join.proofs.Offers.{same_refl}

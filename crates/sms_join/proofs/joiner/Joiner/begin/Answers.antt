@@ -4,11 +4,11 @@ use Rattle.std.proofs.lemmas.Result.{err_from_is_err_and}
 use Rattle.sms_join.specs.declared.key.Key.{Key}
 use Rattle.sms_join.specs.Piece.{piece_of, key_of, sequence_of}
 use Rattle.sms_join.specs.Joiner.{offered}
-use Rattle.sms_join.specs.Same.{IsSame}
-use Rattle.sms_join.specs.LastKeys.{LastKeysValue}
-use Rattle.sms_join.specs.OpenSet.{SetValue, AreOpen, has_set}
-use Rattle.sms_join.specs.JoinerValue.{JoinerValue}
-use Rattle.sms_join.specs.Sets.{is_open}
+use Rattle.sms_join.specs.Joiner.Same.{IsSame}
+use Rattle.sms_join.specs.Inside.LastKeys.{LastKeysValue}
+use Rattle.sms_join.specs.Inside.OpenSet.{SetValue, AreOpen, has_set}
+use Rattle.sms_join.specs.Joiner.Value.{JoinerValue}
+use Rattle.sms_join.specs.Joiner.Sets.{is_open}
 use Rattle.sms_join.proofs.Few.{one_more_after}
 use Rattle.sms_join.proofs.Places.{none_open}
 use Rattle.sms_join.proofs.Outcomes.{joiner_of}

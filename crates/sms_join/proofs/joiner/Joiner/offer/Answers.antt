@@ -6,13 +6,13 @@ use Rattle.std.specs.String.{string_bytes}
 use Rattle.sms_join.specs.declared.key.Key.{Key}
 use Rattle.sms_join.specs.declared.offer.Offer.TheVariants as offers
 use Rattle.sms_join.specs.Piece.{piece_of, key_of, sequence_of}
-use Rattle.sms_join.specs.Sets.{is_open}
+use Rattle.sms_join.specs.Joiner.Sets.{is_open}
 use Rattle.sms_join.specs.Joiner.{Joiner, offered}
-use Rattle.sms_join.specs.JoinerValue.{JoinerValue}
-use Rattle.sms_join.specs.Same.{IsSame}
-use Rattle.sms_join.specs.LastKeys.{LastKeysValue}
-use Rattle.sms_join.specs.OpenSet.{with_piece}
-use Rattle.sms_join.specs.Offering.{Says}
+use Rattle.sms_join.specs.Joiner.Value.{JoinerValue}
+use Rattle.sms_join.specs.Joiner.Same.{IsSame}
+use Rattle.sms_join.specs.Inside.LastKeys.{LastKeysValue}
+use Rattle.sms_join.specs.Inside.OpenSet.{with_piece}
+use Rattle.sms_join.specs.Joiner.Offering.{Says}
 use Rattle.sms_join.proofs.SetPieces.{others_closed}
 use Rattle.sms_join.proofs.Few.{as_many_after, fewer_after}
 use Rattle.sms_join.proofs.Places.{none_found}

@@ -1,7 +1,7 @@
 -- Each set is counted once.
 use Rattle.std.proofs.Common.{sym, ap, ◌∙◌}
-use Rattle.sms_join.specs.JoinerValue.{JoinerValue}
-use Rattle.sms_join.specs.Sets.{open_sets}
+use Rattle.sms_join.specs.Joiner.Value.{JoinerValue}
+use Rattle.sms_join.specs.Joiner.Sets.{open_sets}
 use Rattle.sms_join.proofs.OneSet.{sets_count}
 use Rattle.sms_join.proofs.joiner.Joiner.open_count.Goals as goal
 

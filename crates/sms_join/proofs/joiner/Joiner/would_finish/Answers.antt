@@ -3,8 +3,8 @@ use Rattle.std.proofs.Common.{◌≡◌, false, not, [], refl, sym, ap, ◌∙�
 use Rattle.std.specs.Prelude.{◌==◌}
 use Rattle.sms_join.specs.declared.units.Units.TheVariants.{Gsm}
 use Rattle.sms_join.specs.Piece.{Piece, piece_of, key_of}
-use Rattle.sms_join.specs.JoinerValue.{JoinerValue}
-use Rattle.sms_join.specs.Finishing.{would_finish}
+use Rattle.sms_join.specs.Joiner.Value.{JoinerValue}
+use Rattle.sms_join.specs.Joiner.Finishing.{would_finish}
 use Rattle.sms_join.proofs.Places.{none_found}
 use Rattle.sms_join.proofs.Outcomes.{joiner_of, remembered_repeats}
 use Rattle.sms_join.proofs.Offers.{in_place, size_is, knows, known_place}

@@ -1,7 +1,7 @@
 use Rattle.std.proofs.Common.{◌∙◌, sym, ap}
 use Rattle.sms_join.specs.Piece.{key_of}
 use Rattle.sms_join.specs.Joiner.{is_among}
-use Rattle.sms_join.specs.LastKeys.{LastKeysValue}
+use Rattle.sms_join.specs.Inside.LastKeys.{LastKeysValue}
 use Rattle.sms_join.proofs.Places.{among_any, among_reversed}
 use Rattle.sms_join.proofs.last_keys.LastKeys.contains.Goals as goal
 

@@ -1,5 +1,5 @@
 use Rattle.std.proofs.Common.{◌≡◌, ◌∷◌, take, reverse, subst}
-use Rattle.sms_join.specs.LastKeys.{LastKeysValue}
+use Rattle.sms_join.specs.Inside.LastKeys.{LastKeysValue}
 use Rattle.sms_join.proofs.Places.{ring_pushed}
 use Rattle.sms_join.proofs.last_keys.LastKeys.push.Goals as goal
 

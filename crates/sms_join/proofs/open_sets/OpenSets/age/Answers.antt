@@ -2,8 +2,8 @@ use Rattle.std.proofs.Common.{rules, ◌≡◌, ◌+◌, not, nat_le, sym, ap, �
 use Rattle.std.specs.List.{filter}
 use Rattle.indexmap.proofs.CallerLemmas.{filter-RetainsPairs}
 use Rattle.sms_join.specs.declared.key.Key.{Key}
-use Rattle.sms_join.specs.OpenSet.{SetValue}
-use Rattle.sms_join.specs.Slots.{SlotValue, AreSlots, sets_of}
+use Rattle.sms_join.specs.Inside.OpenSet.{SetValue}
+use Rattle.sms_join.specs.Inside.Slots.{SlotValue, AreSlots, sets_of}
 use Rattle.sms_join.proofs.Slots.{sets_filtered, slots_filtered}
 use Rattle.sms_join.proofs.open_sets.OpenSets.age.Goals as goal
 

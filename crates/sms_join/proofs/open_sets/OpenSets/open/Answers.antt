@@ -1,6 +1,6 @@
 use Rattle.std.proofs.Common.{◌≡◌, ◌≤◌, false, List, [], ◌∷◌, ◌++◌, length, sym, ap, ◌∙◌, subst}
-use Rattle.sms_join.specs.OpenSet.{SetValue, has_set}
-use Rattle.sms_join.specs.Slots.{SlotValue, AreSlots, set_of, sets_of}
+use Rattle.sms_join.specs.Inside.OpenSet.{SetValue, has_set}
+use Rattle.sms_join.specs.Inside.Slots.{SlotValue, AreSlots, set_of, sets_of}
 use Rattle.sms_join.proofs.Slots.{opened_last, slots_more, sets_more, set_first, first_length}
 use Rattle.sms_join.proofs.open_sets.OpenSets.open.Goals as goal
 

@@ -1,8 +1,8 @@
 use Rattle.std.proofs.Common.{◌≡◌, ◌-◌, ◌≤◌, false, List, length, Some, sym, ap, ◌∙◌, subst}
 use Rattle.std.proofs.Math.ListN.{set}
 use Rattle.indexmap.specs.IndexMap.{set_value_at}
-use Rattle.sms_join.specs.OpenSet.{SetValue, is_in, with_piece}
-use Rattle.sms_join.specs.Slots.{SlotValue, At, HasPlace, filled_from, set_of, sets_of}
+use Rattle.sms_join.specs.Inside.OpenSet.{SetValue, is_in, with_piece}
+use Rattle.sms_join.specs.Inside.Slots.{SlotValue, At, HasPlace, filled_from, set_of, sets_of}
 use Rattle.sms_join.proofs.Slots.{place_in, place_at, missing_at, places_length, slots_stay, set_changes, set_more}
 use Rattle.sms_join.proofs.open_sets.OpenSets.put.Goals as goal
 

@@ -1,7 +1,7 @@
 use Rattle.std.proofs.Common.{◌≡◌, ℕ, ◌<◌, List, length, sym, ap, ◌∙◌, subst}
 use Rattle.std.specs.List.{remove}
-use Rattle.sms_join.specs.OpenSet.{SetValue}
-use Rattle.sms_join.specs.Slots.{At, AreSlots, sets_of}
+use Rattle.sms_join.specs.Inside.OpenSet.{SetValue}
+use Rattle.sms_join.specs.Inside.Slots.{At, AreSlots, sets_of}
 use Rattle.sms_join.proofs.Slots.{sets_length, sets_without, slots_without, entry_there, key_at}
 use Rattle.sms_join.proofs.open_sets.OpenSets.remove.Goals as goal
 

@@ -2,11 +2,11 @@ use Rattle.std.proofs.Common.{◌≡◌, ℕ, ◌<◌, ◌≤◌, true, List, le
 use Rattle.std.proofs.lemmas.Result.{IfOk-weaker}
 use Rattle.std.specs.Str.{chars}
 use Rattle.std.specs.String.{string_bytes}
-use Rattle.sms_join.specs.Finishing.{lacks_only}
+use Rattle.sms_join.specs.Joiner.Finishing.{lacks_only}
 use Rattle.sms_join.specs.Key.{maximum_of}
-use Rattle.sms_join.specs.OpenSet.{SetValue, with_piece}
+use Rattle.sms_join.specs.Inside.OpenSet.{SetValue, with_piece}
 use Rattle.sms_join.specs.Reading.{text_of_segments}
-use Rattle.sms_join.specs.Slots.{At, filled_with}
+use Rattle.sms_join.specs.Inside.Slots.{At, filled_with}
 use Rattle.sms_join.proofs.Slots.{sets_length, at_slot, text_more}
 use Rattle.sms_join.proofs.open_sets.OpenSets.text_with.Goals as goal
 

@@ -4,7 +4,7 @@ use Rattle.sms_tpdu.specs.UserData.Concatenation.{IsConcatOf}
 use Rattle.sms_tpdu.specs.declared.user_data.concat.Width.{Width}
 use Rattle.sms_tpdu.specs.declared.user_data.concat.Concat.{Concat}
 use Rattle.sms_join.specs.declared.segment.Segment.{Segment}
-use Rattle.sms_join.specs.SegmentUser.{HasRange, TellsPlace, body_of, header_of}
+use Rattle.sms_join.specs.Segments.User.{HasRange, TellsPlace, body_of, header_of}
 use Rattle.sms_join.proofs.Sendable.{segment_fits}
 use Rattle.sms_join.proofs.segment.SegmentView.user.Goals as goal
 

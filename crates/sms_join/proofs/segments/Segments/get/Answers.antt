@@ -3,7 +3,7 @@ use Rattle.std.specs.Prelude.{slice_get}
 use Rattle.std.proofs.lemmas.Option.{get_or_from_slice_get}
 use Rattle.sms_join.specs.declared.segment.Segment.{Segment}
 use Rattle.sms_join.specs.UnitsOfText.{numbers}
-use Rattle.sms_join.specs.SegmentsValue.{part_of, start_at}
+use Rattle.sms_join.specs.Inside.SegmentsAt.{part_of, start_at}
 use Rattle.sms_join.proofs.Ends.{length-segments_from, segment_at, no_segment_at, piece_inside}
 use Rattle.sms_join.proofs.segments.Segments.get.Goals as goal
 

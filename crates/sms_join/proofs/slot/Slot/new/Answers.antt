@@ -1,7 +1,7 @@
 use Rattle.std.proofs.Common.{◌-◌, ◌<◌, List, length, Option, Some, sym, ap, ◌∙◌, arith}
 use Rattle.std.proofs.Math.ListN.{set}
 use Rattle.sms_join.specs.declared.units.Units.{Units}
-use Rattle.sms_join.specs.Slots.{filled}
+use Rattle.sms_join.specs.Inside.Slots.{filled}
 use Rattle.sms_join.proofs.Slots.{first_units}
 use Rattle.sms_join.proofs.slot.Slot.new.Goals as goal
 

@@ -1,7 +1,7 @@
 use Rattle.std.proofs.Common.{◌≡◌, ◌-◌, ◌≤◌, false, List, length, Option, ap, ◌∙◌, arith, rules}
 use Rattle.sms_join.specs.declared.units.Units.{Units}
-use Rattle.sms_join.specs.OpenSet.{is_in}
-use Rattle.sms_join.specs.Slots.{SlotValue, filled, filled_from}
+use Rattle.sms_join.specs.Inside.OpenSet.{is_in}
+use Rattle.sms_join.specs.Inside.Slots.{SlotValue, filled, filled_from}
 use Rattle.sms_join.proofs.Slots.{filled_few, filled_more}
 use Rattle.sms_join.proofs.slot.Slot.put.Goals as goal
 

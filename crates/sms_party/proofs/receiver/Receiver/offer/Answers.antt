@@ -4,7 +4,7 @@ use Rattle.std.specs.String.{string_bytes}
 use Rattle.sms_join.specs.declared.offer.Offer.{Offer}
 use Rattle.sms_join.specs.declared.offer.OfferFault.{OfferFault}
 use Rattle.sms_join.specs.Piece.{Piece, piece_of}
-use Rattle.sms_join.specs.Offering.{Says}
+use Rattle.sms_join.specs.Joiner.Offering.{Says}
 use Rattle.sms_message.specs.declared.outcome.Step.{Step}
 use Rattle.sms_message.specs.declared.outcome.Outcome.TheVariants as outcome
 use Rattle.sms_party.specs.Receiver.State.{Entry}
@@ -17,7 +17,7 @@ returns-in-Ok-Repeat-clause-steps c = λ limits s origin stands.
     let p : Piece = piece_of c.args.now c.args.origin c.args.stamp c.args.concat c.args.units in
     let v : ReceiverValue = record { limit = c.self.inside.limit; joiner = c.self.inside.joiner; store = c.self.inside.store.items } in
     let step : Step = record { outcome = outcome.Repeat; packets = c.in_ok-packets.packets } in
-    is_repeated (record { alike = c.answers_alike.ensures; finishes = c.answer_finishes.ensures; same = c.same_is_equivalence.ensures }) limits v s
+    is_repeated c.laws_of_joiners.ensures limits v s
     (subst (λ (w : ReceiverValue). StandsFor limits w s) (sym c.self.view_is) stands) p c.args.tag c.args.origin origin
     (subst (λ (w : ReceiverValue). Room w p) (sym c.self.view_is) c.requires.room)
     (record { limit = c.self.inside.limit; joiner = c.offer.new.self; store = c.make_room.new.store.items }) refl c.in-Ok-Repeat.ensures.limits c.in-Ok-Repeat.ensures.holds
@@ -29,7 +29,7 @@ returns-in-Ok-Kept-clause-steps c = λ limits s origin stands.
     let p : Piece = piece_of c.args.now c.args.origin c.args.stamp c.args.concat c.args.units in
     let v : ReceiverValue = record { limit = c.self.inside.limit; joiner = c.self.inside.joiner; store = c.self.inside.store.items } in
     let step : Step = record { outcome = outcome.Kept; packets = c.in_ok-packets.packets } in
-    is_kept (record { alike = c.answers_alike.ensures; finishes = c.answer_finishes.ensures; same = c.same_is_equivalence.ensures }) limits v s
+    is_kept c.laws_of_joiners.ensures limits v s
     (subst (λ (w : ReceiverValue). StandsFor limits w s) (sym c.self.view_is) stands) p c.args.tag c.args.origin origin
     (subst (λ (w : ReceiverValue). Room w p) (sym c.self.view_is) c.requires.room)
     (record { limit = c.self.inside.limit; joiner = c.offer.new.self; store = c.make_room.new.store.items }) refl c.in-Ok-Kept.ensures.limits c.in-Ok-Kept.ensures.holds
@@ -41,7 +41,7 @@ returns-in-Ok-Finished-clause-steps c = λ limits s origin stands.
     let p : Piece = piece_of c.args.now c.args.origin c.args.stamp c.args.concat c.args.units in
     let v : ReceiverValue = record { limit = c.self.inside.limit; joiner = c.self.inside.joiner; store = c.self.inside.store.items } in
     let step : Step = record { outcome = outcome.Finished; packets = c.in_ok-packets.packets } in
-    is_stored (record { alike = c.answers_alike.ensures; finishes = c.answer_finishes.ensures; same = c.same_is_equivalence.ensures }) limits v s
+    is_stored c.laws_of_joiners.ensures limits v s
     (subst (λ (w : ReceiverValue). StandsFor limits w s) (sym c.self.view_is) stands) p c.args.tag c.args.origin origin
     (subst (λ (w : ReceiverValue). Room w p) (sym c.self.view_is) c.requires.room)
     (record { limit = c.self.inside.limit; joiner = c.offer.new.self; store = c.push_reserved.new.self.items }) refl c.in-Ok-Finished.ensures.limits c.in-Ok-Finished.ensures.holds
@@ -54,7 +54,7 @@ pub returns-in-Err-TooManyOpen-clause-steps : goal.returns-in-Err-TooManyOpen-cl
 returns-in-Err-TooManyOpen-clause-steps c = λ limits s origin stands.
     let p : Piece = piece_of c.args.now c.args.origin c.args.stamp c.args.concat c.args.units in
     let v : ReceiverValue = record { limit = c.self.inside.limit; joiner = c.self.inside.joiner; store = c.self.inside.store.items } in
-    is_over (record { alike = c.answers_alike.ensures; finishes = c.answer_finishes.ensures; same = c.same_is_equivalence.ensures }) limits v s
+    is_over c.laws_of_joiners.ensures limits v s
     (subst (λ (w : ReceiverValue). StandsFor limits w s) (sym c.self.view_is) stands) p c.args.tag c.args.origin origin
     (subst (λ (w : ReceiverValue). Room w p) (sym c.self.view_is) c.requires.room)
     (record { limit = c.self.inside.limit; joiner = c.offer.new.self; store = c.make_room.new.store.items })

@@ -1,24 +1,18 @@
-use Rattle.std.proofs.Common.{sym, ap, subst, ◌∙◌, Err}
-use Rattle.sms_relay.specs.declared.side.Side.{Side}
-use Rattle.sms_message.specs.declared.message.Relay.{Relay}
-use Rattle.sms_message.specs.declared.message.Relay.TheVariants.{Transfer}
-use Rattle.sms_message.specs.declared.outcome.Dropped.TheVariants.{Unmatched}
-use Rattle.sms_party.specs.Receiver.{receiver_opened}
+use Rattle.std.proofs.Common.{Result, sym, subst, ◌∙◌}
+use Rattle.sms_message.specs.declared.message.TransferUnit.{TransferUnit}
+use Rattle.sms_message.specs.declared.request.NotTaken.{NotTaken}
+use Rattle.sms_party.specs.Receiver.{requested, receiver_opened}
 use Rattle.sms_party.specs.Receiver.Standing.{ReceiverAnswers}
-use Rattle.sms_party.proofs.Storing.{nothing_comes}
 use Rattle.sms_party.proofs.receiver.Receiver.take_request.Goals as goal
 
-pub returns-in-FromPhone-clause-steps : goal.returns-in-FromPhone-clause-steps
+pub returns-in-Ok-clause-steps : goal.returns-in-Ok-clause-steps
 unfolding receiver_opened
-returns-in-FromPhone-clause-steps c = λ limits s origin stands.
-    subst (λ (r : Relay). ReceiverAnswers limits s (receiver_opened limits s c.args.now c.args.tag r origin) (Err Unmatched) c.args.self.now) (sym (c.in-Transfer.is ∙ ap (λ (x : Side). Transfer x c.in-Transfer.unit) c.in-FromPhone.is))
-    (nothing_comes limits c.args.self.now s stands)
-
-pub returns-in-ToPhone-clause-steps : goal.returns-in-ToPhone-clause-steps
-unfolding receiver_opened
-returns-in-ToPhone-clause-steps c = λ limits s origin stands.
-    subst (λ (r : Relay). ReceiverAnswers limits s (receiver_opened limits s c.args.now c.args.tag r origin) c.take_unit.result c.take_unit.new.self) (sym (c.in-Transfer.is ∙ ap (λ (x : Side). Transfer x c.in-Transfer.unit) c.in-ToPhone.is))
+returns-in-Ok-clause-steps c = λ limits s origin stands.
+    subst (λ (r : Result TransferUnit NotTaken). ReceiverAnswers limits s (requested limits s c.args.now c.args.tag origin r) c.take_unit.result c.take_unit.new.self) (sym c.in-Ok.is ∙ c.unit_from.ensures.unit)
     (c.take_unit.ensures.steps limits s origin stands)
 
-pub returns-in_default-clause-steps : goal.returns-in_default-clause-steps
-returns-in_default-clause-steps c = c.refuse-step.ensures
+pub returns-in-Err-clause-steps : goal.returns-in-Err-clause-steps
+unfolding receiver_opened
+returns-in-Err-clause-steps c = λ limits s origin stands.
+    subst (λ (r : Result TransferUnit NotTaken). ReceiverAnswers limits s (requested limits s c.args.now c.args.tag origin r) c.turn_away.result c.args.self.now) (sym c.in-Err.is ∙ c.unit_from.ensures.unit)
+    (c.turn_away.ensures limits s origin stands)

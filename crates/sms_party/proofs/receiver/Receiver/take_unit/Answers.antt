@@ -1,30 +1,18 @@
-use Rattle.std.proofs.Common.{sym, subst}
-use Rattle.sms_message.specs.declared.message.TransferUnit.{TransferUnit}
-use Rattle.sms_party.specs.Receiver.{receiver_takes}
+use Rattle.std.proofs.Common.{Result, sym, subst, ◌∙◌}
+use Rattle.sms_tpdu.specs.Deliver.{Delivery}
+use Rattle.sms_message.specs.declared.request.NotTaken.{NotTaken}
+use Rattle.sms_party.specs.Receiver.{delivered, receiver_takes}
 use Rattle.sms_party.specs.Receiver.Standing.{ReceiverAnswers}
-use Rattle.sms_party.proofs.Storing.{puts_answer}
 use Rattle.sms_party.proofs.receiver.Receiver.take_unit.Goals as goal
 
-pub returns-in-Deliver-clause-steps : goal.returns-in-Deliver-clause-steps
+pub returns-in-Ok-clause-steps : goal.returns-in-Ok-clause-steps
 unfolding receiver_takes
-returns-in-Deliver-clause-steps c = λ limits s origin stands.
-    subst (λ (u : TransferUnit). ReceiverAnswers limits s (receiver_takes limits s c.args.now c.args.tag u origin) c.take_delivery.result c.take_delivery.new.self) (sym c.in-Deliver.is)
+returns-in-Ok-clause-steps c = λ limits s origin stands.
+    subst (λ (r : Result Delivery NotTaken). ReceiverAnswers limits s (delivered limits s c.args.now c.args.tag origin r) c.take_delivery.result c.take_delivery.new.self) (sym c.in-Ok.is ∙ c.delivery_from.ensures.delivery)
     (c.take_delivery.ensures.steps limits s origin stands)
 
-pub returns-in-Submit-clause-steps : goal.returns-in-Submit-clause-steps
+pub returns-in-Err-clause-steps : goal.returns-in-Err-clause-steps
 unfolding receiver_takes
-returns-in-Submit-clause-steps c = λ limits s origin stands.
-    subst (λ (u : TransferUnit). ReceiverAnswers limits s (receiver_takes limits s c.args.now c.args.tag u origin) c.refusal.result c.args.self.now) (sym c.in-Submit.is)
-    (puts_answer limits c.args.self.now s _ _ c.refusal.result stands c.refusal.ensures)
-
-pub returns-in-OtherUnit-clause-steps : goal.returns-in-OtherUnit-clause-steps
-unfolding receiver_takes
-returns-in-OtherUnit-clause-steps c = λ limits s origin stands.
-    subst (λ (u : TransferUnit). ReceiverAnswers limits s (receiver_takes limits s c.args.now c.args.tag u origin) c.refusal-in-OtherUnit.result c.args.self.now) (sym c.in-OtherUnit.is)
-    (puts_answer limits c.args.self.now s _ _ c.refusal-in-OtherUnit.result stands c.refusal-in-OtherUnit.ensures)
-
-pub returns-clause-steps : goal.returns-clause-steps
-unfolding receiver_takes
-returns-clause-steps c = λ limits s origin stands.
-    subst (λ (u : TransferUnit). ReceiverAnswers limits s (receiver_takes limits s c.args.now c.args.tag u origin) c.refusal-in-BadUnit.result c.args.self.now) (sym c.in-BadUnit.is)
-    (puts_answer limits c.args.self.now s _ _ c.refusal-in-BadUnit.result stands c.refusal-in-BadUnit.ensures)
+returns-in-Err-clause-steps c = λ limits s origin stands.
+    subst (λ (r : Result Delivery NotTaken). ReceiverAnswers limits s (delivered limits s c.args.now c.args.tag origin r) c.turn_away.result c.args.self.now) (sym c.in-Err.is ∙ c.delivery_from.ensures.delivery)
+    (c.turn_away.ensures limits s origin stands)

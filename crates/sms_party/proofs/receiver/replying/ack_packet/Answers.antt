@@ -1,6 +1,6 @@
-use Rattle.sms_tpdu.specs.Report.DeliverAck.{SpellsDeliverAck}
-use Rattle.sms_tpdu.specs.SizeLaws.{deliver_ack_within}
-use Rattle.sms_message.specs.Short.{not_long}
+use Rattle.sms_tpdu.specs.Report.{SpellsDeliverAck}
+use Rattle.sms_tpdu.specs.Inside.SizeLaws.{deliver_ack_within}
+use Rattle.sms_message.specs.Inside.Short.{not_long}
 use Rattle.sms_party.proofs.receiver.replying.ack_packet.Goals as goal
 
 pub wrapped-requires : goal.wrapped-requires

@@ -3,7 +3,8 @@ use Rattle.std.specs.Global.{Global}
 use Rattle.sms_message.specs.declared.message.Message.{Message}
 use Rattle.sms_party.specs.declared.sender.Status.{Status}
 use Rattle.sms_message.specs.declared.outcome.Outcome.TheVariants as outcome
-use Rattle.sms_party.specs.Sender.Value.{TextValue, SenderValue, first_put, counted, entered, next_set}
+use Rattle.sms_party.specs.Sender.Value.{TextValue, SenderValue}
+use Rattle.sms_party.specs.Inside.Sender.{first_put, counted, entered, next_set}
 use Rattle.sms_party.proofs.SenderParts.{are_out}
 use Rattle.sms_party.proofs.sender.Sender.append.Goals as goal
 

@@ -5,7 +5,8 @@ use Rattle.std.specs.List.{slice_get}
 use Rattle.sms_message.specs.declared.message.Message.{Message}
 use Rattle.sms_party.specs.declared.sender.Status.{Status}
 use Rattle.sms_message.specs.Does.{CarriesEach}
-use Rattle.sms_party.specs.Sender.Value.{TextValue, SenderValue, text_put, counted, ended_with}
+use Rattle.sms_party.specs.Sender.Value.{TextValue, SenderValue}
+use Rattle.sms_party.specs.Inside.Sender.{text_put, counted, ended_with}
 use Rattle.sms_party.proofs.SenderParts.{carried, is_out, second_first}
 use Rattle.sms_party.proofs.sender.Sender.end.Goals as goal
 
@@ -13,8 +14,7 @@ pub returns-clause-did : goal.returns-clause-did
 returns-clause-did c = λ note sent.
     let messages : List Message = text_put c.args.self.now.next c.args.self.now.reject 0 (slice_get (drop 1 c.args.self.now.pending) 0) in
     let out : CarriesEach (map (λ (p : Vec ℕ Global). p.items) (option_to_list c.in_ok-submission.submission)) messages =
-    subst (λ (o : Option TextValue). CarriesEach (map (λ (p : Vec ℕ Global). p.items) (option_to_list c.in_ok-submission.submission)) (text_put c.args.self.now.next c.args.self.now.reject 0 o)) (second_first c.args.self.now.pending)
-    (subst (λ (v : SenderValue). CarriesEach (map (λ (p : Vec ℕ Global). p.items) (option_to_list c.in_ok-submission.submission)) (text_put c.args.self.now.next v.reject 0 (slice_get c.args.self.now.pending 1))) c.self.view_is c.in_ok-submission.ensures.carries) in
+    subst (λ (o : Option TextValue). CarriesEach (map (λ (p : Vec ℕ Global). p.items) (option_to_list c.in_ok-submission.submission)) (text_put c.args.self.now.next c.args.self.now.reject 0 o)) (second_first c.args.self.now.pending) c.in_ok-submission.ensures.carries in
     let left : c.pop_front.new.self.items ≡ drop 1 c.self.inside.pending.items = c.pop_front.ensures.rest in
     let more : c.push_reserved.new.self.items ≡ c.self.inside.ended.items ++ c.args.status ∷ [] = c.push_reserved.ensures.items in
     let w : List TextValue → List Status → SenderValue = λ p e. record {

@@ -1,5 +1,4 @@
-use Rattle.std.proofs.Common.{ℕ, ◌+◌, ◌<◌, ◌≡◌, ◌≢◌, ◌==◌, true, false, [], ◌∷◌, length, drop, get_or, Option, refl, sym, ap, ◌∙◌, subst, arith}
-use Rattle.std.proofs.lemmas.Bool.Decides.{nat_tests}
+use Rattle.std.proofs.Common.{ℕ, ◌+◌, ◌<◌, ◌≡◌, ◌≢◌, true, false, [], ◌∷◌, length, drop, get_or, Option, refl, sym, ap, ◌∙◌, subst, arith}
 use Rattle.sms_message.specs.declared.message.Message.TheVariants.{Note}
 use Rattle.sms_message.specs.declared.message.Tag.{Tag}
 use Rattle.sms_message.specs.declared.outcome.Outcome.{Outcome}
@@ -7,15 +6,10 @@ use Rattle.sms_message.specs.declared.outcome.Outcome.TheVariants as outcome
 use Rattle.sms_party.specs.declared.sender.Status.TheVariants.{Accepted, Failed}
 use Rattle.sms_message.specs.Message.{same_tag}
 use Rattle.sms_message.specs.Does.{Does}
-use Rattle.sms_party.specs.Sender.Value.{TextValue, SenderValue, Did, puts_out, ended_with}
+use Rattle.sms_party.specs.Sender.Value.{TextValue, SenderValue}
+use Rattle.sms_party.specs.Inside.Sender.{Did, puts_out, ended_with}
 use Rattle.sms_party.proofs.SenderSteps.{heard_failed, heard_more, heard_last}
 use Rattle.sms_party.proofs.sender.Sender.hear.Goals as goal
-
-same_parts : (a b : Tag) → a.value ≡ b.value → a.reference ≡ b.reference → same_tag a b ≡ true
-same_parts a b e f =
-    let g : (a.value == b.value) ≡ true = grind (arith, nat_tests) in
-    let h : (a.reference == b.reference) ≡ true = grind (arith, nat_tests) in
-    rw (g, h) refl
 
 some_pending : (m n k : ℕ) → 0 < m → m ≡ n → n ≡ k → k ≢ 0
 some_pending m n k h e f g = omega arith
@@ -28,7 +22,7 @@ returns-then-not-accepts-clause-did c =
     let number : c.len-text.result ≡ length c.args.self.now.ended = c.len-text.ensures ∙ (c.self.inside.ended.ok.0 ∙ ap (λ (v : SenderValue). length v.ended) c.self.view_is) in
     let latest : c.self.inside.latest ≡ c.args.self.now.latest = ap (λ (v : SenderValue). v.latest) c.self.view_is in
     heard_failed (λ (d : Does SenderValue). Did d c.args.self.now c.end.result c.end.new.self) c.args.self.now c.args.tag c.args.cause c.args.report.now
-    (ap (λ (t : Tag). same_tag c.args.tag t) (sym latest) ∙ same_parts c.args.tag c.self.inside.latest c.if-tag-self.false c.if-tag-self-2.false) c.in-Some.first.now c.args.self.now.pending
+    (ap (λ (t : Tag). same_tag c.args.tag t) (sym latest) ∙ sym c.is_same.ensures ∙ c.if-not-is_same.false) c.in-Some.first.now c.args.self.now.pending
     (some_pending _ _ _ (c.in-Some.ensures.variant.0 refl) c.self.inside.pending.ok.0 (ap (λ (v : SenderValue). length v.pending) c.self.view_is))
     (sym c.accepts.ensures ∙ c.if-not-accepts.true)
     (subst (λ (o : Outcome). Did (puts_out (ended_with c.args.self.now (drop 1 c.args.self.now.pending) Failed) c.args.self.now.reject o (Note false c.args.tag.value ∷ [])) c.args.self.now c.end.result c.end.new.self)
@@ -41,7 +35,7 @@ returns-then-more-clause-did c =
     let accepted : c.from.result ≡ c.args.self.now.accepted = c.from.ensures ∙ ap (λ (v : SenderValue). v.accepted) c.self.view_is in
     let size : c.len.result ≡ length c.in-Some.first.now.segments = c.len.ensures.count ∙ ap (λ (t : TextValue). length t.segments) c.first.view_is in
     heard_more (λ (d : Does SenderValue). Did d c.args.self.now c.go_on.result c.go_on.new.self) c.args.self.now c.args.tag c.args.cause c.args.report.now
-    (ap (λ (t : Tag). same_tag c.args.tag t) (sym latest) ∙ same_parts c.args.tag c.self.inside.latest c.if-tag-self.false c.if-tag-self-2.false) c.in-Some.first.now c.args.self.now.pending
+    (ap (λ (t : Tag). same_tag c.args.tag t) (sym latest) ∙ sym c.is_same.ensures ∙ c.if-not-is_same.false) c.in-Some.first.now c.args.self.now.pending
     (some_pending _ _ _ (c.in-Some.ensures.variant.0 refl) c.self.inside.pending.ok.0 (ap (λ (v : SenderValue). length v.pending) c.self.view_is))
     (subst (λ (v : SenderValue). c.in-Some.first.now ≡ get_or v.pending 0 c.in-Some.first.now) c.self.view_is c.in-Some.ensures.lookup)
     (sym c.accepts.ensures ∙ c.if-not-accepts.false)
@@ -55,7 +49,7 @@ returns-else-more-clause-did c =
     let accepted : c.from.result ≡ c.args.self.now.accepted = c.from.ensures ∙ ap (λ (v : SenderValue). v.accepted) c.self.view_is in
     let size : c.len.result ≡ length c.in-Some.first.now.segments = c.len.ensures.count ∙ ap (λ (t : TextValue). length t.segments) c.first.view_is in
     heard_last (λ (d : Does SenderValue). Did d c.args.self.now c.end-else-more.result c.end-else-more.new.self) c.args.self.now c.args.tag c.args.cause c.args.report.now
-    (ap (λ (t : Tag). same_tag c.args.tag t) (sym latest) ∙ same_parts c.args.tag c.self.inside.latest c.if-tag-self.false c.if-tag-self-2.false) c.in-Some.first.now c.args.self.now.pending
+    (ap (λ (t : Tag). same_tag c.args.tag t) (sym latest) ∙ sym c.is_same.ensures ∙ c.if-not-is_same.false) c.in-Some.first.now c.args.self.now.pending
     (some_pending _ _ _ (c.in-Some.ensures.variant.0 refl) c.self.inside.pending.ok.0 (ap (λ (v : SenderValue). length v.pending) c.self.view_is))
     (subst (λ (v : SenderValue). c.in-Some.first.now ≡ get_or v.pending 0 c.in-Some.first.now) c.self.view_is c.in-Some.ensures.lookup)
     (sym c.accepts.ensures ∙ c.if-not-accepts.false)

@@ -1,5 +1,5 @@
 use Rattle.std.proofs.Common.{arith}
-use Rattle.sms_field.specs.OctetLists.{octets_are}
+use Rattle.sms_field.specs.Inside.OctetLists.{octets_are}
 use Rattle.sms_party.proofs.Passing.{sender_received, err_same}
 use Rattle.sms_party.proofs.sender.Sender.receive.Goals as goal
 

@@ -7,7 +7,7 @@ use Rattle.sms_message.specs.Does.{Answered}
 use Rattle.sms_party.specs.Sender.Answers.{sender_receives}
 use Rattle.sms_party.specs.Sender.Stands.{SenderStands, in_messages}
 use Rattle.sms_party.proofs.SenderSteps.{carried_over, heard, nothing_comes}
-use Rattle.sms_party.specs.Sender.Value.{hears_at}
+use Rattle.sms_party.specs.Inside.Sender.{hears_at}
 use Rattle.sms_party.proofs.SenderFew.{few_did, hears_few}
 use Rattle.sms_party.proofs.sender.Sender.take_answer.Goals as goal
 

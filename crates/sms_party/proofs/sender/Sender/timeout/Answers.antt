@@ -3,7 +3,8 @@ use Rattle.sms_message.specs.declared.outcome.Outcome.TheVariants.{Idle, GaveUp,
 use Rattle.sms_message.specs.declared.outcome.Step.{Step}
 use Rattle.sms_party.specs.declared.sender.Status.TheVariants.{Failed}
 use Rattle.sms_message.specs.Does.{Does}
-use Rattle.sms_party.specs.Sender.Value.{SenderValue, Did, puts_out, puts_again, ends_first, repeated, ended_with}
+use Rattle.sms_party.specs.Sender.Value.{SenderValue}
+use Rattle.sms_party.specs.Inside.Sender.{Did, puts_out, puts_again, ends_first, repeated, ended_with}
 use Rattle.sms_party.proofs.SenderParts.{is_some_number, is_none, no_packets}
 use Rattle.sms_party.proofs.SenderSteps.{carried_over, late, late_none, late_again, late_end}
 use Rattle.sms_party.proofs.SenderFew.{few_did, out_few}

@@ -2,7 +2,8 @@ use Rattle.std.proofs.Common.{◌≡◌, ◌<◌, List, length, Err, ap, ◌∙�
 use Rattle.std.specs.Str.{chars}
 use Rattle.sms_join.specs.declared.units.Units.{Units}
 use Rattle.sms_join.specs.Cut.{IsCut}
-use Rattle.sms_party.specs.Sender.Value.{TextValue, SenderValue, Did, enters}
+use Rattle.sms_party.specs.Sender.Value.{TextValue, SenderValue}
+use Rattle.sms_party.specs.Inside.Sender.{Did, enters}
 use Rattle.sms_party.proofs.SenderSteps.{busy, types_so, refused_so, is_err_so}
 use Rattle.sms_party.proofs.SenderFew.{few_did, enters_few, waiting_did}
 use Rattle.sms_party.proofs.sender.Sender.type_text.Goals as goal

@@ -1,6 +1,6 @@
 use Rattle.sms_tpdu.specs.Submit.{SpellsSubmit}
-use Rattle.sms_tpdu.specs.SizeLaws.{submit_within}
-use Rattle.sms_message.specs.Short.{not_long}
+use Rattle.sms_tpdu.specs.Inside.SizeLaws.{submit_within}
+use Rattle.sms_message.specs.Inside.Short.{not_long}
 use Rattle.sms_party.proofs.sender.typed_text.submission_packet.Goals as goal
 
 pub wrapped-requires : goal.wrapped-requires

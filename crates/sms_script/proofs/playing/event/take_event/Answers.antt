@@ -2,7 +2,7 @@ use Rattle.std.proofs.Common.{◌≡◌, ◌∙◌, ◌+◌, subst, length, drop
 use Rattle.std.proofs.lemmas.Result.{err_from_is_err_and}
 use Rattle.sms_script.proofs.PacketLemmas.{packets_after}
 use Rattle.sms_script.proofs.PutLemmas.{Appends-none, at_once}
-use Rattle.sms_script.specs.Play.Events.{event_text}
+use Rattle.sms_script.specs.Inside.Events.{event_text}
 use Rattle.sms_script.specs.Play.Puts.{PutsAtOnce}
 use Rattle.sms_script.proofs.playing.event.take_event.Goals as goal
 

@@ -1,7 +1,7 @@
 use Rattle.std.proofs.Common.{◌∙◌, ◌+◌, ap, sym, subst, refl, Some, Ok, Err, inl, inr, Result}
 use Rattle.std.proofs.lemmas.Result.{err_from_is_err_and}
 use Rattle.sms_script.proofs.LineTurns.{event_answered}
-use Rattle.sms_script.specs.Play.Standing.{at, GoesOn}
+use Rattle.sms_script.specs.Inside.Standing.{at, GoesOn}
 use Rattle.sms_script.specs.declared.fault.PlayFault.{PlayFault}
 use Rattle.sms_script.proofs.playing.line.play_event.Goals as goal
 

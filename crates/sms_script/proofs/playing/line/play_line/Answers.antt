@@ -4,7 +4,7 @@ use Rattle.sms_script.proofs.LineTurns.{nothing_goes_on, take_fails}
 use Rattle.sms_script.proofs.RunLemmas.{lines_after}
 use Rattle.sms_script.specs.Script.{TakesLine}
 use Rattle.sms_script.specs.Script.Settings.{SettingsValue}
-use Rattle.sms_script.specs.Play.Standing.{at, Stands, GoesOn}
+use Rattle.sms_script.specs.Inside.Standing.{at, Stands, GoesOn}
 use Rattle.sms_script.specs.declared.fault.PlayFault.{PlayFault}
 use Rattle.sms_script.specs.declared.meaning.event.Event.{Event}
 use Rattle.sms_script.proofs.playing.line.play_line.Goals as goal

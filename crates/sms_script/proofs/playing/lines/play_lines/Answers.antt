@@ -4,9 +4,9 @@ use Rattle.sms_script.specs.Lines.{lines}
 use Rattle.sms_script.specs.Lines.Reading.{ReadsLine}
 use Rattle.sms_script.specs.declared.lines.LineEnd.TheVariants as line_ends
 use Rattle.sms_script.proofs.LoopTurns.{loop_starts, loop_turn, loop_fails, loop_lasts, loop_ends, loop_unread, not_read}
-use Rattle.sms_script.specs.Play.NextLine.{TakesNext}
+use Rattle.sms_script.specs.Inside.NextLine.{TakesNext}
 use Rattle.sms_script.specs.Script.Settings.{SettingsValue}
-use Rattle.sms_script.specs.Play.Standing.{at, PlaysLines}
+use Rattle.sms_script.specs.Inside.Standing.{at, PlaysLines}
 use Rattle.sms_script.specs.declared.fault.PlayFault.{PlayFault}
 use Rattle.sms_script.proofs.playing.lines.play_lines.Goals as goal
 

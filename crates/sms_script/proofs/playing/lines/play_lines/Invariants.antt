@@ -1,6 +1,6 @@
 use Rattle.std.proofs.Common.{◌≡◌, ◌≤◌, ◌-◌, false}
 use Rattle.sms_script.proofs.LoopTurns.{LoopAt}
-use Rattle.sms_script.specs.Play.Standing.{at}
+use Rattle.sms_script.specs.Inside.Standing.{at}
 use Rattle.sms_script.specs.Script.{lines_limit}
 use Rattle.sms_script.proofs.playing.lines.play_lines.Given as goal
 

@@ -1,5 +1,5 @@
 use Rattle.std.proofs.Common.{arith}
-use Rattle.sms_field.specs.OctetLists.{octets_are}
+use Rattle.sms_field.specs.Inside.OctetLists.{octets_are}
 use Rattle.sms_tpdu.proofs.report.parts.data_seen.Goals as goal
 
 pub returns-clause-fits : goal.returns-clause-fits

@@ -1,6 +1,6 @@
 use Rattle.std.proofs.Common.{arith}
 use Rattle.std.proofs.lemmas.Result.{err_from_is_err_and}
-use Rattle.sms_field.specs.ReadingLaws.{read_found, read_refused, read_exact, refused_without}
+use Rattle.sms_field.specs.Inside.ReadingLaws.{read_found, read_refused, read_exact, refused_without}
 use Rattle.sms_tpdu.proofs.unit.Unit.read.Goals as goal
 
 pub returns-in_err-unit-clause-refused : goal.returns-in_err-unit-clause-refused

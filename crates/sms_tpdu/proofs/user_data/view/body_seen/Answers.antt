@@ -1,5 +1,5 @@
 use Rattle.std.proofs.Common.{arith}
-use Rattle.sms_field.specs.OctetLists.{octets_are}
+use Rattle.sms_field.specs.Inside.OctetLists.{octets_are}
 use Rattle.sms_tpdu.proofs.BodyFits.{body_fits, no_room}
 use Rattle.sms_tpdu.proofs.user_data.view.body_seen.Goals as goal
 

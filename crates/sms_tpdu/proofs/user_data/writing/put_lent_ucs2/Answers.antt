@@ -1,6 +1,6 @@
 use Rattle.std.proofs.Common.{◌≡◌, ◌+◌, ◌*◌, ◌++◌, ◌∷◌, [], ℕ, List, length, refl, ap, ◌∙◌, append_assoc, arith}
 use Rattle.sms_text.specs.Utf16.{octets_high_first}
-use Rattle.sms_text.specs.Utf16Laws.{length-octets_high_first}
+use Rattle.sms_text.specs.Inside.Utf16Laws.{length-octets_high_first}
 use Rattle.sms_tpdu.specs.UserData.{header_octets}
 use Rattle.sms_tpdu.specs.UserData.Lent.{place_header}
 use Rattle.sms_tpdu.proofs.user_data.writing.put_lent_ucs2.Goals as goal

@@ -1,5 +1,5 @@
 use Rattle.std.proofs.Common.{◌≤◌, ◌+◌, ◌-◌, ◌/◌, ℕ, List, length, ap, arith}
-use Rattle.sms_text.specs.PackingLaws.{packed_octets, plain_is_packed}
+use Rattle.sms_text.specs.Inside.PackingLaws.{packed_octets, plain_is_packed}
 use Rattle.sms_tpdu.specs.UserData.Lengths.{fill_bits}
 use Rattle.sms_tpdu.specs.UserData.{SpellsBody}
 use Rattle.sms_tpdu.specs.declared.user_data.body.Body.TheVariants as body

@@ -1,7 +1,7 @@
 use Rattle.std.proofs.Common.{◌≡◌, List, length, Ok, refl, sym, ap, ◌∙◌, subst}
 use Rattle.sms_world.specs.Ledger.{Ledger, AreAlike}
 use Rattle.sms_world.specs.Noted.{sender_noted}
-use Rattle.sms_world.specs.NotesValue.{ledger_in, IsCounted, facts_of}
+use Rattle.sms_world.specs.Inside.NotesValue.{ledger_in, IsCounted, facts_of}
 use Rattle.sms_world.specs.World.Steps.{event_of}
 use Rattle.sms_world.proofs.Alike.{same}
 use Rattle.sms_world.proofs.MayCall.{may_call, either, when_typed, when_late, when_carried, when_pushed, when_ticked, when_injected}

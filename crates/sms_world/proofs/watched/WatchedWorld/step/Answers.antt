@@ -1,5 +1,5 @@
 use Rattle.std.proofs.Common.{◌≡◌, ◌+◌, ◌-◌, ◌^◌, min, true, None, refl, sym, ap, ◌∙◌, subst, arith}
-use Rattle.sms_world.specs.Tables.{tables_in}
+use Rattle.sms_world.specs.Inside.Tables.{tables_in}
 use Rattle.sms_world.specs.Watched.{WatchedValue, GoesOnWatched}
 use Rattle.sms_world.specs.World.Steps.{event_of}
 use Rattle.sms_world.proofs.Followed.{in_order_there, goes_on_watched, stays_watched, none_told, in_order_of}

@@ -8,7 +8,7 @@ use Rattle.sms_world.specs.Machine.{Machine}
 use Rattle.sms_world.specs.Machine.Event.{Carry}
 use Rattle.sms_world.specs.Machine.Next.{packet}
 use Rattle.sms_world.specs.World.Standing.{StandsFor}
-use Rattle.sms_world.specs.World.Parties.{Receives}
+use Rattle.sms_world.specs.Inside.Parties.{Receives}
 use Rattle.sms_world.specs.World.Value.{WorldValue}
 use Rattle.sms_world.proofs.Nowhere.{dropped_somewhere}
 use Rattle.sms_world.proofs.Happening.{brought_as, not_brought, nothing_brought, none_at_0, none_past, phone_within, ends_badly, badly_a_world, room, well_a_world, ends_well, puts_more, seen_still}

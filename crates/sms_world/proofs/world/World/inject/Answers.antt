@@ -1,5 +1,5 @@
 use Rattle.std.proofs.Common.{◌<◌, ◌≤◌, not, length, Ok, Err, subst, arith}
-use Rattle.sms_field.specs.OctetLists.{octets_are}
+use Rattle.sms_field.specs.Inside.OctetLists.{octets_are}
 use Rattle.sms_world.specs.World.Parties.{place_at}
 use Rattle.sms_world.specs.Machine.Event.{Inject}
 use Rattle.sms_world.proofs.Nowhere.{dropped_somewhere}

@@ -1,7 +1,7 @@
 use Rattle.std.proofs.Common.{◌+◌, ap, subst, ◌∙◌, arith}
 use Rattle.std.proofs.lemmas.List.{length_push}
 use Rattle.sms_party.specs.Sender.Stands.{IsNewSender}
-use Rattle.sms_world.specs.World.Phones.{IsNewPhone}
+use Rattle.sms_world.specs.Inside.Phones.{IsNewPhone}
 use Rattle.sms_world.proofs.AllOf.{all_and_one}
 use Rattle.sms_world.proofs.world.parties.new_phones.Goals as goal
 

@@ -2,7 +2,8 @@ use Rattle.std.proofs.Common.{◌≡◌, ◌≤◌, ◌<◌, true, false, List, 
 use Rattle.std.specs.Prelude.{All}
 use Rattle.std.specs.Map.{keys_of}
 use Rattle.sms_centre.specs.Centre.Value.{HeldValue}
-use Rattle.sms_centre.specs.Centre.Kept.{is_kept, AreOfMessages, IsLeftLater, ForgetsFirst}
+use Rattle.sms_centre.specs.Centre.Kept.{is_kept, IsLeftLater}
+use Rattle.sms_centre.specs.Inside.Kept.{AreOfMessages, ForgetsFirst}
 use Rattle.sms_centre.specs.declared.centre.held.Ending.{Ending}
 use Rattle.sms_centre.specs.declared.centre.held.HeldKey.{HeldKey}
 use Rattle.sms_centre.proofs.HeldMaps.{taken_first}

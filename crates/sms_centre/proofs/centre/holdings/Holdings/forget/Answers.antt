@@ -1,7 +1,7 @@
 use Rattle.std.proofs.Common.{Bool, sym, subst}
 use Rattle.sms_centre.specs.Centre.Value.{HoldingsValue}
 use Rattle.sms_centre.specs.Centre.Kept.{IsHeldLater}
-use Rattle.sms_centre.specs.Centre.Holdings.{ForgetsOne}
+use Rattle.sms_centre.specs.Inside.Holdings.{ForgetsOne}
 use Rattle.sms_centre.proofs.Holdings.{held_left}
 use Rattle.sms_centre.proofs.centre.holdings.Holdings.forget.Goals as goal
 

@@ -1,5 +1,5 @@
 use Rattle.std.proofs.Common.{length}
-use Rattle.sms_centre.specs.Centre.Holdings.{LeavesSame}
+use Rattle.sms_centre.specs.Inside.Holdings.{LeavesSame}
 use Rattle.sms_centre.proofs.centre.holdings.Holdings.forget.Given as goal
 
 abbrev pub invariant-loop : goal.invariant-loop

@@ -1,7 +1,7 @@
 use Rattle.std.proofs.Common.{◌≡◌, ℕ, ◌^◌, ◌-◌, List, Some, None, sym, ap, ◌∙◌, subst, arith}
 use Rattle.lru.specs.LruCache.{LruCache}
-use Rattle.sms_centre.specs.Centre.Lines.{forgetting_line}
-use Rattle.sms_centre.specs.Centre.Queue.{queue_of}
+use Rattle.sms_centre.specs.Inside.Lines.{forgetting_line}
+use Rattle.sms_centre.specs.Inside.Queue.{queue_of}
 use Rattle.sms_centre.specs.Centre.Value.{LineValue, WaitingValue}
 use Rattle.sms_centre.proofs.Queues.{taken_queue, none_ended, it_ended}
 use Rattle.sms_centre.proofs.centre.line.Line.forget.Goals as goal
@@ -9,7 +9,7 @@ use Rattle.sms_centre.proofs.centre.line.Line.forget.Goals as goal
 pub returns-in_default : goal.returns-in_default
 returns-in_default c =
     let inside = c.self.inside in
-    let made : List WaitingValue → LineValue = λ q. record { address = inside.address; queue = q; free = inside.free; value = inside.value; reference = inside.reference; latest = inside.latest } in
+    let made : List WaitingValue → LineValue = λ q. record { address = inside.address; queue = q; free = inside.free; next = inside.next; latest = inside.latest } in
     subst (λ (l : LineValue). l ≡ forgetting_line c.args.now c.args.stamp l) c.self.view_is
     (ap made (none_ended inside.queue.entries inside.free c.args.now c.args.stamp c.self.invariant.2
     (λ m e. let no : None ≡ Some m = c.in_default.ensures ∙ e in absurd cc)))
@@ -17,7 +17,7 @@ returns-in_default c =
 pub returns-else-message-now : goal.returns-else-message-now
 returns-else-message-now c =
     let inside = c.self.inside in
-    let made : List WaitingValue → LineValue = λ q. record { address = inside.address; queue = q; free = inside.free; value = inside.value; reference = inside.reference; latest = inside.latest } in
+    let made : List WaitingValue → LineValue = λ q. record { address = inside.address; queue = q; free = inside.free; next = inside.next; latest = inside.latest } in
     subst (λ (l : LineValue). l ≡ forgetting_line c.args.now c.args.stamp l) c.self.view_is
     (ap made (none_ended inside.queue.entries inside.free c.args.now c.args.stamp c.self.invariant.2
     (λ m e.
@@ -29,7 +29,7 @@ returns-else-message-now c =
 pub returns-then-message-now : goal.returns-then-message-now
 returns-then-message-now c =
     let inside = c.self.inside in
-    let made : List WaitingValue → LineValue = λ q. record { address = inside.address; queue = q; free = inside.free; value = inside.value; reference = inside.reference; latest = inside.latest } in
+    let made : List WaitingValue → LineValue = λ q. record { address = inside.address; queue = q; free = inside.free; next = inside.next; latest = inside.latest } in
     let end : c.message.inside.ends ≡ c.in-Some.message.now.ends = ap (λ (x : WaitingValue). x.ends) c.message.view_is in
     subst (λ (l : LineValue). made (queue_of c.take_out.new.queue.entries) ≡ forgetting_line c.args.now c.args.stamp l) c.self.view_is
     (ap made (ap (λ (q : LruCache ℕ WaitingValue). queue_of q.entries) c.take_out.ensures

@@ -2,11 +2,10 @@ use Rattle.std.proofs.Common.{◌≡◌, ◌^◌, ◌-◌, List, Option, None, O
 use Rattle.sms_centre.specs.declared.centre.waiting.Push.{Push}
 use Rattle.sms_message.specs.declared.outcome.Step.{Step}
 use Rattle.sms_centre.specs.Centre.Verdicts.{stays}
-use Rattle.sms_centre.specs.Centre.Lines.{left_waiting, HearsFor, LineHears}
-use Rattle.sms_centre.specs.Centre.Queue.{queue_of}
+use Rattle.sms_centre.specs.Inside.Lines.{left_waiting, HearsFor, LineHears}
+use Rattle.sms_centre.specs.Inside.Queue.{queue_of}
 use Rattle.sms_centre.specs.Centre.Value.{LineValue, WaitingValue}
 use Rattle.sms_centre.proofs.Queues.{taken_queue, message_left, message_stays}
-use Rattle.sms_centre.proofs.Hearing.{awaited}
 use Rattle.sms_centre.proofs.centre.line.Line.hear.Goals.{then-not-stays, else-not-stays}
 use Rattle.sms_centre.proofs.centre.line.Line.hear.Goals as goal
 
@@ -21,13 +20,13 @@ returns c =
     let inside = c.self.inside in
     let p : Push = c.in-Some.latest in
     let queue = queue_of inside.queue.entries in
-    let v : LineValue = record { address = inside.address; queue = queue; free = inside.free; value = inside.value; reference = inside.reference; latest = inside.latest } in
-    let made : List WaitingValue → LineValue = λ q. record { address = inside.address; queue = q; free = inside.free; value = inside.value; reference = inside.reference; latest = None } in
+    let v : LineValue = record { address = inside.address; queue = queue; free = inside.free; next = inside.next; latest = inside.latest } in
+    let made : List WaitingValue → LineValue = λ q. record { address = inside.address; queue = q; free = inside.free; next = inside.next; latest = None } in
     let step : Step = record { outcome = c.verdict.result; packets = c.in_ok-packets.packets } in
     let heard = λ (after : LineValue) (is : after ≡ made (left_waiting queue p.stamp c.args.cause)).
     subst (λ (l : LineValue). LineHears c.args.now c.args.tag c.args.cause l (Ok step) after) c.self.view_is
     (subst (λ (o : Option Push). HearsFor c.args.now c.args.tag c.args.cause v o (Ok step) after) (sym c.in-Some.is) (
-      awaited c.args.now c.args.tag p c.if-tag-latest.false c.if-tag-latest-2.false c.if-latest-now.false,
+      sym c.is_awaited.ensures ∙ c.if-not-is_awaited.false,
       c.verdict.ensures,
       rw c.in_ok-packets.ensures.items (c.in_ok-packet.ensures.carries, tt),
       is,

@@ -2,10 +2,11 @@ use Rattle.std.proofs.Common.{◌≡◌, ℕ, ◌+◌, ◌^◌, ◌-◌, ◌%◌
 use Rattle.std.proofs.lemmas.Result.{err_from_is_err_and}
 use Rattle.lru.specs.LruCache.{LruCache}
 use Rattle.sms_message.specs.declared.outcome.Dropped.TheVariants.{Memory}
+use Rattle.sms_message.specs.declared.message.Tag.{Tag}
 use Rattle.sms_message.specs.declared.outcome.Step.{Step}
 use Rattle.sms_message.specs.declared.outcome.Outcome.TheVariants.{Pushed}
-use Rattle.sms_centre.specs.Centre.Lines.{LinePushes}
-use Rattle.sms_centre.specs.Centre.Queue.{queue_of}
+use Rattle.sms_centre.specs.Inside.Lines.{LinePushes}
+use Rattle.sms_centre.specs.Inside.Queue.{queue_of}
 use Rattle.sms_centre.specs.Centre.Value.{LineValue, WaitingValue}
 use Rattle.sms_centre.proofs.Pushing.{pushed_from, failed_from}
 use Rattle.sms_centre.proofs.Queues.{pushed_queue, others_of, is_pushed}
@@ -15,7 +16,7 @@ pub invariant_of-self : goal.invariant_of-self
 invariant_of-self c =
     let inside = c.self.inside in
     let turned = pushed_queue inside.queue c.promote.new.self (2 ^ 64 - 1) inside.free (c.in-Some.stamp.now, c.in-Some.first.now) c.promote.ensures.entries c.self.invariant.1 c.self.invariant.2 (sym c.in-Some.ensures) in
-    (omega arith, turned.0, turned.1)
+    (c.following-self-inside.ensures.value, turned.0, turned.1)
 
 pub returns-clause-pushes : goal.returns-clause-pushes
 returns-clause-pushes c =
@@ -25,15 +26,14 @@ returns-clause-pushes c =
     let end = c.first.inside.ends in
     let others = others_of inside.queue.entries in
     let h = is_pushed inside.queue.entries inside.free (key, m) c.self.invariant.2 (sym c.in-Some.ensures) in
-    let v : LineValue = record { address = inside.address; queue = queue_of inside.queue.entries; free = inside.free; value = inside.value; reference = inside.reference; latest = inside.latest } in
+    let v : LineValue = record { address = inside.address; queue = queue_of inside.queue.entries; free = inside.free; next = inside.next; latest = inside.latest } in
     let step : Step = record { outcome = Pushed; packets = c.in_ok-packets.packets } in
     let made : List WaitingValue → ℕ → ℕ → LineValue = λ q s e. record {
       address = inside.address;
       queue = q;
       free = inside.free;
-      value = (inside.value + 1) % 7;
-      reference = (inside.reference + 1) % 256;
-      latest = Some (record { value = inside.value; reference = inside.reference; stamp = s; ends = e });
+      next = c.following-self-inside.result;
+      latest = Some (record { tag = inside.next; stamp = s; ends = e });
     } in
     let turned : queue_of c.promote.new.self.entries ≡ others ++ m ∷ [] = ap (λ (q : LruCache ℕ WaitingValue). queue_of q.entries) c.promote.ensures.entries ∙ h.after in
     let end_is : end ≡ m.ends = ap (λ (x : WaitingValue). x.ends) c.first.view_is in
@@ -44,13 +44,14 @@ returns-clause-pushes c =
     (rw c.in_ok-packets.ensures.items (c.in_ok-packet.ensures.carries, tt))
     (ap (λ (q : List WaitingValue). made q key end) turned
     ∙ (ap (λ (s : ℕ). made (others ++ m ∷ []) s end) h.own
-    ∙ ap (λ (e : ℕ). made (others ++ m ∷ []) m.stamp e) end_is)))
+    ∙ (ap (λ (e : ℕ). made (others ++ m ∷ []) m.stamp e) end_is
+    ∙ ap (λ (t : Tag). record v { queue = others ++ m ∷ []; next = t; latest = Some (record { tag = inside.next; stamp = m.stamp; ends = m.ends }) }) c.following-self-inside.ensures.is))))
 
 pub returns-in_err-packets-clause-pushes : goal.returns-in_err-packets-clause-pushes
 returns-in_err-packets-clause-pushes c =
     let inside = c.self.inside in
     let m : WaitingValue = c.in-Some.first.now in
     let h = is_pushed inside.queue.entries inside.free (c.in-Some.stamp.now, m) c.self.invariant.2 (sym c.in-Some.ensures) in
-    let v : LineValue = record { address = inside.address; queue = queue_of inside.queue.entries; free = inside.free; value = inside.value; reference = inside.reference; latest = inside.latest } in
+    let v : LineValue = record { address = inside.address; queue = queue_of inside.queue.entries; free = inside.free; next = inside.next; latest = inside.latest } in
     let p = err_from_is_err_and c.from_residual-in_err-packets.result c.from_residual-in_err-packets.ensures.1 in
     rw (p.1, p.2) (subst (λ (l : LineValue). LinePushes l (Err Memory) l) c.self.view_is (failed_from v v v.queue m (others_of inside.queue.entries) h.before refl))

@@ -3,7 +3,7 @@ use Rattle.sms_field.specs.declared.coding.Alphabet.{Alphabet}
 use Rattle.sms_tpdu.specs.UserData.{FitsAlphabet}
 use Rattle.sms_join.specs.declared.units.Units.{Units}
 use Rattle.sms_join.specs.declared.units.Units.TheVariants.{Gsm, Ucs2}
-use Rattle.sms_join.specs.SegmentUser.{dcs_of}
+use Rattle.sms_join.specs.Segments.User.{dcs_of}
 use Rattle.sms_party.proofs.sender.typed_text.TypedText.submission.Goals as goal
 
 dcs_range : (u : Units) → dcs_of u < 256

@@ -1,6 +1,6 @@
 use Rattle.std.proofs.Common.{◌∙◌, ℕ, List, refl, ap, subst}
 use Rattle.sms_field.specs.Address.{address}
-use Rattle.sms_field.specs.Lies.{TakesOctets}
+use Rattle.sms_field.specs.Reading.Lies.{TakesOctets}
 use Rattle.sms_tpdu.specs.Deliver.{Delivery}
 use Rattle.sms_tpdu.specs.UserData.Spans.{spans_before}
 use Rattle.sms_tpdu.proofs.UnitSpans.{some_octet, delivery_lies}

@@ -1,6 +1,6 @@
 use Rattle.std.proofs.Common.{◌≡◌, ◌∷◌, ◌++◌, [], Bool, List, ℕ, Option, None, Some, length, refl, ◌∙◌, append_assoc, arith}
 use Rattle.std.specs.Prelude.{is_some}
-use Rattle.sms_text.specs.Utf16Laws.{length-octets_high_first}
+use Rattle.sms_text.specs.Inside.Utf16Laws.{length-octets_high_first}
 use Rattle.sms_field.specs.declared.coding.Alphabet.{Alphabet}
 use Rattle.sms_field.specs.declared.coding.Alphabet.TheVariants.{Gsm7, EightBit, Ucs2, Compressed}
 use Rattle.sms_tpdu.specs.Submit.Flags.{submit_octet}

@@ -1,5 +1,5 @@
 use Rattle.std.proofs.Common.{◌∙◌, refl, arith}
-use Rattle.sms_field.specs.OctetLists.{octets_are}
+use Rattle.sms_field.specs.Inside.OctetLists.{octets_are}
 use Rattle.sms_tpdu.proofs.BodyFits.{septets_fit, octets_fit}
 use Rattle.sms_tpdu.proofs.user_data.view.body.body_from.Goals as goal
 

@@ -3,9 +3,9 @@ use Rattle.std.proofs.Math.ListN.{set}
 use Rattle.std.proofs.lemmas.List.{with_items_is}
 use Rattle.std.proofs.lemmas.Option.{slice_get_read}
 use Rattle.sms_party.specs.Phone.{PhoneValue}
-use Rattle.sms_world.specs.World.Phones.{IsAged}
+use Rattle.sms_world.specs.Inside.Phones.{IsAged}
 use Rattle.sms_world.specs.World.Value.{PartiesValue}
-use Rattle.sms_world.specs.World.Parties.{MovesTo}
+use Rattle.sms_world.specs.Inside.Parties.{MovesTo}
 use Rattle.sms_world.proofs.Aged.{AreAged, one_more, moves, clock_seen}
 use Rattle.sms_world.proofs.world.parties.Parties.advance.Goals as goal
 

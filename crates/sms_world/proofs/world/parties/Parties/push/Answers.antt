@@ -1,6 +1,6 @@
 use Rattle.std.proofs.Common.{subst}
 use Rattle.sms_world.specs.World.Value.{PartiesValue}
-use Rattle.sms_world.specs.World.Parties.{Pushes}
+use Rattle.sms_world.specs.Inside.Parties.{Pushes}
 use Rattle.sms_world.proofs.Answering.{with_centre, pushes}
 use Rattle.sms_world.proofs.world.parties.Parties.push.Goals as goal
 

@@ -1,7 +1,7 @@
-use Rattle.sms_field.specs.OctetLists.{octets_are}
+use Rattle.sms_field.specs.Inside.OctetLists.{octets_are}
 use Rattle.std.proofs.Common.{true, subst, arith}
 use Rattle.sms_world.specs.World.Value.{PartiesValue}
-use Rattle.sms_world.specs.World.Parties.{Receives}
+use Rattle.sms_world.specs.Inside.Parties.{Receives}
 use Rattle.sms_world.proofs.Answering.{with_centre, reaches_centre}
 use Rattle.sms_world.proofs.world.parties.Parties.reach_centre.Goals as goal
 

@@ -1,8 +1,8 @@
-use Rattle.sms_field.specs.OctetLists.{octets_are}
+use Rattle.sms_field.specs.Inside.OctetLists.{octets_are}
 use Rattle.std.proofs.Common.{◌<◌, false, ap, sym, subst, ◌∙◌, length, arith}
 use Rattle.std.proofs.lemmas.Option.{slice_get_read}
 use Rattle.sms_world.specs.World.Value.{PartiesValue}
-use Rattle.sms_world.specs.World.Parties.{Receives}
+use Rattle.sms_world.specs.Inside.Parties.{Receives}
 use Rattle.sms_world.proofs.Replaced.{with_phone}
 use Rattle.sms_world.proofs.Answering.{reaches_phone}
 use Rattle.sms_world.proofs.world.parties.Parties.reach_phone.Goals as goal

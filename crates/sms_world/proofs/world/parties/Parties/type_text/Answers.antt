@@ -3,7 +3,7 @@ use Rattle.std.proofs.lemmas.Option.{slice_get_read}
 use Rattle.std.proofs.lemmas.Str.{scalars-chars}
 use Rattle.std.specs.Str.{chars}
 use Rattle.sms_world.specs.World.Value.{PartiesValue}
-use Rattle.sms_world.specs.World.Parties.{Types}
+use Rattle.sms_world.specs.Inside.Parties.{Types}
 use Rattle.sms_world.proofs.Characters.{text_is}
 use Rattle.sms_world.proofs.Replaced.{with_phone}
 use Rattle.sms_world.proofs.Answering.{types}

@@ -1,5 +1,5 @@
 use Rattle.std.proofs.Common.{length, ap, arith}
-use Rattle.sms_text.specs.PackingLaws.{unpacked_septets}
+use Rattle.sms_text.specs.Inside.PackingLaws.{unpacked_septets}
 use Rattle.sms_tpdu.proofs.user_data.view.body.SeptetsView.count.Goals as goal
 
 pub returns : goal.returns

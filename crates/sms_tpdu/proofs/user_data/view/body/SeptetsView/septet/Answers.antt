@@ -1,5 +1,5 @@
 use Rattle.std.proofs.Common.{◌<◌, length, Option, Some, None, MatchOption, sym, ap, arith, ◌∙◌}
-use Rattle.sms_text.specs.PackingLaws.{septet_in, unpacked_septets}
+use Rattle.sms_text.specs.Inside.PackingLaws.{septet_in, unpacked_septets}
 use Rattle.sms_tpdu.proofs.user_data.view.body.SeptetsView.septet.Goals as goal
 
 by_match : {T : Type 0} (o : Option T) (P R : Type 0) (Q S : T → Type 0) → MatchOption o P Q → (P → R) → ((x : T) → Q x → S x) → MatchOption o R S

@@ -1,0 +1,14 @@
+use Rattle.std.proofs.Common.{◌<◌, List, length, refl, sym, ap, ◌∙◌, subst}
+use Rattle.std.proofs.lemmas.Option.{slice_get_read}
+use Rattle.sms_message.specs.Address.{address_of}
+use Rattle.sms_centre.specs.Centre.Value.{LineValue, HoldingsValue, addresses}
+use Rattle.sms_centre.proofs.Lines.{address_there}
+use Rattle.sms_centre.proofs.centre.holdings.Holdings.address.Goals as goal
+
+pub returns : goal.returns
+returns c =
+    let items = c.self.inside.lines.items in
+    let within = subst (λ (v : HoldingsValue). c.args.phone < length v.lines) (sym c.self.view_is) c.requires in
+    let there = slice_get_read items (length items) c.args.phone c.index.result.now refl within c.index.ensures in
+    ap (λ (l : LineValue). l.address) c.behind-self.view_is
+    ∙ (address_there items c.args.phone c.index.result.now there ∙ ap (λ (v : HoldingsValue). address_of (addresses v.lines) c.args.phone) c.self.view_is)

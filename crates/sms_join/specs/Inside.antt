@@ -1,0 +1,5 @@
+-- What a reader may pass by: no public contract cites it.
+pub mod LastKeys
+pub mod OpenSet
+pub mod SegmentsAt
+pub mod Slots

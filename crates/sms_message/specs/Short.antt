@@ -1,6 +1,0 @@
--- No unit is too long to be wrapped.
-use Rattle.std.proofs.Common.{ℕ, ◌<◌, List, length, arith}
-use Rattle.sms_tpdu.specs.Sizes.{greatest_size, IsWithin}
-
-pub not_long : {V : Type 0} (spells : V → List ℕ → Type 0) → IsWithin greatest_size spells → (value : V) (octets : List ℕ) → spells value octets → 233 < length octets → ⊥
-not_long spells within value octets h long = absurd (omega (arith, within value octets h))

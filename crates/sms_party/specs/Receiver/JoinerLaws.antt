@@ -1,0 +1,10 @@
+-- What the crate of the joiner says of joiners that hold the same.
+use Rattle.sms_join.specs.Joiner.Same.{AnswersAlike}
+use Rattle.sms_join.specs.Joiner.Finishing.{AnswerFinishes, SameIsEquivalence}
+use Rattle.sms_join.specs.Joiner.Aging.{AgesAlike}
+
+pub record JoinerLaws : Type 0 where
+  pub alike : AnswersAlike
+  pub finishes : AnswerFinishes
+  pub same : SameIsEquivalence
+  pub ages : AgesAlike

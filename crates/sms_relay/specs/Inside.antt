@@ -1,0 +1,8 @@
+-- What a reader may pass by: no public contract cites it.
+pub mod CarriedLaws
+pub mod CpLaws
+pub mod FaultLaws
+pub mod OneRefusalLaws
+pub mod ReadOctetLaws
+pub mod RpLaws
+pub mod TypeLaws

@@ -1,0 +1,4 @@
+-- What a reader may pass by: no public contract cites it.
+pub mod Events
+pub mod NextLine
+pub mod Standing
