@@ -2,8 +2,9 @@
 """Plays worked scripts with each request for memory refused in turn, and judges what comes of it.
 
 A run ends with status 3 and `out of memory`, after a front of its transcript that ends with a whole line; or with status
-0, one event told as `drop memory` and the others as without its line; or nothing changes. It needs cc, the GNU C library,
-and crates/sms/out/sms, which `rt run` in crates/sms leaves there; PROGRAM names another one.
+0, one event told as `drop memory` and the others as without its line; or nothing changes. With `--orderly` the order that
+is told at the end is that of the events as they were answered. It needs cc, the GNU C library, and crates/sms/out/sms,
+which `rt run` in crates/sms leaves there; PROGRAM names another one.
 """
 import os
 import re
@@ -53,14 +54,46 @@ type c +1002 {'x' * 161}
         "carry 19", "carry 21", "push b", "carry 23", "carry 25", "push b", "carry 27", "carry 29", "push b", "carry 31",
     )
 )
-SCRIPTS = {"a lossy network": LOSSY, "161 letters out of order": LETTERS, "open sets that are full": FULL}
-SETTINGS = ("phone ", "open ")
+TWO_DAYS = PHONES + """\
+type a +1002 hi
+carry 1
+timeout a
+carry 4
+carry 6
+push b
+carry 8
+tick 172800
+carry 4
+push b
+"""
+FORGOTTEN = "remembered 1\n" + PHONES + """\
+type a +1002 one
+carry 1
+carry 3
+push b
+carry 5
+carry 7
+type a +1002 two
+carry 9
+push b
+carry 12
+carry 5
+"""
+SCRIPTS = {
+    "a lossy network": LOSSY,
+    "161 letters out of order": LETTERS,
+    "open sets that are full": FULL,
+    "a repeat after two days": TWO_DAYS,
+    "a segment of a text that is forgotten": FORGOTTEN,
+}
+SETTINGS = ("phone ", "open ", "remembered ")
 
 
 class Runs:
-    """The program, with a request refused."""
+    """The program with these words, with a request refused."""
 
-    def __init__(self, folder):
+    def __init__(self, folder, words):
+        self.words = words
         self.library = os.path.join(folder, "refuse.so")
         self.asked = os.path.join(folder, "asked")
         subprocess.run(["cc", "-O2", "-shared", "-fPIC", os.path.join(HERE, "refuse.c"), "-o", self.library], check=True)
@@ -68,7 +101,7 @@ class Runs:
     def play(self, script, number=0):
         """The status, what was written, what was said of a fault, and how many requests were made."""
         place = dict(os.environ, LD_PRELOAD=self.library, REFUSE=str(number), ASKED=self.asked)
-        done = subprocess.run([PROGRAM, "play"], input=script.encode(), capture_output=True, env=place, check=False)
+        done = subprocess.run([PROGRAM, "play", *self.words], input=script.encode(), capture_output=True, env=place, check=False)
         with open(self.asked, encoding="ascii") as asked:
             return done.returncode, done.stdout.decode(), done.stderr.decode(), int(asked.read())
 
@@ -97,6 +130,26 @@ def with_drop(transcript, event):
     return "".join(f"{line}\n" for line in lines)
 
 
+def divided(wrote):
+    """A transcript without the order that is told at its end, and the event and the rest of that line."""
+    begin = wrote.find("order: ")
+    if begin < 0:
+        return wrote, None
+    order = re.fullmatch(r"order: (?:kept|event (\d+): (.*))\n", wrote[begin:])
+    assert order, wrote[begin:]
+    return wrote[:begin], (int(order[1] or 0), order[2])
+
+
+def with_order(order, whole, event):
+    """The order that is to be told where an event was answered as one for which there is no memory: one event more than
+    without it; or that very event came out of order, whatever it was answered."""
+    if order is None:
+        return None
+    if whole[0] == event:
+        return whole
+    return (order[0] + 1 if order[0] >= event else order[0], order[1])
+
+
 def judge(runs, script, whole, number):
     """What came of a refusal."""
     status, wrote, fault, _ = runs.play(script, number)
@@ -112,19 +165,22 @@ def judge(runs, script, whole, number):
     event = int(re.search(r"^(\d+) drop memory$", wrote, re.MULTILINE)[1])
     assert wrote.count("drop memory") == 1, (number, wrote)
     _, other, _, _ = runs.play(without_event(script, event))
-    assert wrote == with_drop(other, event), (number, wrote)
+    (told, order), (others, other_order) = divided(wrote), divided(other)
+    assert told == with_drop(others, event), (number, wrote)
+    assert order == with_order(other_order, divided(whole)[1], event), (number, wrote)
     return "drop memory"
 
 
 def main():
     with tempfile.TemporaryDirectory() as folder:
-        runs = Runs(folder)
-        for name, script in SCRIPTS.items():
-            status, whole, fault, asked = runs.play(script)
-            assert (status, fault) == (0, ""), (name, status, fault)
-            came = [judge(runs, script, whole, number) for number in range(1, asked + 1)]
-            told = ", ".join(f"{came.count(word)} {word}" for word in ("drop memory", "out of memory", "nothing"))
-            print(f"{name}: {asked} requests: {told}")
+        for words in ((), ("--orderly",)):
+            runs = Runs(folder, words)
+            for name, script in SCRIPTS.items():
+                status, whole, fault, asked = runs.play(script)
+                assert (status, fault) == (0, ""), (name, status, fault)
+                came = [judge(runs, script, whole, number) for number in range(1, asked + 1)]
+                told = ", ".join(f"{came.count(word)} {word}" for word in ("drop memory", "out of memory", "nothing"))
+                print(" ".join((f"{name}:", *words, f"{asked} requests: {told}")))
 
 
 if __name__ == "__main__":

@@ -170,7 +170,7 @@ impl Collected {
                 return Err(fault);
             }
         };
-        let count = happened.running.world.packet_count();
+        let count = happened.running.world().packet_count();
         self.rows.push(Row {
             doing: doing_of(happened),
             asked,
@@ -189,7 +189,7 @@ impl Collected {
     ) -> Result<(), Fault> {
         let Some(packet) = happened
             .running
-            .world
+            .world()
             .packet_on_way(place.saturating_add(1))
         else {
             return Ok(());
@@ -225,7 +225,7 @@ impl Teller for Collected {
     ) -> Result<(), Fault> {
         self.add_row(alloc, happened)?;
         self.count_arrival(happened);
-        for place in happened.packets_before..happened.running.world.packet_count() {
+        for place in happened.packets_before..happened.running.world().packet_count() {
             self.add_packet(alloc, happened, place)?;
         }
         Ok(())
@@ -274,7 +274,7 @@ pub fn put_chart<R: Read, W: Write>(
         packets: Vec::new(alloc),
     };
     let mut page = Page::new(alloc);
-    let drawn = run_script(alloc, &mut run, &mut page, input, output);
+    let drawn = run_script(alloc, false, &mut run, &mut page, input, output);
     drop(run);
     let written = page.write_to(output);
     drop(page);

@@ -45,8 +45,8 @@ fn play<R: Read, W: Write>(
     output: &mut W,
 ) -> Result<Done, Fault> {
     match played.form {
-        Form::Plain => play_script(alloc, played.is_checked, input, output),
-        Form::Json => play_as_json(alloc, played.is_checked, input, output),
+        Form::Plain => play_script(alloc, played, input, output),
+        Form::Json => play_as_json(alloc, played, input, output),
     }
 }
 

@@ -1,9 +1,12 @@
 //! Scripts that are played.
 
+ghost use Rattle.std.specs.Prelude.{◌≡◌, false};
+
 use crate::fault::Fault;
 use crate::shown::Done;
 use crate::talk::{Ear, Mouth};
-use sms_world::PlayFault;
+use crate::words::Played;
+use sms_world::{PlayFault, Sink, Source};
 use std::alloc::Global;
 use std::cell::RefCell;
 use std::io::{Read, Write};
@@ -14,18 +17,37 @@ impl From<PlayFault> for Fault {
     }
 }
 
+/// Plays a script, and writes its transcript, and whether its run was orderly where that is asked
+/// for.
+fn play_from<S: Source, K: Sink>(
+    alloc: Global,
+    tells_order: bool,
+    source: &mut S,
+    sink: &mut K,
+) -> Result<(), PlayFault>
+    requires reads { S.has_failed source.old ≡ false }
+    requires begins { S.has_ended source.old ≡ false }
+    requires writes { K.has_failed sink.old ≡ false }
+{
+    if tells_order {
+        sms_world::play_with_order(alloc, source, sink)
+    } else {
+        sms_world::play(alloc, source, sink)
+    }
+}
+
 /// Plays the script that a reader gives to its end, and writes its transcript. Before more is read,
 /// what was told is flushed. Where events that name nothing count, they are faults.
 pub fn play_script<R: Read, W: Write>(
     alloc: Global,
-    is_checked: bool,
+    asked: Played,
     input: &mut R,
     output: &mut W,
 ) -> Result<Done, Fault> {
     let output = RefCell::new(output);
     let mut ear = Ear::new(alloc, input, &output)?;
-    let mut mouth = Mouth::new(&output, is_checked);
-    let played = sms_world::play(alloc, &mut ear, &mut mouth);
+    let mut mouth = Mouth::new(&output, asked.is_checked);
+    let played = play_from(alloc, asked.tells_order, &mut ear, &mut mouth);
     let is_mute = ear.is_mute();
     let has_fault = mouth.has_found_fault();
     drop(ear);

@@ -8,8 +8,9 @@ use crate::page::Page;
 use crate::printed::Number;
 use crate::run::{Happened, Running, Teller, run_script};
 use crate::shown::Done;
+use crate::words::Played;
 use sms_script::{Packet, Script};
-use sms_world::{PlayFault, Status};
+use sms_world::{Breach, PlayFault, Status, TextSegment, disorder_text, number_told};
 use std::alloc::Global;
 use std::io::{Read, Write};
 
@@ -35,8 +36,8 @@ impl Printed for Packets<'_> {
             ..
         } = *self.0;
         object.open_list();
-        for place in packets_before..running.world.packet_count() {
-            if let Some(packet) = running.world.packet_on_way(place + 1) {
+        for place in packets_before..running.world().packet_count() {
+            if let Some(packet) = running.world().packet_on_way(place + 1) {
                 put_packet(object, script, place, packet);
             }
         }
@@ -122,6 +123,41 @@ impl Printed for Stored<'_> {
     }
 }
 
+/// What is told of the order of a run.
+#[derive(Clone, Copy)]
+struct Order<'a> {
+    script: &'a Script,
+    /// The first event that came out of order, if one did.
+    breach: Option<Breach>,
+}
+
+impl Printed for Order<'_> {
+    fn plain(&self, _page: &mut Page) {}
+
+    fn json(&self, object: &mut Object) {
+        object.open();
+        object.name("kept");
+        object.flag(self.breach.is_none());
+        if let Some(breach) = self.breach {
+            let number = number_told(self.script, breach.event);
+            object.number_named("event", number);
+            object.text_named("condition", disorder_text(breach.disorder));
+            put_segment(object, self.script, breach.segment);
+        }
+        object.close();
+    }
+}
+
+/// Adds the segment that an event brought, if it brought one.
+fn put_segment(object: &mut Object, script: &Script, segment: Option<TextSegment>) {
+    let Some(brought) = segment else {
+        return;
+    };
+    object.text_named("phone", script.name(brought.phone));
+    object.number_named("text", brought.text as u64);
+    object.number_named("segment", brought.segment as u64);
+}
+
 impl Teller for Objects {
     fn tell(
         &mut self,
@@ -152,6 +188,11 @@ impl Teller for Objects {
             lines.put("store", Stored { running, phone });
             *page = lines.finish();
         }
+        if let Some(breach) = running.order() {
+            let mut lines = Lines::new(alloc, Form::Json, page.take(alloc));
+            lines.put("order", Order { script, breach });
+            *page = lines.finish();
+        }
         Ok(())
     }
 }
@@ -175,17 +216,25 @@ fn put_script_fault(alloc: Global, fault: &PlayFault, page: &mut Page) -> Result
 }
 
 /// Plays the script that an input has, and writes an object for each event, and at the end one for
-/// each phone. Where events that name nothing count, they are faults.
+/// each phone, and one that tells whether the run was orderly where that is asked for. Where events
+/// that name nothing count, they are faults.
 pub fn play_as_json<R: Read, W: Write>(
     alloc: Global,
-    is_checked: bool,
+    asked: Played,
     input: &mut R,
     output: &mut W,
 ) -> Result<Done, Fault> {
     let mut objects = Objects { has_fault: false };
     let mut page = Page::new(alloc);
-    let mut played = run_script(alloc, &mut objects, &mut page, input, output);
-    let mut is_faulty = is_checked && objects.has_fault;
+    let mut played = run_script(
+        alloc,
+        asked.tells_order,
+        &mut objects,
+        &mut page,
+        input,
+        output,
+    );
+    let mut is_faulty = asked.is_checked && objects.has_fault;
     if let Err(Fault::Play(fault)) = &played {
         if put_script_fault(alloc, fault, &mut page)? {
             played = Ok(());

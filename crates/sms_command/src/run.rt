@@ -1,53 +1,72 @@
 //! A script that is played event by event, and what is told of it in other forms than a
 //! transcript.
 
-ghost use Rattle.std.specs.Prelude.{◌≡◌, length};
-
 use crate::fault::Fault;
 use crate::feed::{Feed, Line};
 use crate::page::Page;
 use sms_script::Script;
-use sms_world::{Entry, Event, Outcome, PlayFault, ScriptFault, Status, World, WorldFault};
+use sms_world::{
+    Breach, Entry, Event, Outcome, PlayFault, ScriptFault, Status, WatchedWorld, World, WorldFault,
+};
 use std::alloc::Global;
 use std::io::{Read, Write};
 
 /// The greatest number of lines of a script.
 const LINES_MAX: u64 = 100_000;
 
-/// A world, and how many phones it has.
+/// The world that a script is played on.
 #[derive(Drop)]
-pub struct Running {
-    pub world: World,
-    phones: usize,
-    ghost are: { length world.parties.phones ≡ phones },
+pub enum Running {
+    Plain(World),
+    /// One that tells whether the run is orderly.
+    Watched(WatchedWorld),
 }
 
 impl Running {
     /// The world that a script has set, at the beginning.
-    fn new(alloc: Global, script: &Script) -> Result<Running, Fault> {
-        let phones = script.addresses();
-        let count = phones.len();
-        let world = World::new(alloc, script.limits(), phones)?;
-        Ok(Running {
-            world,
-            phones: count,
-        })
+    fn new(alloc: Global, is_watched: bool, script: &Script) -> Result<Running, Fault> {
+        let (limits, phones) = (script.limits(), script.addresses());
+        if is_watched {
+            return Ok(Running::Watched(WatchedWorld::new(alloc, limits, phones)?));
+        }
+        Ok(Running::Plain(World::new(alloc, limits, phones)?))
     }
 
     /// Lets an event happen.
     fn step(&mut self, event: &Event) -> Result<Outcome, WorldFault> {
-        self.world.step(event)
+        match self {
+            Running::Plain(world) => world.step(event),
+            Running::Watched(watched) => watched.step(event),
+        }
+    }
+
+    /// The world as it stands.
+    pub fn world(&self) -> &World {
+        match self {
+            Running::Plain(world) => world,
+            Running::Watched(watched) => watched.world(),
+        }
+    }
+
+    /// What is told of the order of the run, where it is watched: the first event that came out of
+    /// order, if one did.
+    pub fn order(&self) -> Option<Option<Breach>> {
+        match self {
+            Running::Plain(_) => None,
+            Running::Watched(watched) => Some(watched.order()),
+        }
     }
 
     /// How many phones there are.
     pub fn phones(&self) -> usize {
-        self.phones
+        self.world().phone_count()
     }
 
     /// The texts that came to a phone.
     pub fn store(&self, phone: usize) -> &[Entry] {
-        if phone < self.phones {
-            self.world.store(phone)
+        let world = self.world();
+        if phone < world.phone_count() {
+            world.store(phone)
         } else {
             &[]
         }
@@ -55,8 +74,9 @@ impl Running {
 
     /// How many texts were typed at a phone.
     pub fn typed(&self, phone: usize) -> usize {
-        if phone < self.phones {
-            self.world.typed(phone)
+        let world = self.world();
+        if phone < world.phone_count() {
+            world.typed(phone)
         } else {
             0
         }
@@ -64,8 +84,9 @@ impl Running {
 
     /// How the text of this number of a phone stands.
     pub fn status(&self, phone: usize, number: usize) -> Option<Status> {
-        if phone < self.phones {
-            self.world.status(phone, number)
+        let world = self.world();
+        if phone < world.phone_count() {
+            world.status(phone, number)
         } else {
             None
         }
@@ -113,6 +134,8 @@ pub trait Teller: Drop {
 #[derive(Drop)]
 struct Run {
     script: Script,
+    /// Whether the world tells the order of the run.
+    is_watched: bool,
     running: Option<Running>,
     events: u64,
 }
@@ -139,7 +162,7 @@ impl Run {
         if let Some(running) = self.running.take() {
             return Ok(running);
         }
-        let mut running = Running::new(alloc, &self.script)?;
+        let mut running = Running::new(alloc, self.is_watched, &self.script)?;
         if let Some(seconds) = self.script.clock() {
             let _ = running.step(&Event::Tick(seconds));
         }
@@ -156,7 +179,7 @@ impl Run {
     ) -> Result<(), Fault> {
         let mut running = self.started(alloc)?;
         self.events = self.events.saturating_add(1);
-        let packets_before = running.world.packet_count();
+        let packets_before = running.world().packet_count();
         let answer = running.step(event);
         let told = tell(
             alloc,
@@ -248,10 +271,11 @@ fn run_lines<T: Teller, R: Read, W: Write>(
     run.finish(alloc, teller, page)
 }
 
-/// Plays the script that an input has, and writes what a teller tells of it. What was told before a
-/// fault stands.
+/// Plays the script that an input has, on a world that is watched or not, and writes what a teller
+/// tells of it. What was told before a fault stands.
 pub fn run_script<T: Teller, R: Read, W: Write>(
     alloc: Global,
+    is_watched: bool,
     teller: &mut T,
     page: &mut Page,
     input: &mut R,
@@ -259,6 +283,7 @@ pub fn run_script<T: Teller, R: Read, W: Write>(
 ) -> Result<(), Fault> {
     let mut run = Run {
         script: Script::new(alloc),
+        is_watched,
         running: None,
         events: 0,
     };

@@ -167,6 +167,8 @@ pub struct Played {
     pub form: Form,
     /// Whether events that name nothing count as faults.
     pub is_checked: bool,
+    /// Whether it is told at the end if the run was orderly.
+    pub tells_order: bool,
 }
 
 /// One command with its words.
@@ -443,6 +445,11 @@ static SUBCOMMANDS: [Subcommand; 6] = [
                 form: WordForm::Flag,
                 help: "Ends with status 1 where an event named nothing (fault ..)",
             },
+            Word {
+                name: "orderly",
+                form: WordForm::Flag,
+                help: "Tells at the end whether the run was orderly, so that each store is just the texts typed to it; or the first event that came out of order, and how",
+            },
         ],
         example: Some(SCRIPT_HELP),
     },
@@ -616,6 +623,7 @@ fn played_of<'a>(found: &ArgMatches<'_>) -> Request<'a> {
     Request::Play(Played {
         form: form_found(found),
         is_checked: found.get_flag("check"),
+        tells_order: found.get_flag("orderly"),
     })
 }
 

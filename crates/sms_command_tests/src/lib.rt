@@ -16,6 +16,8 @@ mod lines;
 #[cfg(test)]
 mod objects;
 #[cfg(test)]
+mod orders;
+#[cfg(test)]
 mod plays;
 #[cfg(test)]
 mod relays;

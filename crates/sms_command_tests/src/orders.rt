@@ -1,0 +1,96 @@
+//! Whether the runs of scripts were orderly, as it is told after their transcripts.
+
+mod rows;
+
+use crate::fed::{are_fed, are_fed_as_json, fed_with};
+use crate::found::holds;
+use crate::splits::expanded;
+use rows::{BROKEN, KEPT, OBJECTS, Ordered, PHONES, TWO_PHONES, WHOLES, WRONGS, Wrong};
+use std::alloc::Global;
+use std::process::Abort;
+use std::test::Fail;
+
+/// A script after its phones, its parts expanded.
+fn script_of(alloc: Global, phones: &str, parts: &str) -> Result<String, Fail> {
+    let script = expanded(alloc, parts)?;
+    let whole = [phones, &script].concat(alloc);
+    drop(script);
+    Ok(whole?)
+}
+
+/// The transcript of a script, and what is told of its order.
+fn transcript_of(alloc: Global, script: &str, order: &str) -> Result<String, Fail> {
+    let (_, transcript) = fed_with(alloc, &["sms", "play"], script)?;
+    let whole = [transcript.as_str(), order].concat(alloc);
+    drop(transcript);
+    Ok(whole?)
+}
+
+/// Whether the transcript of a script stands as it does else, and after it what is told of its
+/// order.
+fn is_told(alloc: Global, script: &str, order: &str) -> Result<bool, Fail> {
+    let wanted = transcript_of(alloc, script, order)?;
+    let (status, output) = fed_with(alloc, &["sms", "play", "--orderly"], script)?;
+    Ok(status == 0 && output == wanted)
+}
+
+/// Whether a row's order is told.
+fn is_row_told(alloc: Global, row: &Ordered) -> Result<bool, Fail> {
+    let script = script_of(alloc, PHONES, row.script)?;
+    let told = is_told(alloc, &script, row.order);
+    drop(script);
+    told
+}
+
+/// The order of each row is told.
+fn are_told(rt: &impl Abort, alloc: Global, rows: &[Ordered]) -> Result<(), Fail> {
+    for row in rows {
+        let told = is_row_told(alloc, row)?;
+        holds(rt, &row.script, told);
+    }
+    Ok(())
+}
+
+#[test]
+fn tells_runs_that_are_orderly(rt: HostRuntime) -> Result<(), Fail> {
+    are_told(&rt, rt.alloc(), KEPT.as_slice())
+}
+
+#[test]
+fn tells_the_first_event_out_of_order(rt: HostRuntime) -> Result<(), Fail> {
+    are_told(&rt, rt.alloc(), BROKEN.as_slice())
+}
+
+/// Whether the output of a script ends so.
+fn ends_with(alloc: Global, script: &str, ends: &str) -> Result<bool, Fail> {
+    let wanted = expanded(alloc, ends)?;
+    let (status, output) = fed_with(alloc, &["sms", "play", "--orderly"], script)?;
+    Ok(status == 0 && output.ends_with(wanted.as_str()))
+}
+
+/// Whether a row goes wrong so.
+fn goes_wrong(alloc: Global, row: &Wrong) -> Result<bool, Fail> {
+    let script = script_of(alloc, TWO_PHONES, row.script)?;
+    let ends = ends_with(alloc, &script, row.ends);
+    drop(script);
+    ends
+}
+
+#[test]
+fn tells_what_goes_wrong_without_each_condition(rt: HostRuntime) -> Result<(), Fail> {
+    for row in WRONGS.as_slice() {
+        let wrong = goes_wrong(rt.alloc(), row)?;
+        holds(&rt, &row.script, wrong);
+    }
+    Ok(())
+}
+
+#[test]
+fn tells_the_order_after_whole_transcripts(rt: HostRuntime) -> Result<(), Fail> {
+    are_fed(&rt, rt.alloc(), WHOLES.as_slice())
+}
+
+#[test]
+fn tells_the_order_as_an_object(rt: HostRuntime) -> Result<(), Fail> {
+    are_fed_as_json(&rt, rt.alloc(), OBJECTS.as_slice())
+}
