@@ -21,7 +21,7 @@ use crate::status::{Failure, status_of};
 use crate::times::{StampOctets, ValidityOctets};
 use sms_field::{Address, Stamp, Validity};
 use sms_join::{SegmentView, Segments, cut_text};
-use sms_tpdu::{Deliver, Submit, Unit, Width};
+use sms_tpdu::{Deliver, SubmitFront, Unit, Width};
 use std::alloc::{AllocError, Global};
 
 /// How the segments of a text tell their place.
@@ -115,8 +115,7 @@ fn submitted(
     ensures { IfOk result (λ octets. SpellsSubmit
         (seen.submission fields validity target width segment.now) octets.items) }
 {
-    let user = segment.user(alloc, width, fields.segments.reference)?;
-    let submit = Submit {
+    let front = SubmitFront {
         reject: is_set(fields.reject),
         validity,
         report: is_set(fields.report),
@@ -125,9 +124,8 @@ fn submitted(
         target,
         pid: fields.pid,
         dcs: segment.coding_scheme(),
-        user,
     };
-    submit.write(alloc)
+    segment.write_submit(alloc, &front, width, fields.segments.reference)
 }
 
 /// Hands out the segment of an index as an SMS-SUBMIT.

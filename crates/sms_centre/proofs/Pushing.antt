@@ -6,7 +6,7 @@ use Rattle.std.proofs.Math.ListN.{set}
 use Rattle.sms_field.specs.Address.Value.{AddressValue}
 use Rattle.sms_relay.specs.declared.side.Side.TheVariants.{ToPhone}
 use Rattle.sms_message.specs.Message.{following}
-use Rattle.sms_message.specs.Message.Tags.{following_is}
+use Rattle.sms_message.specs.Inside.Tags.{following_is}
 use Rattle.sms_message.specs.declared.message.TransferUnit.TheVariants.{Deliver}
 use Rattle.sms_message.specs.declared.message.Relay.TheVariants.{Transfer}
 use Rattle.sms_message.specs.declared.message.Message.TheVariants.{Data}

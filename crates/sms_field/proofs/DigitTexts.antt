@@ -1,12 +1,15 @@
 -- Digits of texts, and texts of digits, one after the other.
-use Rattle.std.proofs.Common.{◌≡◌, ℕ, ◌+◌, ◌<◌, ◌≤◌, List, [], ◌∷◌, ◌++◌, length, drop, get_or, Option, Some, None, refl, sym, ap, subst, ◌∙◌, append_assoc, lit<, Bor, MatchOption, ◌≢◌}
-use Rattle.std.specs.Prelude.{◌==◌}
+use Rattle.std.proofs.Common.{◌≡◌, ℕ, ◌+◌, ◌<◌, ◌≤◌, Bool, true, false, leb, Ok, Err, List, [], ◌∷◌, ◌++◌, length, drop, get_or, Option, Some, None, refl, sym, ap, subst, ◌∙◌, append_assoc, arith, lit<, Bor, MatchOption, ◌≢◌}
+use Rattle.std.specs.Prelude.{◌==◌, ◌||◌, Result, is_err, IsOk, OnOk, OnErr}
+use Rattle.std.proofs.lemmas.Bool.{leb-true, le-leb}
 use Rattle.std.specs.List.{AllByRecursion}
 use Rattle.std.proofs.lemmas.List.Quantifiers.{position-Some}
-use Rattle.std.proofs.lemmas.List.{append-nil, at_drop_more, drop_all}
+use Rattle.std.proofs.lemmas.List.{append-nil, at_drop_more, drop_all, length-append}
 use Rattle.std.proofs.lemmas.Str.{encodes-append, encodes-chars, chars_from_encodes, encode_ascii}
 use Rattle.std.proofs.Math.Utf8.{encode, encodes}
 use Rattle.std.specs.Str.{chars, IsUtf8}
+use Rattle.sms_field.specs.Address.Text.{few_digits}
+use Rattle.sms_field.specs.declared.fault.AddressFault.TheVariants.{AddressTooLong}
 use Rattle.sms_field.specs.Address.DigitText.{digit_characters, digit_of_character, character_of_digit, and_digits, digits_of_text, text_of_digits}
 
 -- what was read before, and what is still read
@@ -33,6 +36,11 @@ no_digit cs i c old total at is so_far = sym so_far ∙ ap (with_digits old) (ne
 pub no_character_left : (cs : List ℕ) (i : ℕ) (old : List ℕ) (total : Option (List ℕ)) → length cs ≤ i → with_digits old (digits_of_text (drop i cs)) ≡ total → total ≡ Some old
 unfolding digits_of_text
 no_character_left cs i old total le so_far = sym so_far ∙ ap (λ (l : List ℕ). with_digits old (digits_of_text l)) (drop_all i cs le) ∙ ap (λ (l : List ℕ). let r : Option (List ℕ) = Some l in r) (append-nil old)
+
+-- the digits that were read are kept, unless they are more than 20
+abbrev pub AreKept : Bool → List ℕ → List ℕ → Type 0
+AreKept false read kept = (kept ≡ read) × (length read ≤ 20)
+AreKept true read kept = 20 < length read
 
 -- the characters of a text to which one is added
 pub chars_pushed : (old new : List ℕ) (c : ℕ) → IsUtf8 old → IsUtf8 new → new ≡ old ++ encode c → chars new ≡ chars old ++ c ∷ []
@@ -72,3 +80,35 @@ unfolding digits_of_text digit_of_character
 digits_are_small [] digits e = let none : [] ≡ digits = cc in subst (AllByRecursion (λ (digit : ℕ). digit < 15)) none tt
 digits_are_small (c ∷ text) digits e =
     are_digits (digit_of_character c) (digits_of_text text) digits (λ digit is. (position-Some (λ known. known == c) digit_characters digit 0 is).0) (λ others is. digits_are_small text others is) e
+
+-- ---- up to 20 of them
+
+-- what a push onto those that are kept answered
+pub is_added : {T E : Type 0} (r : Result T E) (full : Bool) (n room : ℕ) (Added : Type 0) → full ≡ is_err r → (IsOk r → n < room) → OnOk r Added → full ≡ false → (n < room) × Added
+is_added (Ok x) full n room Added e less added was = (less refl, added)
+is_added (Err why) full n room Added e less added was = absurd cc
+
+pub is_full : {T E : Type 0} (r : Result T E) (full : Bool) (P : Type 0) → full ≡ is_err r → OnErr r P → full ≡ true → P
+is_full (Ok x) full P e h was = absurd cc
+is_full (Err why) full P e h was = h
+
+pub one_kept : (old full : Bool) (read kept new : List ℕ) (digit : ℕ) → AreKept old read kept → (full ≡ false → (length kept < 20) × (new ≡ kept ++ digit ∷ [])) → (full ≡ true → length kept ≡ 20) → AreKept (old || full) (read ++ digit ∷ []) new
+one_kept true full read kept new digit are ok err = omega (arith, are, length-append read (digit ∷ []))
+one_kept false false read kept new digit are ok err = ((ok refl).1 ∙ ap (λ (l : List ℕ). l ++ digit ∷ []) are.0, omega (arith, (ok refl).0, ap length are.0, length-append read (digit ∷ [])))
+one_kept false true read kept new digit are ok err = omega (arith, err refl, ap length are.0, length-append read (digit ∷ []))
+
+too_long : (n : ℕ) (b : Bool) → leb n 20 ≡ b → 20 < n → b ≡ false
+too_long n true is more = absurd (omega (arith, leb-true n 20 is))
+too_long n false is more = refl
+
+pub too_many_digits : (total : Option (List ℕ)) (read kept : List ℕ) (long : Bool) → total ≡ Some read → long ≡ true → AreKept long read kept → Err AddressTooLong ≡ few_digits total
+too_many_digits total read kept true e is are = let t : leb (length read) 20 ≡ false = too_long (length read) _ refl are in rw (e, t) refl
+too_many_digits total read kept false e is are = absurd cc
+
+pub few_kept : (total : Option (List ℕ)) (read kept : List ℕ) (long : Bool) → total ≡ Some read → long ≡ false → AreKept long read kept → (length kept ≤ 20) × (total ≡ Some kept) × (Ok kept ≡ few_digits total)
+few_kept total read kept true e is are = absurd cc
+few_kept total read kept false e is are =
+    let few : length kept ≤ 20 = omega (arith, are.1, ap length are.0) in
+    let same : total ≡ Some kept = e ∙ ap (λ (l : List ℕ). let r : Option (List ℕ) = Some l in r) (sym are.0) in
+    let t : leb (length kept) 20 ≡ true = le-leb (length kept) 20 few in
+    (few, same, rw (same, t) refl)

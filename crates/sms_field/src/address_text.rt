@@ -9,7 +9,7 @@ ghost use Rattle.sms_field.specs.Address.Text.{plus, prefix, address_text, few_d
 ghost use Rattle.sms_field.specs.Address.Faults.{Gives};
 
 use crate::address::{ALPHANUMERIC, Address};
-use crate::digits::{DIGITS_MAX, Digits, digits_of, push_digits};
+use crate::digits::{Digits, digits_of, push_digits};
 use crate::fault::{AddressFault, TextFault};
 use crate::name::{Name, SEPTETS_MAX};
 use crate::symbols::Symbols;
@@ -25,16 +25,13 @@ pub fn international(text: &str) -> Option<&str>
 }
 
 /// The digits of a text, up to 20.
-pub fn digits_of_telephone(alloc: Global, text: &str) -> Result<Digits, TextFault>
+pub fn digits_of_telephone(_alloc: Global, text: &str) -> Result<Digits, TextFault>
     ensures { Gives result (few_digits (digits_of_text (chars text.now))) }
 {
-    let Some(values) = digits_of(alloc, text)? else {
-        return Err(TextFault::Address(AddressFault::BadDigit));
-    };
-    if values.len() > DIGITS_MAX {
-        return Err(TextFault::Address(AddressFault::AddressTooLong));
+    match digits_of(text) {
+        Ok(digits) => Ok(digits),
+        Err(why) => Err(TextFault::Address(why)),
     }
-    Ok(Digits::new(values.as_slice()))
 }
 
 /// The text of digits, after a `+` where the type of number is 1.

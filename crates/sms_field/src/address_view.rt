@@ -43,6 +43,7 @@ impl<'a> Model for AddressView<'a> {
 }
 
 /// The octets of digits, as many as are counted.
+#[inline(always)]
 fn digits_seen_at<'a>(input: &mut Cursor<'a>, count: u8) -> Result<&'a [u8], Fault<FieldFault>>
     ensures read { SeesAs (λ octets. digits_in count octets.now)
         (digits count) input.old result input.new }
@@ -59,6 +60,7 @@ fn digits_seen_at<'a>(input: &mut Cursor<'a>, count: u8) -> Result<&'a [u8], Fau
 }
 
 /// The octets of semi-octets, as many as are counted: of a name or of digits.
+#[inline(always)]
 #[tactic(auto, unfolding(crate::specs::Address::symbols_by, crate::specs::Address::NameOctets::name))]
 fn symbols_seen_at<'a>(
     input: &mut Cursor<'a>,
@@ -105,6 +107,7 @@ impl<'a> AddressView<'a> {
     }
 
     /// Sees an address at a cursor.
+    #[inline(always)]
     #[tactic(auto, unfolding(crate::specs::Address::address))]
     pub fn read_at(input: &mut Cursor<'a>) -> Result<AddressView<'a>, Fault<FieldFault>>
         ensures read { Sees address input.old result input.new }

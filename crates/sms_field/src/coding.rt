@@ -19,6 +19,7 @@ pub enum Alphabet {
 }
 
 /// The alphabet that a TP-DCS names (3GPP TS 23.038, 4).
+#[inline(always)]
 #[tactic(auto, unfolding(crate::specs::Coding::alphabet_at))]
 pub fn alphabet_of(dcs: u8) -> Alphabet
     ensures { result ≡ alphabet_at dcs }

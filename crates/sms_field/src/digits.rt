@@ -6,6 +6,7 @@ ghost use Rattle.std.specs.Str.{chars};
 ghost use Rattle.std.specs.String.{string_bytes};
 ghost use Rattle.sms_field.specs.Address.DigitValues.{AreDigits};
 ghost use Rattle.sms_field.specs.Address.DigitText.{digit_characters, digit_of_character, character_of_digit, digits_of_text, text_of_digits};
+ghost use Rattle.sms_field.specs.Address.Text.{few_digits};
 ghost use Rattle.sms_field.specs.Address.DigitOctets.{low_digit, both_digits, digit_octets};
 ghost use Rattle.std.specs.Prelude.{nat_eq};
 ghost use Rattle.std.specs.Cmp.Lexicographic.{pointwise};
@@ -191,22 +192,23 @@ fn character_of(digit: u8) -> char
     CHARACTERS[digit as usize]
 }
 
-/// The digits of a text, or `None` where one of its characters is no digit.
-pub fn digits_of(alloc: Global, text: &str) -> Result<Option<Vec<u8>>, AllocError>
-    ensures exact { IfOk result (λ found. MatchOption found
-        (digits_of_text (chars text.now) ≡ None)
-        (λ digits. digits_of_text (chars text.now) ≡ Some digits.items)) }
-    ensures digits { IfOk result (λ found. IfSome found
-        (λ digits. AllByRecursion (λ digit. digit < 15) digits.items)) }
+/// The digits of a text, up to 20. A character that is no digit is found before too many. It takes
+/// no memory.
+pub fn digits_of(text: &str) -> Result<Digits, AddressFault>
+    ensures { result ≡ few_digits (digits_of_text (chars text.now)) }
 {
-    let mut digits = Vec::with_capacity(alloc, text.len().min(DIGITS_MAX))?;
+    let mut digits: ArrayVec<u8, DIGITS_MAX> = ArrayVec::new();
+    let mut is_long = false;
     for c in text.chars() {
         let Some(digit) = digit_of(c) else {
-            return Ok(None);
+            return Err(AddressFault::BadDigit);
         };
-        digits.push(digit)?;
+        is_long |= digits.try_push(digit).is_err();
     }
-    Ok(Some(digits))
+    if is_long {
+        return Err(AddressFault::AddressTooLong);
+    }
+    Ok(Digits::of(digits))
 }
 
 /// Adds the characters of digits to a text.

@@ -1,6 +1,6 @@
 //! Time stamps of a service centre (3GPP TS 23.040, 9.2.3.11).
 
-ghost use Rattle.std.specs.Prelude.{◌≡◌, ◌↔◌, ◌<◌, ◌/◌, ◌+◌, IsSome, IfSome, IfOk, IfErr};
+ghost use Rattle.std.specs.Prelude.{◌≡◌, ◌↔◌, ◌<◌, ◌/◌, ◌+◌, length, IsSome, IfSome, IfOk, IfErr};
 ghost use Rattle.sms_field.specs.Time.Days.{IsDay};
 ghost use Rattle.sms_field.specs.Field.{IsLawful};
 ghost use Rattle.sms_field.specs.declared.fault.FieldFault.TheVariants.{Short};
@@ -53,6 +53,18 @@ pub struct StampDate {
     pub second: u8,
     /// Local time less UTC, in quarters of an hour: -79 to 79.
     pub quarters: i8,
+}
+
+/// The octets, which are seven.
+#[inline(always)]
+fn seven_of(octets: &[u8]) -> [u8; 7]
+    requires { length octets.now ≡ 7 }
+    ensures { result ≡ octets.now }
+{
+    match octets.first_chunk::<7>() {
+        Some(seven) => *seven,
+        None => unreachable!(),
+    }
 }
 
 /// The value of two decimal digits, the tens in the low half.
@@ -164,12 +176,12 @@ impl Stamp {
     }
 
     /// Reads a stamp at a cursor.
+    #[inline(always)]
     pub fn read_at<W: Reason>(input: &mut Cursor) -> Result<Stamp, Fault<W>>
         ensures in_range { IfOk result IsStamp }
         ensures read { Sees (stamp W.short) input.old result input.new }
     {
-        let mut octets = [0; 7];
-        octets.copy_from_slice(input.take_octets(7)?);
-        Ok(Stamp::new(octets))
+        let octets = input.take_octets(7)?;
+        Ok(Stamp::new(seven_of(octets)))
     }
 }

@@ -1,11 +1,12 @@
 -- The segments of a text can be sent: there is room for the units of each, and their user data fit.
-use Rattle.std.proofs.Common.{◌≡◌, ℕ, zero, suc, ◌+◌, ◌<◌, ◌≤◌, ◌≢◌, ◌⊎◌, inl, inr, Bool, true, false, cond, List, [], ◌∷◌, length, map, Some, None, sym, ap, subst, ◌∙◌, arith}
+use Rattle.std.proofs.Common.{◌≡◌, ℕ, zero, suc, ◌+◌, ◌<◌, ◌≤◌, ◌≢◌, ◌⊎◌, inl, inr, Bool, true, false, cond, List, [], ◌∷◌, length, map, Some, None, refl, sym, ap, subst, ◌∙◌, arith}
 use Rattle.std.specs.Prelude.{◌==◌, All}
 use Rattle.std.proofs.lemmas.Bool.{cases_lt}
 use Rattle.std.proofs.lemmas.Bool.Decides.{eqb_tells}
 use Rattle.std.proofs.lemmas.List.Elements.{All-from_recursion}
 use Rattle.std.specs.List.{flat_map, AllByRecursion, range_with_len}
 use Rattle.sms_text.specs.Inside.Utf16Laws.{length-octets_high_first}
+use Rattle.sms_text.specs.Octets.{IsOctets}
 use Rattle.sms_tpdu.specs.declared.user_data.concat.Width.{Width}
 use Rattle.sms_tpdu.specs.declared.user_data.concat.Width.TheVariants.{Eight, Sixteen}
 use Rattle.sms_tpdu.specs.UserData.Elements.{element_octets}
@@ -91,6 +92,11 @@ fits_beside Eight (Gsm septets) reference maximum sequence le range = (omega (ar
 fits_beside Eight (Ucs2 units) reference maximum sequence le range = (omega (arith, le, length-octets_high_first units), range)
 fits_beside Sixteen (Gsm septets) reference maximum sequence le range = (omega (arith, le), range)
 fits_beside Sixteen (Ucs2 units) reference maximum sequence le range = (omega (arith, le, length-octets_high_first units), range)
+
+-- the header of a segment's place is octets
+pub header_are_octets : (width : Width) (reference maximum sequence : ℕ) → (width ≡ Eight → reference < 256) → reference < 65536 → maximum < 256 → sequence < 256 → IsOctets (header_octets (Some (element_octets (element_for width reference maximum sequence))))
+header_are_octets Eight reference maximum sequence narrow few many place = (omega arith, (omega arith, (omega arith, (narrow refl, (many, (place, tt))))))
+header_are_octets Sixteen reference maximum sequence narrow few many place = (omega arith, (omega arith, (omega arith, (omega (arith, few), (omega arith, (many, (place, tt)))))))
 
 -- the body of a segment's user data fits after its header
 pub segment_fits : (width : Width) (segment : Segment) (reference : ℕ) → IsSendable width segment → HasRange (body_of segment.units)

@@ -18,6 +18,9 @@ use sms_tpdu::{Septets, Width};
 use std::alloc::{AllocError, AllocFailed, Global};
 use thiserror::Error;
 
+/// The most segments that a concatenated short message may have (3GPP TS 23.040, 9.2.3.24.1).
+pub const SEGMENTS_MAX: usize = 255;
+
 /// Why a text is not cut.
 #[derive(Clone, Copy, Debug, PartialEq, Eq, Error)]
 pub enum SplitFault {
@@ -125,11 +128,11 @@ fn ends_of(alloc: Global, units: &Units, width: Width, many: u8) -> Result<Vec<u
 pub fn cut_text(alloc: Global, text: &str, width: Width) -> Result<Segments, SplitFault>
     ensures segments { IfOk result (λ segments.
         AreSegments width (chars text.now) segments) }
-    ensures few { IfOk result (λ segments. length segments ≤ 255) }
+    ensures few { IfOk result (λ segments. length segments ≤ SEGMENTS_MAX) }
     ensures sendable { IfOk result (λ segments. All (IsSendable width) segments) }
     ensures too_many { result ≡ Err TooManySegments
         → (pieces : List TheUnits) × IsCut width (chars text.now) pieces
-        × (255 < length pieces) }
+        × (SEGMENTS_MAX < length pieces) }
 {
     let units = units_of(alloc, text)?;
     let Ok(maximum) = u8::try_from(count_pieces(&units, width)) else {
@@ -143,11 +146,11 @@ pub fn cut_text(alloc: Global, text: &str, width: Width) -> Result<Segments, Spl
 pub fn split(alloc: Global, text: &str, width: Width) -> Result<Vec<Segment>, SplitFault>
     ensures segments { IfOk result (λ segments.
         AreSegments width (chars text.now) segments.items) }
-    ensures few { IfOk result (λ segments. length segments.items ≤ 255) }
+    ensures few { IfOk result (λ segments. length segments.items ≤ SEGMENTS_MAX) }
     ensures sendable { IfOk result (λ segments. All (IsSendable width) segments.items) }
     ensures too_many { result ≡ Err TooManySegments
         → (pieces : List TheUnits) × IsCut width (chars text.now) pieces
-        × (255 < length pieces) }
+        × (SEGMENTS_MAX < length pieces) }
 {
     let segments = cut_text(alloc, text, width)?;
     Ok(segments.to_vec(alloc)?)

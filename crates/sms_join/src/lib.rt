@@ -14,7 +14,7 @@ mod segments;
 mod slot;
 mod units;
 
-pub use cut::{SplitFault, cut_text, split};
+pub use cut::{SEGMENTS_MAX, SplitFault, cut_text, split};
 pub use joiner::Joiner;
 pub use key::Key;
 pub use laws::{cut_is_read_as_text, texts_have_one_cut};

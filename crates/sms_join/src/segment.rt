@@ -3,16 +3,21 @@
 ghost use Rattle.std.specs.Prelude.{◌≡◌, ◌<◌, ◌≤◌, None, Some, IfOk, IfSome, MatchOption};
 ghost use Rattle.sms_tpdu.specs.declared.user_data.concat.Width.TheVariants.{Eight};
 ghost use Rattle.sms_text.specs.Octets.{IsOctets};
+ghost use Rattle.sms_text.specs.Utf16.{octets_high_first};
 ghost use Rattle.sms_field.specs.Coding.{alphabet_at};
+ghost use Rattle.sms_tpdu.specs.Submit.{SpellsSubmit};
+ghost use Rattle.sms_tpdu.specs.Submit.Front.{submission_of};
 ghost use Rattle.sms_tpdu.specs.UserData.{FitsAlphabet, SpellsUserData, header_octets};
-ghost use Rattle.sms_tpdu.specs.UserData.Lent.{place_header, IsReferenceInRange};
+ghost use Rattle.sms_tpdu.specs.UserData.Lent.{place_header, units_body, IsReferenceInRange};
 ghost use Rattle.sms_tpdu.specs.UserData.Concatenation.{IsInOrder, IsConcatOf};
 ghost use Rattle.sms_join.specs.Segments.User.{IsSendable, HasRange, coding_of, dcs_of, body_of, header_of, user_of, TellsPlace};
 ghost use Rattle.sms_join.specs.Segments.Value.{seen_units, AreLent};
 
 use crate::units::Units;
 use sms_text::octets_of_units;
-use sms_tpdu::{Body, Concat, Header, Octets, Septets, UnitsView, UserData, Width, write_units};
+use sms_tpdu::{
+    Body, Concat, Header, Octets, Septets, SubmitFront, UnitsView, UserData, Width, write_units,
+};
 use std::alloc::{AllocError, Global};
 use std::marker::Model;
 
@@ -98,6 +103,28 @@ fn header_of_place(alloc: Global, place: Option<Concat>) -> Result<Option<Header
     }
 }
 
+/// Does nothing: its contract says that the octets of 16-bit units are octets.
+#[inline(always)]
+fn have_octets(_units: &[u16])
+    ensures { IsOctets (octets_high_first _units.now) }
+{}
+
+/// The same units, of which the octets are known as such.
+#[inline(always)]
+fn in_range(units: UnitsView<'_>) -> UnitsView<'_>
+    requires { AreLent units }
+    ensures body { units_body result ≡ body_of (seen_units units.entry) }
+    ensures range { HasRange (units_body result) }
+{
+    match units {
+        UnitsView::Gsm(septets) => UnitsView::Gsm(septets),
+        UnitsView::Ucs2(units) => {
+            have_octets(units);
+            UnitsView::Ucs2(units)
+        }
+    }
+}
+
 impl<'a> SegmentView<'a> {
     /// A segment of these units, which are septets where they are lent as septets.
     pub(crate) fn new(units: UnitsView<'a>, maximum: u8, sequence: u8) -> SegmentView<'a>
@@ -157,6 +184,7 @@ impl<'a> SegmentView<'a> {
         ensures header { place_header result
             ≡ header_of width reference self.now.maximum self.now.sequence }
         ensures reference { IfSome result IsReferenceInRange }
+        ensures octets { IsOctets (header_octets (place_header result)) }
         ensures order { IfSome result IsInOrder }
         ensures place { MatchOption result (self.now.maximum ≡ 1) (λ place. place ≡ record {
           width = width;
@@ -206,6 +234,25 @@ impl<'a> SegmentView<'a> {
             SpellsUserData (user_of width reference self.now) octets.items) }
     {
         write_units(alloc, self.place(width, reference), self.units)
+    }
+
+    /// The octets of the SMS-SUBMIT with these fields that carries the segment, written straight
+    /// from its units. TP-DCS is that of `coding_scheme`, or another of the same alphabet.
+    pub fn write_submit(
+        &self,
+        alloc: Global,
+        front: &SubmitFront,
+        width: Width,
+        reference: u16,
+    ) -> Result<Vec<u8>, AllocError>
+        requires sendable { IsSendable width self.now }
+        requires reference { width ≡ Eight → reference < 256 }
+        requires alphabet { alphabet_at front.now.dcs ≡ coding_of self.now.units }
+        ensures { IfOk result (λ octets. SpellsSubmit
+            (submission_of front.now (user_of width reference self.now)) octets.items) }
+    {
+        let place = self.place(width, reference);
+        front.write_with(alloc, place, in_range(self.units))
     }
 
     /// The segment itself, with a copy of the units.

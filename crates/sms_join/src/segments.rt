@@ -3,6 +3,7 @@
 ghost use Rattle.std.specs.Prelude.{◌≡◌, ◌<◌, ◌≤◌, ◌↔◌, [], IfOk, IfSome, IsTrue, length, slice_get, slice_index_or};
 ghost use Rattle.sms_join.specs.Inside.SegmentsAt.{AreEnds, segments_at, start_at};
 
+use crate::cut::SEGMENTS_MAX;
 use crate::segment::{Segment, SegmentView};
 use crate::units::Units;
 use std::alloc::{AllocError, Global};
@@ -49,7 +50,7 @@ impl Segments {
     /// How many segments there are.
     pub fn len(&self) -> usize
         ensures count { result ≡ length self.now }
-        ensures few { result ≤ 255 }
+        ensures few { result ≤ SEGMENTS_MAX }
     {
         self.ends.len()
     }

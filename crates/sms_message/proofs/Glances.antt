@@ -1,5 +1,5 @@
 -- What octets are at a glance is what the message is as which they are read.
-use Rattle.std.proofs.Common.{◌≡◌, ℕ, ◌<◌, ◌≤◌, get_or, Bool, List, [], ◌∷◌, length, Option, Some, None, refl, sym, ap, ◌∙◌, subst, arith}
+use Rattle.std.proofs.Common.{◌≡◌, ℕ, ◌<◌, ◌≤◌, get_or, Bool, List, [], ◌∷◌, length, Some, None, refl, sym, ap, ◌∙◌, subst, arith}
 use Rattle.sms_text.specs.Octets.{IsOctets}
 use Rattle.sms_field.specs.Field.{HasReading}
 use Rattle.sms_field.specs.Reading.{Reads}
@@ -13,7 +13,6 @@ use Rattle.sms_relay.specs.Cp.Seen.{seen_cp_body}
 use Rattle.sms_relay.specs.declared.cp.view.CpBodyView.{CpBodyView}
 use Rattle.sms_relay.specs.declared.cp.view.CpBodyView.TheVariants as seen
 use Rattle.sms_relay.specs.Carried.Unwrapped.{IsReadAs, Holds}
-use Rattle.sms_relay.specs.declared.side.Side.{Side}
 use Rattle.sms_relay.specs.declared.cp.CpBody.{CpBody}
 use Rattle.sms_relay.specs.declared.cp.CpBody.TheVariants as cp
 use Rattle.sms_relay.specs.declared.inner.Inner.{Inner}
@@ -22,7 +21,6 @@ use Rattle.sms_relay.specs.declared.fault.RelayFault.TheVariants as fault
 use Rattle.sms_message.specs.declared.glance.Glance.{Glance}
 use Rattle.sms_message.specs.declared.glance.Glance.TheVariants as glance
 use Rattle.sms_message.specs.declared.glance.RelayGlance.{RelayGlance}
-use Rattle.sms_message.specs.declared.glance.RelayGlance.TheVariants as relay
 use Rattle.sms_message.specs.declared.message.Relay.{Relay}
 use Rattle.sms_message.specs.declared.message.Relay.TheVariants.{Transfer, Answer, UnknownType, Unreadable}
 use Rattle.sms_message.specs.declared.message.Message.{Message}

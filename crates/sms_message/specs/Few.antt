@@ -5,7 +5,6 @@ use Rattle.std.proofs.lemmas.List.{length-map}
 use Rattle.sms_message.specs.declared.message.Message.{Message}
 use Rattle.sms_message.specs.declared.outcome.Outcome.{Outcome}
 use Rattle.sms_message.specs.declared.outcome.Dropped.{Dropped}
-use Rattle.sms_message.specs.declared.outcome.Dropped.TheVariants as dropped
 use Rattle.sms_message.specs.declared.outcome.Step.{Step}
 use Rattle.sms_message.specs.Does.{Does, packets_of, CarriesEach, Puts, Answered}
 

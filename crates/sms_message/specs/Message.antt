@@ -6,7 +6,6 @@ pub mod Request
 pub mod Glance
 pub mod Answers
 pub mod Laws
-pub mod Tags
 use Rattle.std.specs.Prelude.{ℕ, ◌+◌, ◌%◌, Bool, ◌&&◌, ◌==◌}
 use Rattle.sms_message.specs.declared.message.Tag.{Tag}
 

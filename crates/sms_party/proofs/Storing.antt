@@ -36,7 +36,7 @@ use Rattle.sms_party.specs.Receiver.Offers.{refuses, settles, is_full_for, offer
 use Rattle.sms_party.specs.Receiver.{receiver_receives}
 use Rattle.sms_party.specs.Receiver.Aging.{ages}
 use Rattle.sms_party.specs.Receiver.Standing.{ReceiverValue, StandsFor, ReceiverAnswers, Steps, ReceivesAs}
-use Rattle.sms_party.specs.Receiver.JoinerLaws.{JoinerLaws}
+use Rattle.sms_party.specs.Inside.JoinerLaws.{JoinerLaws}
 
 -- an answer that changes nothing
 pub puts_answer : (limits : ReceiverLimits) (v : ReceiverValue) (s : ReceiverState) (word : Outcome) (messages : List Message) (r : Result Step Dropped)

@@ -17,7 +17,7 @@ use Rattle.sms_message.specs.declared.message.Message.TheVariants.{Data}
 use Rattle.sms_message.specs.declared.message.Tag.{Tag}
 use Rattle.sms_party.specs.declared.sender.Status.{Status}
 use Rattle.sms_message.specs.Message.{tag_of, following}
-use Rattle.sms_message.specs.Message.Tags.{following_is}
+use Rattle.sms_message.specs.Inside.Tags.{following_is}
 use Rattle.sms_party.specs.Sent.{nth, messages_of}
 use Rattle.sms_party.specs.Sender.Texts.{Text, Sender, sets_of, width_of, new_text, size_of}
 use Rattle.sms_party.specs.Sender.Segments.{submission_of}

@@ -5,7 +5,6 @@ pub mod Offers
 pub mod Aging
 pub mod Standing
 pub mod Waits
-pub mod JoinerLaws
 use Rattle.std.specs.Prelude.{ℕ, true, false, Option, Result, Ok, Err}
 use Rattle.sms_field.specs.Coding.{alphabet_at}
 use Rattle.sms_tpdu.specs.Deliver.{Delivery}

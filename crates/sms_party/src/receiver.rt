@@ -18,7 +18,7 @@ ghost use Rattle.sms_party.specs.Receiver.Offers.{turned_away, offers_units, rec
 ghost use Rattle.sms_party.specs.Receiver.{receiver_takes, receiver_opened, receiver_receives};
 ghost use Rattle.sms_party.specs.Receiver.Standing.{IsNew, AgesTo, Steps, ReceivesAs};
 ghost use Rattle.sms_party.specs.Receiver.Waits.{takes_up};
-ghost use Rattle.sms_party.specs.Receiver.JoinerLaws.{JoinerLaws};
+ghost use Rattle.sms_party.specs.Inside.JoinerLaws.{JoinerLaws};
 ghost use Rattle.sms_message.specs.declared.outcome.Dropped.TheVariants.{Memory};
 ghost use Rattle.sms_message.specs.declared.message.Message.{Message as MessageValue};
 

@@ -27,6 +27,7 @@ pub use rp_kind::{RpKind, RpType};
 pub use side::Side;
 pub use transaction::Transaction;
 pub use unwrapping::{unwrap, unwrap_view};
+pub use user::USER_DATA_MAX;
 pub use wrap::{
     wrap_acknowledgement, wrap_answer, wrap_answer_octets, wrap_transfer, wrap_transfer_octets,
 };

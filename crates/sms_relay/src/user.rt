@@ -12,7 +12,7 @@ use sms_field::{Cursor, Fault};
 use sms_tpdu::{Octets, OctetsView};
 use std::alloc::AllocError;
 
-/// The most octets that user data of the relay may have.
+/// The most octets that RP-User data may have (3GPP TS 24.011, 8.2.5.3).
 pub const USER_DATA_MAX: u8 = 233;
 
 /// The octet before user data that may be left out.

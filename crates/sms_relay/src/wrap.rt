@@ -19,7 +19,7 @@ use std::alloc::{AllocError, Global};
 fn octets_of_unit<U: Unit>(alloc: Global, unit: &U) -> Result<Octets, WrapFault>
     ensures spelled { IfOk result (λ octets. U.spells unit.now octets × IsUserData octets) }
     ensures too_long { result ≡ Err DataTooLong →
-        (octets : List ℕ) × U.spells unit.now octets × (233 < length octets) }
+        (octets : List ℕ) × U.spells unit.now octets × (USER_DATA_MAX < length octets) }
 {
     let octets = unit.write(alloc)?;
     if octets.len() > USER_DATA_MAX as usize {
@@ -108,7 +108,7 @@ pub fn wrap_transfer<U: Unit>(
         Carries flag value (transfer side reference (option_copied address.entry) octets)
         packet.items) }
     ensures too_long { result ≡ Err DataTooLong →
-        (octets : List ℕ) × U.spells unit.now octets × (233 < length octets) }
+        (octets : List ℕ) × U.spells unit.now octets × (USER_DATA_MAX < length octets) }
 {
     let user = octets_of_unit(alloc, unit)?;
     let message = transfer_of(alloc, side, reference, address, user)?;
@@ -118,7 +118,7 @@ pub fn wrap_transfer<U: Unit>(
 /// A copy of octets, if they are not too many for user data.
 fn user_data_of(alloc: Global, octets: &[u8]) -> Result<Octets, WrapFault>
     ensures copied { IfOk result (λ user. (user ≡ octets.now) × IsUserData user) }
-    ensures too_long { (result ≡ Err DataTooLong) ↔ (233 < length octets.now) }
+    ensures too_long { (result ≡ Err DataTooLong) ↔ (USER_DATA_MAX < length octets.now) }
 {
     if usize::from(USER_DATA_MAX) < octets.len() {
         return Err(WrapFault::DataTooLong);
@@ -146,7 +146,7 @@ pub fn wrap_transfer_octets(
     ensures carried { IfOk result (λ packet.
         Carries flag value (transfer side reference (option_copied address.entry) octets.now)
         packet.items) }
-    ensures too_long { (result ≡ Err DataTooLong) ↔ (233 < length octets.now) }
+    ensures too_long { (result ≡ Err DataTooLong) ↔ (USER_DATA_MAX < length octets.now) }
 {
     let user = user_data_of(alloc, octets)?;
     let message = transfer_of(alloc, side, reference, address, user)?;
@@ -158,7 +158,7 @@ fn octets_of_some<U: Unit>(alloc: Global, unit: Option<&U>) -> Result<Option<Oct
     ensures spelled { IfOk result (λ octets.
         SpellsOptional U.spells (option_copied unit.entry) octets × ForSome octets IsUserData) }
     ensures too_long { result ≡ Err DataTooLong → (octets : List ℕ) ×
-        SpellsOptional U.spells (option_copied unit.entry) (Some octets) × (233 < length octets) }
+        SpellsOptional U.spells (option_copied unit.entry) (Some octets) × (USER_DATA_MAX < length octets) }
 {
     match unit {
         Some(unit) => Ok(Some(octets_of_unit(alloc, unit)?)),
@@ -210,7 +210,7 @@ pub fn wrap_answer<U: Unit>(
         SpellsOptional U.spells (option_copied unit.entry) octets ×
         Carries flag value (answer side reference cause octets) packet.items) }
     ensures too_long { result ≡ Err DataTooLong → (octets : List ℕ) ×
-        SpellsOptional U.spells (option_copied unit.entry) (Some octets) × (233 < length octets) }
+        SpellsOptional U.spells (option_copied unit.entry) (Some octets) × (USER_DATA_MAX < length octets) }
 {
     let user = octets_of_some(alloc, unit)?;
     let message = answer_of(side, reference, cause, user);
@@ -222,7 +222,7 @@ fn user_data_of_some(alloc: Global, octets: Option<&[u8]>) -> Result<Option<Octe
     ensures copied { IfOk result (λ user.
         (user ≡ option_copied octets.entry) × ForSome user IsUserData) }
     ensures too_long { (result ≡ Err DataTooLong)
-        ↔ IsSomeAnd (option_copied octets.entry) (λ o. 233 < length o) }
+        ↔ IsSomeAnd (option_copied octets.entry) (λ o. USER_DATA_MAX < length o) }
 {
     match octets {
         Some(octets) => Ok(Some(user_data_of(alloc, octets)?)),
@@ -253,7 +253,7 @@ pub fn wrap_answer_octets(
         Carries flag value (answer side reference cause (option_copied octets.entry))
         packet.items) }
     ensures too_long { (result ≡ Err DataTooLong)
-        ↔ IsSomeAnd (option_copied octets.entry) (λ o. 233 < length o) }
+        ↔ IsSomeAnd (option_copied octets.entry) (λ o. USER_DATA_MAX < length o) }
 {
     let user = user_data_of_some(alloc, octets)?;
     let message = answer_of(side, reference, cause, user);

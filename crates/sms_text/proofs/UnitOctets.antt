@@ -1,8 +1,7 @@
 -- Units in octets, the high octet first.
-use Rattle.std.proofs.Common.{◌≡◌, ℕ, suc, ◌+◌, ◌-◌, ◌*◌, ◌/◌, ◌%◌, ◌<◌, ◌≤◌, List, [], ◌∷◌, ◌++◌, length, take, drop, get_or, refl, sym, ap, ◌∙◌, append_assoc, arith}
+use Rattle.std.proofs.Common.{◌≡◌, ℕ, ◌+◌, ◌-◌, ◌*◌, ◌/◌, ◌%◌, ◌<◌, ◌≤◌, List, [], ◌∷◌, ◌++◌, length, take, drop, get_or, refl, sym, ap, ◌∙◌, append_assoc, arith}
 use Rattle.std.proofs.lemmas.List.{append-nil, length-drop, at_drop_more, drop_all, take_all, take_rest, drop_more}
 use Rattle.std.specs.Char.Escape.{encode_utf16}
-use Rattle.sms_text.specs.Octets.{IsOctets}
 use Rattle.sms_text.proofs.Words.{eight_then}
 use Rattle.sms_text.specs.Utf16.{AreUnits, utf16_units, octets_high_first, units_high_first}
 
@@ -58,15 +57,6 @@ pub room_left : (rest : List ℕ) (old new room more : ℕ) → 8 ≤ length res
 room_left rest old new room more many e there grows =
     let left : length (take (length rest - 8) (drop 8 rest)) ≡ length rest - 8 = ap length (take_rest rest 8) ∙ length-drop 8 rest in
     omega arith
-
-pub units_from_reads : (xs : List ℕ) → ((k : ℕ) → get_or xs k 0 < 65536) → AreUnits xs
-units_from_reads [] h = tt
-units_from_reads (x ∷ xs) h = (h 0, units_from_reads xs (λ (k : ℕ). h (suc k)))
-
-pub octets_are : (units : List ℕ) → AreUnits units → IsOctets (octets_high_first units)
-unfolding octets_high_first
-octets_are [] are = tt
-octets_are (unit ∷ others) are = (omega (arith, are.0), (omega arith, octets_are others are.1))
 
 pub unit_more : (rest old middle new total : List ℕ) → 1 ≤ length rest → middle ≡ old ++ get_or rest 0 0 / 256 ∷ [] → new ≡ middle ++ get_or rest 0 0 % 256 ∷ [] → old ++ octets_high_first rest ≡ total → new ++ octets_high_first (take (length rest - 1) (drop 1 rest)) ≡ total
 unfolding octets_high_first

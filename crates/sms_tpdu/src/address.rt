@@ -12,6 +12,7 @@ use crate::fault::UnitFault;
 use sms_field::{AddressView, Cursor, Fault, Span};
 
 /// An address, refused for a unit's reasons.
+#[inline(always)]
 pub fn address_seen_at<'a>(input: &mut Cursor<'a>) -> Result<AddressView<'a>, Fault<UnitFault>>
     ensures read { Sees (map_reason unit_fault address) input.old result input.new }
     ensures fits { IfOk result HasSpelling }

@@ -26,6 +26,7 @@ pub trait View<'a>: Sized + Drop {
 }
 
 /// Sees a unit at the front of the octets, and says how many it takes.
+#[inline(always)]
 pub fn see<'a, V: View<'a>>(input: &'a [u8]) -> Result<(V, usize), Fault<<V::Owned as Unit>::Why>>
     ensures found { IfOk result (λ x. Reads V.Owned.field (V.value x.0) input.now x.1) }
     ensures refused { IfErr result (IsFaultOf V.Owned.field V.Owned.Why.short input.now) }

@@ -35,7 +35,7 @@ use Rattle.sms_world.specs.World.Value.{PartiesValue, WorldValue}
 use Rattle.sms_world.specs.World.Standing.{ArePacketsOf, PartiesStand, StandsFor, ComesOfRun, IsWorld}
 use Rattle.std.proofs.lemmas.Option.{slice_get_past}
 use Rattle.sms_world.proofs.AllOf.{all_and_all, one_of_all}
-use Rattle.sms_world.specs.World.Parties as parties
+use Rattle.sms_world.specs.Inside.Parties as parties
 use Rattle.sms_world.specs.Inside.Parties.{on_way, Answers}
 use Rattle.sms_world.specs.World.Parties.{place_at}
 use Rattle.sms_world.specs.World.Steps.{PutsMore, StepsFrom, Steps}

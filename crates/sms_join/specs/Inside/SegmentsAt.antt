@@ -1,5 +1,6 @@
 -- A reader may pass this by: contracts of private functions, and proofs, alone cite it.
 use Rattle.std.specs.Prelude.{◌≡◌, ℕ, zero, suc, ◌+◌, ◌≤◌, List, [], ◌∷◌, length, slice_range}
+use Rattle.sms_join.specs.declared.cut.TheConstants.{SEGMENTS_MAX}
 use Rattle.sms_join.specs.declared.units.Units.{Units}
 use Rattle.sms_join.specs.declared.segment.Segment.{Segment}
 use Rattle.sms_join.specs.UnitsOfText.{numbers, alphabet_in, units_in}
@@ -14,7 +15,7 @@ RiseTo start [] all = start ≡ all
 RiseTo start (end ∷ ends) all = (start ≤ end) × RiseTo end ends all
 
 abbrev pub AreEnds : Units → List ℕ → Type 0
-AreEnds units ends = RiseTo 0 ends (length (numbers units)) × (length ends ≤ 255)
+AreEnds units ends = RiseTo 0 ends (length (numbers units)) × (length ends ≤ SEGMENTS_MAX)
 
 -- the pieces of units, each from the end of the one before it to its own
 abbrev pub pieces_at : Units → ℕ → List ℕ → List Units

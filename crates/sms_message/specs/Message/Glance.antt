@@ -1,6 +1,5 @@
 -- What is known of a message at a glance: all but its unit and its report.
-use Rattle.std.specs.Prelude.{◌≡◌, ◌<◌, ℕ, Bool, false, true, List}
-use Rattle.sms_relay.specs.Rp.Value.{RpValue}
+use Rattle.std.specs.Prelude.{◌≡◌, ◌<◌, ℕ, Bool, false, List}
 use Rattle.sms_relay.specs.declared.side.Side.{Side}
 use Rattle.sms_relay.specs.declared.inner.Inner.{Inner}
 use Rattle.sms_relay.specs.declared.inner.Inner.TheVariants as inner

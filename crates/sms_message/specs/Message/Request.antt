@@ -1,7 +1,7 @@
 -- What comes in a transaction that the other side has opened: the unit that a party takes, an
 -- SMS-SUBMIT from a phone or an SMS-DELIVER to one, or why it takes none. The causes are RP-Cause
 -- (3GPP TS 24.011, 8.2.5.4) and TP-FCS (3GPP TS 23.040, 9.2.3.22).
-use Rattle.std.specs.Prelude.{ℕ, ◌<◌, Option, Some, None, Result, Ok, Err}
+use Rattle.std.specs.Prelude.{ℕ, ◌<◌, Some, None, Result, Ok, Err}
 use Rattle.sms_tpdu.specs.Submit.{Submission}
 use Rattle.sms_tpdu.specs.Deliver.{Delivery}
 use Rattle.sms_relay.specs.declared.side.Side.{Side}

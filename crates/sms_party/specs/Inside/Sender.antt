@@ -19,6 +19,8 @@ use Rattle.sms_message.specs.declared.message.Tag.{Tag}
 use Rattle.sms_message.specs.declared.outcome.Outcome.{Outcome}
 use Rattle.sms_message.specs.declared.outcome.Outcome.TheVariants as outcome
 use Rattle.sms_message.specs.declared.outcome.Dropped.TheVariants as dropped
+use Rattle.sms_party.specs.declared.sender.putting.Putting.{Putting}
+use Rattle.sms_party.specs.declared.sender.putting.Putting.TheVariants.{Again, NextSegment, NextText}
 use Rattle.sms_party.specs.declared.sender.Status.{Status}
 use Rattle.sms_party.specs.declared.sender.Status.TheVariants.{Accepted, Failed}
 use Rattle.sms_message.specs.Message.{following, same_tag}
@@ -54,6 +56,17 @@ segment_put tag reject t place (Some segment) =
 abbrev pub text_put : Tag → Bool → ℕ → Option TextValue → List Message
 text_put tag reject place None = []
 text_put tag reject place (Some t) = segment_put tag reject t place (slice_get t.segments place)
+
+-- what is put out; and of which of the texts that wait it is, counted from 0
+abbrev pub put_by : SenderValue → Putting → List Message
+put_by v Again = text_put v.next true v.accepted (slice_get v.pending 0)
+put_by v NextSegment = text_put v.next v.reject (v.accepted + 1) (slice_get v.pending 0)
+put_by v NextText = text_put v.next v.reject 0 (slice_get v.pending 1)
+
+abbrev pub turn_of : Putting → ℕ
+turn_of Again = 0
+turn_of NextSegment = 0
+turn_of NextText = 1
 
 -- what was put out took the next tag
 abbrev pub counted : SenderValue → List Message → SenderValue

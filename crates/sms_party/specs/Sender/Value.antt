@@ -1,15 +1,11 @@
 -- What the code of a sender holds, and what a call makes of it.
-use Rattle.std.specs.Prelude.{ℕ, ◌+◌, Bool, true, List, [], ◌∷◌, ◌++◌, zero, suc, Option, Some, None, slice_get}
+use Rattle.std.specs.Prelude.{ℕ, Bool, List, [], ◌∷◌, ◌++◌, zero, suc, Option, Some, None}
 use Rattle.sms_field.specs.Address.Value.{AddressValue}
 use Rattle.sms_tpdu.specs.declared.user_data.concat.Width.{Width}
 use Rattle.sms_join.specs.declared.segment.Segment.{Segment}
-use Rattle.sms_message.specs.declared.message.Message.{Message}
 use Rattle.sms_message.specs.declared.message.Tag.{Tag}
-use Rattle.sms_party.specs.declared.sender.putting.Putting.{Putting}
-use Rattle.sms_party.specs.declared.sender.putting.Putting.TheVariants.{Again, NextSegment, NextText}
 use Rattle.sms_party.specs.declared.sender.Status.{Status}
 use Rattle.sms_party.specs.declared.sender.Status.TheVariants.{Waiting}
-use Rattle.sms_party.specs.Inside.Sender.{text_put}
 
 -- a typed text that has not ended
 pub record TextValue : Type 0 where
@@ -54,16 +50,3 @@ all_waiting (x ∷ later) = Waiting ∷ all_waiting later
 -- of all texts that were typed, the first typed first
 abbrev pub statuses_in : SenderValue → List Status
 statuses_in v = v.ended ++ all_waiting v.pending
-
--- ---- a segment is put out
-
--- what is put out; and of which of the texts that wait it is, counted from 0
-abbrev pub put_by : SenderValue → Putting → List Message
-put_by v Again = text_put v.next true v.accepted (slice_get v.pending 0)
-put_by v NextSegment = text_put v.next v.reject (v.accepted + 1) (slice_get v.pending 0)
-put_by v NextText = text_put v.next v.reject 0 (slice_get v.pending 1)
-
-abbrev pub turn_of : Putting → ℕ
-turn_of Again = 0
-turn_of NextSegment = 0
-turn_of NextText = 1

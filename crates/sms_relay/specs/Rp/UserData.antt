@@ -4,13 +4,14 @@ use Rattle.std.specs.Prelude.{◌≡◌, ℕ, ◌≤◌, List, [], ◌∷◌, le
 use Rattle.sms_text.specs.Octets.{IsOctets}
 use Rattle.sms_field.specs.Field.{Field, ◌>>=◌, octet_by, octets_of, up_to}
 use Rattle.sms_field.specs.Field.Optional.{tagged}
+use Rattle.sms_relay.specs.declared.user.TheConstants.{USER_DATA_MAX}
 use Rattle.sms_relay.specs.declared.fault.RelayFault.{RelayFault}
 use Rattle.sms_relay.specs.declared.fault.RelayFault.TheVariants.{Short, DataTooLong}
 
 unfoldable pub user_data : Field (List ℕ) RelayFault
 user_data = do
   -- the length of RP-User data; more than 233: DataTooLong
-  count ← octet_by Short (up_to 233 DataTooLong)
+  count ← octet_by Short (up_to USER_DATA_MAX DataTooLong)
   -- the transfer unit (TPDU)
   octets_of Short count
 
@@ -30,7 +31,7 @@ optional_user_octets (Some user) = user_data_tag ∷ user_octets user
 
 -- what has a spelling
 abbrev pub IsUserData : List ℕ → Type 0
-IsUserData user = (length user ≤ 233) × IsOctets user
+IsUserData user = (length user ≤ USER_DATA_MAX) × IsOctets user
 
 abbrev pub IsOptionalUserData : Option (List ℕ) → Type 0
 IsOptionalUserData None = Unit {0}

@@ -1,6 +1,6 @@
 -- The ways in which playing a script ends. The source had old left and has new left; the sink had
 -- taken before and has taken now.
-use Rattle.std.specs.Prelude.{◌≡◌, ℕ, ◌+◌, ◌<◌, ◌≤◌, ◌⊎◌, List, [], ◌∷◌, ◌++◌, length, Option, Some, None, Result, Ok, Err}
+use Rattle.std.specs.Prelude.{◌≡◌, ℕ, ◌+◌, ◌<◌, ◌≤◌, ◌⊎◌, List, [], ◌∷◌, ◌++◌, length, Option, Some, None, Result}
 use Rattle.std.specs.Io.KnownBytes.{Appends, Consumes, IsAtEnd}
 use Rattle.sms_script.specs.Lines.{lines, line_feed, line_limit, strip_carriage_return, HasNoLineFeed, AreWhole}
 use Rattle.sms_script.specs.Lines.Reading.{ShowsLonger}

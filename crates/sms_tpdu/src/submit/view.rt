@@ -121,6 +121,7 @@ impl<'a> View<'a> for SubmitView<'a> {
 
 impl<'a> SubmitView<'a> {
     /// Sees a submission at the front of the octets, and says how many it takes.
+    #[inline(always)]
     pub fn read(input: &'a [u8]) -> Result<(SubmitView<'a>, usize), Fault<UnitFault>>
         ensures found { IfOk result (λ x. Reads submit x.0 input.now x.1) }
         ensures refused { IfErr result (IsFaultOf submit Short input.now) }

@@ -131,6 +131,7 @@ fn header_length(alphabet: Alphabet, count: u8, size: u8) -> Result<u8, UnitFaul
 }
 
 /// User data without a header.
+#[inline(always)]
 #[tactic(auto, unfolding(crate::specs::UserData::user_data))]
 fn body_seen_at<'a>(
     input: &mut Cursor<'a>,
@@ -146,6 +147,7 @@ fn body_seen_at<'a>(
 }
 
 /// User data with a header.
+#[inline(always)]
 #[tactic(auto, unfolding(crate::specs::UserData::user_data))]
 fn header_and_body_seen_at<'a>(
     input: &mut Cursor<'a>,
@@ -176,6 +178,7 @@ impl<'a> UserDataView<'a> {
     ghost use Rattle.sms_tpdu.specs.UserData.BodySeen.{seen_body};
 
     /// Sees user data, with a header or without, at a cursor.
+    #[inline(always)]
     pub fn read_at(
         input: &mut Cursor<'a>,
         with_header: bool,

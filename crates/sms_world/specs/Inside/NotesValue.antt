@@ -1,7 +1,7 @@
 -- A reader may pass this by: contracts of private functions, and proofs, alone cite it.
 --
 -- What is noted, as contracts see it.
-use Rattle.std.specs.Prelude.{◌≡◌, ℕ, ◌+◌, ◌-◌, ◌^◌, ◌≤◌, ◌<◌, Bool, true, false, List, length, Option, Some, None, Ok, slice_get}
+use Rattle.std.specs.Prelude.{◌≡◌, ℕ, ◌+◌, ◌-◌, ◌^◌, ◌≤◌, ◌<◌, Bool, true, false, List, [], length, Option, Some, None, Ok, slice_get}
 use Rattle.std.specs.Map.{lookup}
 use Rattle.std.specs.VecDeque.{deque_len, deque_capacity}
 use Rattle.std.specs.Option.{option_map}

@@ -1,7 +1,8 @@
 use Rattle.std.proofs.Common.{◌+◌, ◌<◌, IfOk, OnErr, length, true, sym, subst}
 use Rattle.std.specs.List.{slice_get}
 use Rattle.sms_party.specs.declared.sender.putting.Putting.{Putting}
-use Rattle.sms_party.specs.Sender.Value.{SenderValue, put_by, turn_of}
+use Rattle.sms_party.specs.Sender.Value.{SenderValue}
+use Rattle.sms_party.specs.Inside.Sender.{put_by, turn_of}
 use Rattle.sms_party.specs.Inside.Sender.{text_put, CarriesOptional}
 use Rattle.sms_party.proofs.sender.Sender.submission.Goals as goal
 

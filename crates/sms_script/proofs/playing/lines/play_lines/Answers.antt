@@ -1,4 +1,4 @@
-use Rattle.std.proofs.Common.{◌∙◌, [], ap, sym, subst, arith, rules, Ok, Err, List, ℕ, Result}
+use Rattle.std.proofs.Common.{◌∙◌, ap, sym, subst, arith, rules, Ok, Err, List, ℕ, Result}
 use Rattle.std.proofs.lemmas.Result.{err_from_is_err_and}
 use Rattle.sms_script.specs.Lines.{lines}
 use Rattle.sms_script.specs.Lines.Reading.{ReadsLine}

@@ -1,7 +1,7 @@
-use Rattle.std.proofs.Common.{◌≡◌, ◌<◌, List, length, OnErr, refl, sym, ap, ◌∙◌, subst}
+use Rattle.std.proofs.Common.{◌≡◌, ◌<◌, length, OnErr, refl, sym, ◌∙◌, subst}
 use Rattle.std.proofs.Math.ListN.{set}
 use Rattle.std.proofs.lemmas.Option.{slice_get_read}
-use Rattle.sms_centre.specs.Centre.Value.{LineValue, HeldValue, HoldingsValue, addresses}
+use Rattle.sms_centre.specs.Centre.Value.{HoldingsValue}
 use Rattle.sms_centre.specs.Inside.Lines.{ChangesLine, LineHears}
 use Rattle.sms_centre.proofs.Lines.{changed_line, same_lines}
 use Rattle.sms_centre.proofs.Hearing.{heard_phones, heard_same}

@@ -1,7 +1,7 @@
 use Rattle.std.proofs.Common.{◌≡◌, ◌<◌, ◌≤◌, List, Result, Ok, Err, OnOk, OnErr, length, refl, sym, ap, ◌∙◌, subst}
 use Rattle.std.proofs.Math.ListN.{set}
 use Rattle.std.proofs.lemmas.Option.{slice_get_read}
-use Rattle.sms_centre.specs.Centre.Value.{LineValue, HeldValue, HoldingsValue, addresses}
+use Rattle.sms_centre.specs.Centre.Value.{LineValue, HeldValue, HoldingsValue}
 use Rattle.sms_centre.specs.Inside.Kept.{free_at}
 use Rattle.sms_centre.specs.Inside.Lines.{accepting_line, ChangesLine}
 use Rattle.sms_centre.specs.Inside.Holdings.{AreHeld}

@@ -1,3 +1,5 @@
+-- A reader may pass this by: lemmas, for the proofs of this crate and of those above it.
+--
 -- The tags of puttings out, one after another.
 use Rattle.std.proofs.Common.{◌≡◌, ℕ, suc, ◌+◌, ◌%◌, arith}
 use Rattle.sms_message.specs.Message.{tag_of, following}
