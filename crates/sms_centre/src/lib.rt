@@ -4,7 +4,7 @@
 mod centre;
 mod laws;
 
-pub use centre::{Centre, Check, Ending, HELD_MAX, HeldKey, PHONES_MAX, Push};
+pub use centre::{Centre, HELD_MAX, PHONES_MAX};
 pub use laws::{
     centre_drops_put_nothing_out, centre_puts_few_out, deliveries_have_own_keys,
     recipients_are_addressed, stamps_rise,

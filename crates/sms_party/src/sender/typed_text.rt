@@ -37,6 +37,7 @@ impl Model for TypedText {
     ghost use Rattle.std.specs.Prelude.{◌≡◌, ◌<◌, ◌≤◌, All, length};
     ghost use Rattle.sms_tpdu.specs.declared.user_data.concat.Width.TheVariants.{Eight};
     ghost use Rattle.sms_join.specs.Segments.User.{IsSendable};
+    ghost use Rattle.sms_join.specs.declared.cut.TheConstants.{SEGMENTS_MAX};
     ghost use Rattle.sms_party.specs.Sender.Value.{TextValue};
 
     ghost Value = { TextValue };
@@ -50,7 +51,7 @@ impl Model for TypedText {
     } };
 
     ghost invariant = { λ t. (t.width ≡ Eight → t.set_reference < 256)
-        × (length t.segments ≤ 255) × All (IsSendable t.width) t.segments };
+        × (length t.segments ≤ SEGMENTS_MAX) × All (IsSendable t.width) t.segments };
 }
 
 /// The packet of a submission.
