@@ -154,8 +154,9 @@ def judge(runs, script, whole, number):
     """What came of a refusal."""
     status, wrote, fault, _ = runs.play(script, number)
     if status == 3:
-        said = fault or wrote[len(os.path.commonprefix([wrote, whole])):]
-        front = wrote if fault else wrote[:len(wrote) - len(said)]
+        same = os.path.commonprefix([wrote, whole])
+        front = wrote if fault else same[:same.rfind("\n") + 1]
+        said = fault or wrote[len(front):]
         assert said.strip().endswith("out of memory"), (number, said)
         assert whole.startswith(front) and (not front or front.endswith("\n")), (number, front)
         return "out of memory"
@@ -180,7 +181,7 @@ def main():
                 assert (status, fault) == (0, ""), (name, status, fault)
                 came = [judge(runs, script, whole, number) for number in range(1, asked + 1)]
                 told = ", ".join(f"{came.count(word)} {word}" for word in ("drop memory", "out of memory", "nothing"))
-                print(" ".join((f"{name}:", *words, f"{asked} requests: {told}")))
+                print(f"{' '.join((name, *words))}: {asked} requests: {told}")
 
 
 if __name__ == "__main__":

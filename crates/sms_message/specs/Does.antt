@@ -12,7 +12,7 @@ use Rattle.sms_message.specs.declared.outcome.Dropped.{Dropped}
 use Rattle.sms_message.specs.declared.outcome.Dropped.TheVariants as dropped
 use Rattle.sms_message.specs.declared.outcome.Step.{Step}
 use Rattle.sms_message.specs.declared.request.NotTaken.{NotTaken}
-use Rattle.sms_message.specs.declared.request.NotTaken.TheVariants as not
+use Rattle.sms_message.specs.declared.request.NotTaken.TheVariants as untaken
 
 -- The answer of a call, what is put out, the first first, and the state of the party afterwards.
 pub record Does (S : Type 0) : Type 0 where
@@ -39,9 +39,9 @@ refuses_with s side tag cause failure report =
 
 -- What is not taken is dropped, or refused: with the report for its failure cause, if it has one.
 abbrev pub turns_away : {S : Type 0} → S → Side → Tag → (ℕ → Report) → NotTaken → Does S
-turns_away s side tag report not.Unmatched = drops s dropped.Unmatched
-turns_away s side tag report (not.Refused cause None) = refuses_with s side tag cause None None
-turns_away s side tag report (not.Refused cause (Some failure)) =
+turns_away s side tag report untaken.Unmatched = drops s dropped.Unmatched
+turns_away s side tag report (untaken.Refused cause None) = refuses_with s side tag cause None None
+turns_away s side tag report (untaken.Refused cause (Some failure)) =
     refuses_with s side tag cause (Some failure) (Some (report failure))
 
 -- ---- a call of the code
