@@ -1,7 +1,8 @@
 #!/bin/sh
 # Tries the library that stands below PREFIX, as build.sh leaves it, from C, C++, Python and Rust. What is not on this
 # machine is left out, with a line that says so. With UNITS so many random units are read (200,000 if not set); where the
-# program `sms` is built (crates/sms/out/sms, or SMS_PROGRAM), what it shows of them is compared.
+# program `sms` is built (crates/sms/out/sms), what it shows of them is compared. With SMS_PROGRAM it is compared with that
+# program, which has to be there.
 set -eu
 here=$(CDPATH='' cd -- "$(dirname -- "$0")" && pwd -P)
 prefix=${PREFIX:-/usr/local}
@@ -122,7 +123,7 @@ if there python3; then
 	python3 "$here/tests/shown.py" "$here/../docs/C.md"
 	python3 "$here/tests/agree.py" "$room/layout.c.txt" "$SMS_LIBRARY" ${of_rust:+"$of_rust"}
 	program=${SMS_PROGRAM:-$here/../crates/sms/out/sms}
-	if [ -x "$program" ]; then
+	if [ -x "$program" ] || [ -n "${SMS_PROGRAM:-}" ]; then
 		python3 "$here/tests/beside_show.py" "$program" "$units"
 	else
 		left_out "the program is not built at $program, so units are not shown beside it"

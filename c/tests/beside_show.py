@@ -258,13 +258,13 @@ def shown(block):
 
 
 def blocks_of(program, kind, units):
-    """What `show` prints of each unit; None where the program has no --lines."""
+    """What `show` prints of each unit."""
     with tempfile.TemporaryFile() as given:
         given.write(b"".join(it.hex().encode() + b"\n" for it in units))
         given.seek(0)
         ran = subprocess.run([program, "show", kind, "--lines"], stdin=given, stdout=subprocess.PIPE, stderr=subprocess.PIPE)
-    if ran.returncode not in (0, 1) or b"Usage" in ran.stdout + ran.stderr:
-        return None
+    if ran.returncode not in (0, 1):
+        sys.exit(f"{program} show {kind} --lines ended with {ran.returncode}: {ran.stdout[-200:]}")
     return ran.stdout.decode().removesuffix("\n").split("\n\n")
 
 
@@ -275,9 +275,6 @@ def main():
         much = count // 4 if kind in ("deliver", "submit") else count // 12
         units = [it for it in (drawn(kind, chance) for _ in range(much)) if it]
         blocks = blocks_of(program, kind, units)
-        if blocks is None:
-            print(f"left out: {program} has no show --lines")
-            return 0
         if len(blocks) != len(units):
             print(f"show {kind} --lines told {len(blocks)} of {len(units)} units")
             return 1
