@@ -23,11 +23,11 @@ pub record Sent : Type 0 where
   pub message : Message
   pub to : Place
   pub origin : Option Origin
-  pub about : Option ℕ
+  pub putting : Option ℕ
 
 -- a message that is of no segment
 unfoldable pub bare : Place → Message → Sent
-bare to message = record { message = message; to = to; origin = None; about = None }
+bare to message = record { message = message; to = to; origin = None; putting = None }
 
 -- what a party does: its answer, what it puts out, the first first, and its state afterwards
 pub record Sends (S : Type 0) : Type 0 where

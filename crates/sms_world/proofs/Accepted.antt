@@ -106,8 +106,8 @@ record Told (accepted : List Acceptance) (texts : List Text) (s : Sender) : Type
 abbrev SubmitTold : (ℕ → Sender) → Place → Option Origin → Option ℕ → Type 0
 SubmitTold f (Centre p) (Some o) (Some k) = Was (f p) k o
 SubmitTold f (Centre p) (Some o) None = ⊥
-SubmitTold f (Centre p) None about = ⊥
-SubmitTold f (Phone p) origin about = ⊥
+SubmitTold f (Centre p) None putting = ⊥
+SubmitTold f (Phone p) origin putting = ⊥
 
 abbrev DeliverTold : Place → Type 0
 DeliverTold (Phone p) = Unit {0}
@@ -117,62 +117,62 @@ abbrev ReplyTold : ℕ → List Acceptance → (ℕ → Sender) → Option ℕ �
 ReplyTold one accepted f v r (Phone p) (Some k) =
     (o : Origin) × Was (f p) k o × (p ≡ one → accepts v r ≡ true → is_given accepted o.text o.segment ≡ true)
 ReplyTold one accepted f v r (Phone p) None = ⊥
-ReplyTold one accepted f v r (Centre p) about = Unit {0}
+ReplyTold one accepted f v r (Centre p) putting = Unit {0}
 
 abbrev UnitTold : (ℕ → Sender) → TransferUnit → Place → Option Origin → Option ℕ → Type 0
-UnitTold f (Submit s) to origin about = SubmitTold f to origin about
-UnitTold f (Deliver d) to origin about = DeliverTold to
-UnitTold f OtherUnit to origin about = ⊥
-UnitTold f BadUnit to origin about = ⊥
+UnitTold f (Submit s) to origin putting = SubmitTold f to origin putting
+UnitTold f (Deliver d) to origin putting = DeliverTold to
+UnitTold f OtherUnit to origin putting = ⊥
+UnitTold f BadUnit to origin putting = ⊥
 
 abbrev RelayTold : ℕ → List Acceptance → (ℕ → Sender) → Relay → Place → Option Origin → Option ℕ → Type 0
-RelayTold one accepted f (Transfer side unit) to origin about = UnitTold f unit to origin about
-RelayTold one accepted f (Answer side v r) to origin about = ReplyTold one accepted f v r to about
-RelayTold one accepted f UnknownType to origin about = ⊥
-RelayTold one accepted f Unreadable to origin about = ⊥
+RelayTold one accepted f (Transfer side unit) to origin putting = UnitTold f unit to origin putting
+RelayTold one accepted f (Answer side v r) to origin putting = ReplyTold one accepted f v r to putting
+RelayTold one accepted f UnknownType to origin putting = ⊥
+RelayTold one accepted f Unreadable to origin putting = ⊥
 
 abbrev MessageTold : ℕ → List Acceptance → (ℕ → Sender) → Message → Place → Option Origin → Option ℕ → Type 0
-MessageTold one accepted f NotCp to origin about = ⊥
-MessageTold one accepted f (Tiny flag value) to origin about = ⊥
-MessageTold one accepted f (Note flag value) to origin about = Unit {0}
-MessageTold one accepted f (Data flag tag relay) to origin about = RelayTold one accepted f relay to origin about
+MessageTold one accepted f NotCp to origin putting = ⊥
+MessageTold one accepted f (Tiny flag value) to origin putting = ⊥
+MessageTold one accepted f (Note flag value) to origin putting = Unit {0}
+MessageTold one accepted f (Data flag tag relay) to origin putting = RelayTold one accepted f relay to origin putting
 
 abbrev SentTold : ℕ → List Acceptance → (ℕ → Sender) → Sent → Type 0
-SentTold one accepted f y = MessageTold one accepted f y.message y.to y.origin y.about
+SentTold one accepted f y = MessageTold one accepted f y.message y.to y.origin y.putting
 
 module _ (one : ℕ) (accepted accepted' : List Acceptance) (f f' : ℕ → Sender)
     (more : (n s : ℕ) → is_given accepted n s ≡ true → is_given accepted' n s ≡ true) (moves : (q : ℕ) → Moves (f q) (f' q)) where
-  submit_on : (to : Place) (origin : Option Origin) (about : Option ℕ) → SubmitTold f to origin about → SubmitTold f' to origin about
+  submit_on : (to : Place) (origin : Option Origin) (putting : Option ℕ) → SubmitTold f to origin putting → SubmitTold f' to origin putting
   submit_on (Centre p) (Some o) (Some k) h = (moves p).was k o h
   submit_on (Centre p) (Some o) None h = h
-  submit_on (Centre p) None about h = h
-  submit_on (Phone p) origin about h = h
+  submit_on (Centre p) None putting h = h
+  submit_on (Phone p) origin putting h = h
 
-  reply_on : (v : Option ℕ) (r : Option Report) (to : Place) (about : Option ℕ) → ReplyTold one accepted f v r to about → ReplyTold one accepted' f' v r to about
+  reply_on : (v : Option ℕ) (r : Option Report) (to : Place) (putting : Option ℕ) → ReplyTold one accepted f v r to putting → ReplyTold one accepted' f' v r to putting
   reply_on v r (Phone p) (Some k) h = (h.0, (moves p).was k h.0 h.1, λ same e. more h.0.text h.0.segment (h.2 same e))
   reply_on v r (Phone p) None h = h
-  reply_on v r (Centre p) about h = h
+  reply_on v r (Centre p) putting h = h
 
-  unit_on : (u : TransferUnit) (to : Place) (origin : Option Origin) (about : Option ℕ) → UnitTold f u to origin about → UnitTold f' u to origin about
-  unit_on (Submit s) to origin about h = submit_on to origin about h
-  unit_on (Deliver d) to origin about h = h
-  unit_on OtherUnit to origin about h = h
-  unit_on BadUnit to origin about h = h
+  unit_on : (u : TransferUnit) (to : Place) (origin : Option Origin) (putting : Option ℕ) → UnitTold f u to origin putting → UnitTold f' u to origin putting
+  unit_on (Submit s) to origin putting h = submit_on to origin putting h
+  unit_on (Deliver d) to origin putting h = h
+  unit_on OtherUnit to origin putting h = h
+  unit_on BadUnit to origin putting h = h
 
-  relay_on : (v : Relay) (to : Place) (origin : Option Origin) (about : Option ℕ) → RelayTold one accepted f v to origin about → RelayTold one accepted' f' v to origin about
-  relay_on (Transfer side unit) to origin about h = unit_on unit to origin about h
-  relay_on (Answer side v r) to origin about h = reply_on v r to about h
-  relay_on UnknownType to origin about h = h
-  relay_on Unreadable to origin about h = h
+  relay_on : (v : Relay) (to : Place) (origin : Option Origin) (putting : Option ℕ) → RelayTold one accepted f v to origin putting → RelayTold one accepted' f' v to origin putting
+  relay_on (Transfer side unit) to origin putting h = unit_on unit to origin putting h
+  relay_on (Answer side v r) to origin putting h = reply_on v r to putting h
+  relay_on UnknownType to origin putting h = h
+  relay_on Unreadable to origin putting h = h
 
-  message_on : (v : Message) (to : Place) (origin : Option Origin) (about : Option ℕ) → MessageTold one accepted f v to origin about → MessageTold one accepted' f' v to origin about
-  message_on NotCp to origin about h = h
-  message_on (Tiny flag value) to origin about h = h
-  message_on (Note flag value) to origin about h = h
-  message_on (Data flag tag relay) to origin about h = relay_on relay to origin about h
+  message_on : (v : Message) (to : Place) (origin : Option Origin) (putting : Option ℕ) → MessageTold one accepted f v to origin putting → MessageTold one accepted' f' v to origin putting
+  message_on NotCp to origin putting h = h
+  message_on (Tiny flag value) to origin putting h = h
+  message_on (Note flag value) to origin putting h = h
+  message_on (Data flag tag relay) to origin putting h = relay_on relay to origin putting h
 
   sent_on : (y : Sent) → SentTold one accepted f y → SentTold one accepted' f' y
-  sent_on y h = message_on y.message y.to y.origin y.about h
+  sent_on y h = message_on y.message y.to y.origin y.putting h
 
 -- what a sender puts out
 record PutsTold (one : ℕ) (accepted : List Acceptance) (texts : List Text) (phone : ℕ) (before : Sender) (p : Puts) : Type 0 where
@@ -379,11 +379,11 @@ hears_told one accepted x phone tag n later false more failed p e m l given g h 
     (λ same. ends_told accepted x.texts phone (x.sender phone) n later false e.0 (h phone same) (λ q. cc))
     (acks one accepted phone tag)
 
--- the answer is about the latest putting out
-latest_given : (one : ℕ) (m : Machine) (phone : ℕ) (tag : Tag) (accepted : List Acceptance) (v : Option ℕ) (r : Option Report) (about : Option ℕ) (n : ℕ) (later : List ℕ)
+-- the answer is of the latest putting out
+latest_given : (one : ℕ) (m : Machine) (phone : ℕ) (tag : Tag) (accepted : List Acceptance) (v : Option ℕ) (r : Option Report) (putting : Option ℕ) (n : ℕ) (later : List ℕ)
     → (m.senders.sender phone).pending ≡ n ∷ later
-    → same_tag tag (tag_of ((m.senders.sender phone).outs - 1)) ≡ true → answer_may_come m phone tag about ≡ true
-    → ReplyTold one accepted m.senders.sender v r (Phone phone) about
+    → same_tag tag (tag_of ((m.senders.sender phone).outs - 1)) ≡ true → answer_may_come m phone tag putting ≡ true
+    → ReplyTold one accepted m.senders.sender v r (Phone phone) putting
     → phone ≡ one → accepts v r ≡ true → is_given accepted n (suc (m.senders.sender phone).accepted) ≡ true
 unfolding answer_may_come
 latest_given one m phone tag accepted v r None n later p t a told same good = absurd told
@@ -395,34 +395,34 @@ latest_given one m phone tag accepted v r (Some k) n later p t a told same good 
     subst (λ ns. IsWaiting ns (m.senders.sender phone).accepted told.0) p w in
     subst (λ i. is_given accepted n i ≡ true) w'.1 (subst (λ i. is_given accepted i told.0.segment ≡ true) w'.0 (told.2 same good))
 
-matches_told : (one : ℕ) (m : Machine) (phone : ℕ) (tag : Tag) (accepted : List Acceptance) (v : Option ℕ) (r : Option Report) (about : Option ℕ) (ns : List ℕ)
-    → (m.senders.sender phone).pending ≡ ns → (phone ≡ one → answer_may_come m phone tag about ≡ true)
-    → ReplyTold one accepted m.senders.sender v r (Phone phone) about
+matches_told : (one : ℕ) (m : Machine) (phone : ℕ) (tag : Tag) (accepted : List Acceptance) (v : Option ℕ) (r : Option Report) (putting : Option ℕ) (ns : List ℕ)
+    → (m.senders.sender phone).pending ≡ ns → (phone ≡ one → answer_may_come m phone tag putting ≡ true)
+    → ReplyTold one accepted m.senders.sender v r (Phone phone) putting
     → SendersSound m.senders → AllTold one accepted m.senders
     → GoodTold one accepted m.senders (matches m.senders phone tag (m.senders.sender phone) ns v r)
 unfolding matches
-matches_told one m phone tag accepted v r about [] p a told g h = drops_told one accepted m.senders _ h
-matches_told one m phone tag accepted v r about (n ∷ later) p a told g h =
+matches_told one m phone tag accepted v r putting [] p a told g h = drops_told one accepted m.senders _ h
+matches_told one m phone tag accepted v r putting (n ∷ later) p a told g h =
     cond_both (same_tag tag (tag_of ((m.senders.sender phone).outs - 1))) _ _ (GoodTold one accepted m.senders)
     (λ t. hears_told one accepted m.senders phone tag n later (accepts v r) (ltb (suc (m.senders.sender phone).accepted) (size_in m.senders.texts n)) _
     p (subst (AllByRecursion (IsPending m.senders.texts phone)) p (g phone).pending) (λ q. ltb-true _ _ q)
     (λ q. let u = under in let l = ltb-false _ _ q in omega arith)
-    (λ same good. latest_given one m phone tag accepted v r about n later p t (a same) told same good) g h)
+    (λ same good. latest_given one m phone tag accepted v r putting n later p t (a same) told same good) g h)
     (λ _. drops_told one accepted m.senders _ h)
   where
     under : (m.senders.sender phone).accepted < size_in m.senders.texts n
     under = subst (λ ns. IsUnderWay m.senders.texts ns (m.senders.sender phone).accepted) p (g phone).under_way
 
-sender_receives_told : (one : ℕ) (m : Machine) (phone : ℕ) (tag : Tag) (accepted : List Acceptance) (v : Relay) (origin : Option Origin) (about : Option ℕ)
-    → (phone ≡ one → own_relay m true tag v (Phone phone) origin about ≡ true) → RelayTold one accepted m.senders.sender v (Phone phone) origin about
+sender_receives_told : (one : ℕ) (m : Machine) (phone : ℕ) (tag : Tag) (accepted : List Acceptance) (v : Relay) (origin : Option Origin) (putting : Option ℕ)
+    → (phone ≡ one → own_relay m true tag v (Phone phone) origin putting ≡ true) → RelayTold one accepted m.senders.sender v (Phone phone) origin putting
     → SendersSound m.senders → AllTold one accepted m.senders → GoodTold one accepted m.senders (sender_receives m.senders phone tag v)
 unfolding sender_receives
-sender_receives_told one m phone tag accepted (Answer ToPhone v r) origin about a told g h =
-    matches_told one m phone tag accepted v r about (m.senders.sender phone).pending refl a told g h
-sender_receives_told one m phone tag accepted (Answer FromPhone v r) origin about a told g h = drops_told one accepted m.senders _ h
-sender_receives_told one m phone tag accepted (Transfer side unit) origin about a told g h = drops_told one accepted m.senders _ h
-sender_receives_told one m phone tag accepted UnknownType origin about a told g h = drops_told one accepted m.senders _ h
-sender_receives_told one m phone tag accepted Unreadable origin about a told g h = drops_told one accepted m.senders _ h
+sender_receives_told one m phone tag accepted (Answer ToPhone v r) origin putting a told g h =
+    matches_told one m phone tag accepted v r putting (m.senders.sender phone).pending refl a told g h
+sender_receives_told one m phone tag accepted (Answer FromPhone v r) origin putting a told g h = drops_told one accepted m.senders _ h
+sender_receives_told one m phone tag accepted (Transfer side unit) origin putting a told g h = drops_told one accepted m.senders _ h
+sender_receives_told one m phone tag accepted UnknownType origin putting a told g h = drops_told one accepted m.senders _ h
+sender_receives_told one m phone tag accepted Unreadable origin putting a told g h = drops_told one accepted m.senders _ h
 
 -- the centre rejects a duplicate only of what it holds
 
@@ -483,12 +483,12 @@ own_given phones (a ∷ past) phone now s o r e to h d =
     go true false h d ih = cc
 
 -- what one call of the centre leaves
-record CentreTold (one : ℕ) (f : ℕ → Sender) (about : Option ℕ) (c : CentreState) (phone : ℕ) (d : Does CentreState) : Type 0 where
+record CentreTold (one : ℕ) (f : ℕ → Sender) (putting : Option ℕ) (c : CentreState) (phone : ℕ) (d : Does CentreState) : Type 0 where
   given : (n s : ℕ) → is_given c.accepted n s ≡ true → is_given d.after.accepted n s ≡ true
-  put : AllByRecursion (SentTold one d.after.accepted f) (to_phone phone None about d.put)
+  put : AllByRecursion (SentTold one d.after.accepted f) (to_phone phone None putting d.put)
 
-centre_drops_told : (one : ℕ) (f : ℕ → Sender) (about : Option ℕ) (c : CentreState) (phone : ℕ) (why : Dropped) → CentreTold one f about c phone (drops c why)
-centre_drops_told one f about c phone why = record { given = λ n s h. h; put = tt }
+centre_drops_told : (one : ℕ) (f : ℕ → Sender) (putting : Option ℕ) (c : CentreState) (phone : ℕ) (why : Dropped) → CentreTold one f putting c phone (drops c why)
+centre_drops_told one f putting c phone why = record { given = λ n s h. h; put = tt }
 
 checked_told : (one : ℕ) (phones : List AddressValue) (f : ℕ → Sender) (k : ℕ) (c : CentreState) (now phone : ℕ) (tag : Tag) (s : Submission) (o : Origin) (v : Check)
     → Was (f phone) k o → (phone ≡ one → duplicates_are_own phones c.accepted phone now s o ≡ true)
@@ -526,46 +526,46 @@ checked_told one phones f k c now phone tag s o (Accept r ends stamp) w own dup 
         go true = refl
         go false = h
 
-takes_told : (one : ℕ) (m : Machine) (f : ℕ → Sender) (limit : ℕ) (phone : ℕ) (tag : Tag) (u : TransferUnit) (origin : Option Origin) (about : Option ℕ)
-    → UnitTold f u (Centre phone) origin about → (phone ≡ one → own_unit m u (Centre phone) origin ≡ true)
-    → CentreTold one f about m.centre phone (centre_takes limit m.phones m.centre m.clock phone tag u origin)
+takes_told : (one : ℕ) (m : Machine) (f : ℕ → Sender) (limit : ℕ) (phone : ℕ) (tag : Tag) (u : TransferUnit) (origin : Option Origin) (putting : Option ℕ)
+    → UnitTold f u (Centre phone) origin putting → (phone ≡ one → own_unit m u (Centre phone) origin ≡ true)
+    → CentreTold one f putting m.centre phone (centre_takes limit m.phones m.centre m.clock phone tag u origin)
 unfolding centre_takes
 takes_told one m f limit phone tag (Submit s) (Some o) (Some k) told own =
     checked_told one m.phones f k m.centre m.clock phone tag s o (checked_by limit m.phones (books_of m.centre.accepted m.clock phone s) m.clock s) told own
     (λ cause failure e z. duplicate limit m.phones (books_of m.centre.accepted m.clock phone s) m.clock s cause failure e z)
 takes_told one m f limit phone tag (Submit s) (Some o) None told own = absurd told
-takes_told one m f limit phone tag (Submit s) None about told own = absurd told
-takes_told one m f limit phone tag (Deliver d) origin about told own = absurd told
-takes_told one m f limit phone tag OtherUnit origin about told own = absurd told
-takes_told one m f limit phone tag BadUnit origin about told own = absurd told
+takes_told one m f limit phone tag (Submit s) None putting told own = absurd told
+takes_told one m f limit phone tag (Deliver d) origin putting told own = absurd told
+takes_told one m f limit phone tag OtherUnit origin putting told own = absurd told
+takes_told one m f limit phone tag BadUnit origin putting told own = absurd told
 
-centre_hears_told : (one : ℕ) (f : ℕ → Sender) (about : Option ℕ) (c : CentreState) (now phone : ℕ) (tag : Tag) (v : Option ℕ) (latest : Option Pushing)
-    → CentreTold one f about c phone (centre_hears c now phone tag v latest)
+centre_hears_told : (one : ℕ) (f : ℕ → Sender) (putting : Option ℕ) (c : CentreState) (now phone : ℕ) (tag : Tag) (v : Option ℕ) (latest : Option Pushing)
+    → CentreTold one f putting c phone (centre_hears c now phone tag v latest)
 unfolding centre_hears settled
-centre_hears_told one f about c now phone tag v None = centre_drops_told one f about c phone _
-centre_hears_told one f about c now phone tag v (Some p) =
-    cond_both (same_tag tag p.tag && ltb now p.message.ends) _ _ (CentreTold one f about c phone)
-    (λ _. record { given = λ n s h. h; put = (tt, tt) }) (λ _. centre_drops_told one f about c phone _)
+centre_hears_told one f putting c now phone tag v None = centre_drops_told one f putting c phone _
+centre_hears_told one f putting c now phone tag v (Some p) =
+    cond_both (same_tag tag p.tag && ltb now p.message.ends) _ _ (CentreTold one f putting c phone)
+    (λ _. record { given = λ n s h. h; put = (tt, tt) }) (λ _. centre_drops_told one f putting c phone _)
 
-centre_receives_told : (one : ℕ) (m : Machine) (f : ℕ → Sender) (limit : ℕ) (phone : ℕ) (v : Message) (origin : Option Origin) (about : Option ℕ)
-    → MessageTold one m.centre.accepted f v (Centre phone) origin about → (phone ≡ one → own_message m v (Centre phone) origin about ≡ true)
-    → CentreTold one f about m.centre phone (centre_receives limit m.phones m.centre m.clock phone v origin)
+centre_receives_told : (one : ℕ) (m : Machine) (f : ℕ → Sender) (limit : ℕ) (phone : ℕ) (v : Message) (origin : Option Origin) (putting : Option ℕ)
+    → MessageTold one m.centre.accepted f v (Centre phone) origin putting → (phone ≡ one → own_message m v (Centre phone) origin putting ≡ true)
+    → CentreTold one f putting m.centre phone (centre_receives limit m.phones m.centre m.clock phone v origin)
 unfolding centre_receives centre_opened centre_answered
-centre_receives_told one m f limit phone NotCp origin about t own = absurd t
-centre_receives_told one m f limit phone (Tiny flag value) origin about t own = absurd t
-centre_receives_told one m f limit phone (Note flag value) origin about t own = record { given = λ n s h. h; put = tt }
-centre_receives_told one m f limit phone (Data false tag (Transfer FromPhone unit)) origin about t own =
-    takes_told one m f limit phone tag unit origin about t own
-centre_receives_told one m f limit phone (Data false tag (Transfer ToPhone unit)) origin about t own = centre_drops_told one f about m.centre phone _
-centre_receives_told one m f limit phone (Data false tag (Answer side v r)) origin about t own = centre_drops_told one f about m.centre phone _
-centre_receives_told one m f limit phone (Data false tag UnknownType) origin about t own = absurd t
-centre_receives_told one m f limit phone (Data false tag Unreadable) origin about t own = absurd t
-centre_receives_told one m f limit phone (Data true tag (Answer FromPhone v r)) origin about t own =
-    centre_hears_told one f about m.centre m.clock phone tag v (m.centre.line phone).latest
-centre_receives_told one m f limit phone (Data true tag (Answer ToPhone v r)) origin about t own = centre_drops_told one f about m.centre phone _
-centre_receives_told one m f limit phone (Data true tag (Transfer side unit)) origin about t own = centre_drops_told one f about m.centre phone _
-centre_receives_told one m f limit phone (Data true tag UnknownType) origin about t own = absurd t
-centre_receives_told one m f limit phone (Data true tag Unreadable) origin about t own = absurd t
+centre_receives_told one m f limit phone NotCp origin putting t own = absurd t
+centre_receives_told one m f limit phone (Tiny flag value) origin putting t own = absurd t
+centre_receives_told one m f limit phone (Note flag value) origin putting t own = record { given = λ n s h. h; put = tt }
+centre_receives_told one m f limit phone (Data false tag (Transfer FromPhone unit)) origin putting t own =
+    takes_told one m f limit phone tag unit origin putting t own
+centre_receives_told one m f limit phone (Data false tag (Transfer ToPhone unit)) origin putting t own = centre_drops_told one f putting m.centre phone _
+centre_receives_told one m f limit phone (Data false tag (Answer side v r)) origin putting t own = centre_drops_told one f putting m.centre phone _
+centre_receives_told one m f limit phone (Data false tag UnknownType) origin putting t own = absurd t
+centre_receives_told one m f limit phone (Data false tag Unreadable) origin putting t own = absurd t
+centre_receives_told one m f limit phone (Data true tag (Answer FromPhone v r)) origin putting t own =
+    centre_hears_told one f putting m.centre m.clock phone tag v (m.centre.line phone).latest
+centre_receives_told one m f limit phone (Data true tag (Answer ToPhone v r)) origin putting t own = centre_drops_told one f putting m.centre phone _
+centre_receives_told one m f limit phone (Data true tag (Transfer side unit)) origin putting t own = centre_drops_told one f putting m.centre phone _
+centre_receives_told one m f limit phone (Data true tag UnknownType) origin putting t own = absurd t
+centre_receives_told one m f limit phone (Data true tag Unreadable) origin putting t own = absurd t
 
 -- the whole machine
 
@@ -607,14 +607,14 @@ told_given accepted accepted' texts more s h =
     go [] g = g
     go (n ∷ later) g = all_given_more accepted accepted' more n s.accepted g
 
-by_centre_true : (one : ℕ) (m : Machine) (phone : ℕ) (about : Option ℕ) (d : Does CentreState) → TellsTrue one m → CentreTold one m.senders.sender about m.centre phone d
-    → TellsTrue one (by_centre m (of_centre phone None about d)).after
+by_centre_true : (one : ℕ) (m : Machine) (phone : ℕ) (putting : Option ℕ) (d : Does CentreState) → TellsTrue one m → CentreTold one m.senders.sender putting m.centre phone d
+    → TellsTrue one (by_centre m (of_centre phone None putting d)).after
 unfolding by_centre of_centre
-by_centre_true one m phone about d h g =
+by_centre_true one m phone putting d h g =
     record {
       sound = h.sound;
       told = λ q same. told_given m.centre.accepted d.after.accepted m.senders.texts g.given (m.senders.sender q) (h.told q same);
-      sent = each_entered (SentTold one d.after.accepted m.senders.sender) (to_phone phone None about d.put) m.sent g.put
+      sent = each_entered (SentTold one d.after.accepted m.senders.sender) (to_phone phone None putting d.put) m.sent g.put
           (each_weaker (SentTold one m.centre.accepted m.senders.sender) (SentTold one d.after.accepted m.senders.sender) m.sent
           (λ y t. sent_on one m.centre.accepted d.after.accepted m.senders.sender m.senders.sender g.given (λ q. stays_put (m.senders.sender q)) y t) h.sent);
     }
@@ -638,18 +638,18 @@ stays_true : (one : ℕ) (m : Machine) (o : whole.Told) → TellsTrue one m → 
 unfolding stays
 stays_true one m o h = h
 
-to_phone_true : (one : ℕ) (m : Machine) (phone : ℕ) (v : Message) (o : Option Origin) (about : Option ℕ) → TellsTrue one m
-    → MessageTold one m.centre.accepted m.senders.sender v (Phone phone) o about → (phone ≡ one → own_message m v (Phone phone) o about ≡ true)
+to_phone_true : (one : ℕ) (m : Machine) (phone : ℕ) (v : Message) (o : Option Origin) (putting : Option ℕ) → TellsTrue one m
+    → MessageTold one m.centre.accepted m.senders.sender v (Phone phone) o putting → (phone ≡ one → own_message m v (Phone phone) o putting ≡ true)
     → TellsTrue one (comes_to_phone m phone v o).after
 unfolding comes_to_phone
-to_phone_true one m phone NotCp o about h t own = stays_true one m _ h
-to_phone_true one m phone (Tiny flag value) o about h t own = stays_true one m _ h
-to_phone_true one m phone (Note flag value) o about h t own = stays_true one m _ h
-to_phone_true one m phone (Data true tag relay) o about h t own =
+to_phone_true one m phone NotCp o putting h t own = stays_true one m _ h
+to_phone_true one m phone (Tiny flag value) o putting h t own = stays_true one m _ h
+to_phone_true one m phone (Note flag value) o putting h t own = stays_true one m _ h
+to_phone_true one m phone (Data true tag relay) o putting h t own =
     by_sender_true one m (sender_receives m.senders phone tag relay) h
     (sender_receives_good m.phones m.centre.accepted m.senders phone tag relay h.sound).senders
-    (sender_receives_told one m phone tag m.centre.accepted relay o about own t h.sound h.told)
-to_phone_true one m phone (Data false tag relay) o about h t own =
+    (sender_receives_told one m phone tag m.centre.accepted relay o putting own t h.sound h.told)
+to_phone_true one m phone (Data false tag relay) o putting h t own =
     by_receiver_true one m phone (receiver_opened (receiver_limits m.limits) (m.receiver phone) m.clock tag relay o) h
     (receives_put (SentTold one m.centre.accepted m.senders.sender) m.clock (receiver_limits m.limits) (m.receiver phone) phone tag relay o (replied_true one m phone tag))
 
@@ -660,12 +660,12 @@ unfolding carries comes
 carries_true one m None h s own = stays_true one m _ h
 carries_true one m (Some x) h s own = go x.to refl (s x refl) own
   where
-    go : (to : Place) → x.to ≡ to → MessageTold one m.centre.accepted m.senders.sender x.message to x.origin x.about
-        → (phone_of to ≡ one → own_message m x.message to x.origin x.about ≡ true) → TellsTrue one (comes m to x.message x.origin x.about).after
+    go : (to : Place) → x.to ≡ to → MessageTold one m.centre.accepted m.senders.sender x.message to x.origin x.putting
+        → (phone_of to ≡ one → own_message m x.message to x.origin x.putting ≡ true) → TellsTrue one (comes m to x.message x.origin x.putting).after
     go (Centre phone) e t own =
-        by_centre_true one m phone x.about (centre_receives m.limits.held m.phones m.centre m.clock phone x.message x.origin) h
-        (centre_receives_told one m m.senders.sender m.limits.held phone x.message x.origin x.about t own)
-    go (Phone phone) e t own = to_phone_true one m phone x.message x.origin x.about h t own
+        by_centre_true one m phone x.putting (centre_receives m.limits.held m.phones m.centre m.clock phone x.message x.origin) h
+        (centre_receives_told one m m.senders.sender m.limits.held phone x.message x.origin x.putting t own)
+    go (Phone phone) e t own = to_phone_true one m phone x.message x.origin x.putting h t own
 
 next_true : (one : ℕ) (m : Machine) (e : Event) (act : Act) → IsMetAs (width_of m.senders.wide) e act → IsHonestSeen one m e → TellsTrue one m → TellsTrue one (next m act).after
 unfolding next ticked centre_pushes
@@ -745,10 +745,10 @@ module _ (one : ℕ) (m : Machine) (e : Event) (h : TellsTrue one m) (fit : AllB
           (subst (λ p. ReferencesAreNotUsedAgain p m e) (sym same) may.references s o b p0.0 a (t a (contains_here a past)) (ltb-true _ _ p1.0) (eqb-true _ _ p2.0) (eqb-true _ _ p3.0)
           (recipient (phone_at m.phones s.target) refl p3.1))
 
-  answer_own : (k phone : ℕ) → phone ≡ one → (tag : Tag) (side : Side) (v : Option ℕ) (r : Option Report) (origin : Option Origin) (about : Option ℕ) → e ≡ Carry k
-      → packet m k ≡ Some (record { message = Data true tag (Answer side v r); to = Phone phone; origin = origin; about = about })
-      → ReplyTold one m.centre.accepted m.senders.sender v r (Phone phone) about
-      → answer_may_come m phone tag about ≡ true
+  answer_own : (k phone : ℕ) → phone ≡ one → (tag : Tag) (side : Side) (v : Option ℕ) (r : Option Report) (origin : Option Origin) (putting : Option ℕ) → e ≡ Carry k
+      → packet m k ≡ Some (record { message = Data true tag (Answer side v r); to = Phone phone; origin = origin; putting = putting })
+      → ReplyTold one m.centre.accepted m.senders.sender v r (Phone phone) putting
+      → answer_may_come m phone tag putting ≡ true
   unfolding answer_may_come
   answer_own k phone same tag side v r origin None c p told = absurd told
   answer_own k phone same tag side v r origin (Some n) c p told = go (same_tag tag (tag_of ((m.senders.sender phone).outs - 1))) refl
@@ -767,33 +767,33 @@ module _ (one : ℕ) (m : Machine) (e : Event) (h : TellsTrue one m) (fit : AllB
           let w : n ≡ (m.senders.sender phone).outs - 1 = cc in
           eq-eqb n ((m.senders.sender phone).outs - 1) w
 
-  own_by_parts : (k : ℕ) → e ≡ Carry k → (v : Message) (to : Place) (origin : Option Origin) (about : Option ℕ)
-      → packet m k ≡ Some (record { message = v; to = to; origin = origin; about = about })
-      → MessageTold one m.centre.accepted m.senders.sender v to origin about → phone_of to ≡ one → own_message m v to origin about ≡ true
-  own_by_parts k c NotCp to origin about p t same = refl
-  own_by_parts k c (Note flag value) to origin about p t same = refl
-  own_by_parts k c (Tiny flag value) to origin about p t same = refl
-  own_by_parts k c (Data false tag (Transfer FromPhone (Submit s))) (Centre phone) (Some o) about p t same =
-      own phone same s o (record { number = k; carries = c; tag = tag; about = about; is = p }) m.centre.accepted (λ a z. z) fit
-  own_by_parts k c (Data false tag (Transfer FromPhone (Submit s))) (Centre phone) None about p t same = refl
-  own_by_parts k c (Data false tag (Transfer FromPhone (Submit s))) (Phone phone) origin about p t same = refl
-  own_by_parts k c (Data false tag (Transfer FromPhone (Deliver d))) to origin about p t same = refl
-  own_by_parts k c (Data false tag (Transfer FromPhone OtherUnit)) to origin about p t same = refl
-  own_by_parts k c (Data false tag (Transfer FromPhone BadUnit)) to origin about p t same = refl
-  own_by_parts k c (Data false tag (Transfer ToPhone unit)) to origin about p t same = refl
-  own_by_parts k c (Data true tag (Transfer side unit)) to origin about p t same = refl
-  own_by_parts k c (Data true tag (Answer side v r)) (Phone phone) origin about p t same = answer_own k phone same tag side v r origin about c p t
-  own_by_parts k c (Data true tag (Answer side v r)) (Centre phone) origin about p t same = refl
-  own_by_parts k c (Data false tag (Answer side v r)) to origin about p t same = refl
-  own_by_parts k c (Data true tag UnknownType) to origin about p t same = refl
-  own_by_parts k c (Data false tag UnknownType) to origin about p t same = refl
-  own_by_parts k c (Data true tag Unreadable) to origin about p t same = refl
-  own_by_parts k c (Data false tag Unreadable) to origin about p t same = refl
+  own_by_parts : (k : ℕ) → e ≡ Carry k → (v : Message) (to : Place) (origin : Option Origin) (putting : Option ℕ)
+      → packet m k ≡ Some (record { message = v; to = to; origin = origin; putting = putting })
+      → MessageTold one m.centre.accepted m.senders.sender v to origin putting → phone_of to ≡ one → own_message m v to origin putting ≡ true
+  own_by_parts k c NotCp to origin putting p t same = refl
+  own_by_parts k c (Note flag value) to origin putting p t same = refl
+  own_by_parts k c (Tiny flag value) to origin putting p t same = refl
+  own_by_parts k c (Data false tag (Transfer FromPhone (Submit s))) (Centre phone) (Some o) putting p t same =
+      own phone same s o (record { number = k; carries = c; tag = tag; putting = putting; is = p }) m.centre.accepted (λ a z. z) fit
+  own_by_parts k c (Data false tag (Transfer FromPhone (Submit s))) (Centre phone) None putting p t same = refl
+  own_by_parts k c (Data false tag (Transfer FromPhone (Submit s))) (Phone phone) origin putting p t same = refl
+  own_by_parts k c (Data false tag (Transfer FromPhone (Deliver d))) to origin putting p t same = refl
+  own_by_parts k c (Data false tag (Transfer FromPhone OtherUnit)) to origin putting p t same = refl
+  own_by_parts k c (Data false tag (Transfer FromPhone BadUnit)) to origin putting p t same = refl
+  own_by_parts k c (Data false tag (Transfer ToPhone unit)) to origin putting p t same = refl
+  own_by_parts k c (Data true tag (Transfer side unit)) to origin putting p t same = refl
+  own_by_parts k c (Data true tag (Answer side v r)) (Phone phone) origin putting p t same = answer_own k phone same tag side v r origin putting c p t
+  own_by_parts k c (Data true tag (Answer side v r)) (Centre phone) origin putting p t same = refl
+  own_by_parts k c (Data false tag (Answer side v r)) to origin putting p t same = refl
+  own_by_parts k c (Data true tag UnknownType) to origin putting p t same = refl
+  own_by_parts k c (Data false tag UnknownType) to origin putting p t same = refl
+  own_by_parts k c (Data true tag Unreadable) to origin putting p t same = refl
+  own_by_parts k c (Data false tag Unreadable) to origin putting p t same = refl
 
   own_packet : (k : ℕ) → e ≡ Carry k → (v : Option Sent) → packet m k ≡ v → IsOwn one m v
   own_packet k c None p = tt
   own_packet k c (Some x) p =
-      own_by_parts k c x.message x.to x.origin x.about p (packet_sent m (SentTold one m.centre.accepted m.senders.sender) k h.sent x p)
+      own_by_parts k c x.message x.to x.origin x.putting p (packet_sent m (SentTold one m.centre.accepted m.senders.sender) k h.sent x p)
 
 honest_from : (one : ℕ) (m : Machine) (e : Event) → TellsTrue one m → AllByRecursion (Fits m.phones) m.centre.accepted → IsHonestAt one m e → IsHonestSeen one m e
 honest_from one m (Compose phone target characters) h fit may = tt

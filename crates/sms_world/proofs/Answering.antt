@@ -120,7 +120,7 @@ types v p old new target text r law is_text there same t = λ m h. typed v m p o
 
 -- ---- the centre does this
 
-module _ (v : PartiesValue) (m : Machine) (p : ℕ) (origin : Option Origin) (about : Option ℕ) (d : Does CentreState) (new : CentreValue) (h : PartiesStand v m) (few : length d.put ≤ 2) (none : DoesOrDrops d) where
+module _ (v : PartiesValue) (m : Machine) (p : ℕ) (origin : Option Origin) (putting : Option ℕ) (d : Does CentreState) (new : CentreValue) (h : PartiesStand v m) (few : length d.put ≤ 2) (none : DoesOrDrops d) where
   centre_is : (n : Machine) → n.limits ≡ m.limits → n.phones ≡ m.phones → centre.StandsFor n.limits.held n.phones n.clock new n.centre → n.senders ≡ m.senders → n.receiver ≡ m.receiver → PartiesStand (with_centre v new) n
   centre_is n limits phones stands senders receivers =
       record {
@@ -133,16 +133,16 @@ module _ (v : PartiesValue) (m : Machine) (p : ℕ) (origin : Option Origin) (ab
       }
 
   centre_dropped : (why : Dropped) → d.answer ≡ Err why → centre.StandsFor m.limits.held m.phones m.clock new d.after
-      → ((by_centre m (of_centre p origin about d)).answer ≡ Err (Party why)) × ((by_centre m (of_centre p origin about d)).put ≡ []) × PartiesStand (with_centre v new) (by_centre m (of_centre p origin about d)).after
+      → ((by_centre m (of_centre p origin putting d)).answer ≡ Err (Party why)) × ((by_centre m (of_centre p origin putting d)).put ≡ []) × PartiesStand (with_centre v new) (by_centre m (of_centre p origin putting d)).after
   unfolding by_centre of_centre
-  centre_dropped why e stands = (ap of_party e, put_none p origin about d.put (none why e), centre_is _ refl refl stands refl refl)
+  centre_dropped why e stands = (ap of_party e, put_none p origin putting d.put (none why e), centre_is _ refl refl stands refl refl)
 
-  pub centre_answers : (r : Result Step Dropped) → CentreAnswers m.limits.held m.phones m.clock m.centre d r new → Answers false p m (by_centre m (of_centre p origin about d)) r (with_centre v new)
+  pub centre_answers : (r : Result Step Dropped) → CentreAnswers m.limits.held m.phones m.clock m.centre d r new → Answers false p m (by_centre m (of_centre p origin putting d)) r (with_centre v new)
   unfolding by_centre of_centre
   centre_answers (Ok step) a = (
     ap of_party a.0,
     subst (λ n. n ≤ 2) (sym (as_many (packets_of step) d.put a.1)) few,
-    down_to p origin about (packets_of step) d.put a.1,
+    down_to p origin putting (packets_of step) d.put a.1,
     centre_is _ refl refl a.2 refl refl,
   )
   centre_answers (Err dropped.Memory) a = centre_is m refl refl a refl refl
@@ -190,10 +190,10 @@ module _ (v : PartiesValue) (m : Machine) (p : ℕ) (old new : PhoneValue) (d : 
 up_by : (now p : ℕ) (octets : List ℕ) (v : PartiesValue) (new : CentreValue) → Below → (message : Message) (r : Result Step Dropped)
     → ((limit : ℕ) (phones : List AddressValue) (clock : ℕ) (c : CentreState) (origin : Option Origin) → clock ≤ now → centre.StandsFor limit phones clock v.centre c
     → CentreAnswers limit phones now c (centre_receives limit phones c now p message origin) r new)
-    → (m : Machine) (origin : Option Origin) (about : Option ℕ) → PartiesStand v m → m.clock ≡ now → Answers false p m (comes m (Centre p) message origin about) r (with_centre v new)
+    → (m : Machine) (origin : Option Origin) (putting : Option ℕ) → PartiesStand v m → m.clock ≡ now → Answers false p m (comes m (Centre p) message origin putting) r (with_centre v new)
 unfolding comes
-up_by now p octets v new law message r answers m origin about h e =
-    centre_answers v m p None about (centre_receives m.limits.held m.phones m.centre m.clock p message origin) new h
+up_by now p octets v new law message r answers m origin putting h e =
+    centre_answers v m p None putting (centre_receives m.limits.held m.phones m.centre m.clock p message origin) new h
     (law.centre_few.when_received m.limits.held m.phones m.centre m.clock p message origin) (law.centre_dropped.when_received m.limits.held m.phones m.centre m.clock p message origin) r
     (subst (λ t. CentreAnswers m.limits.held m.phones t m.centre (centre_receives m.limits.held m.phones m.centre t p message origin) r new) (sym e)
     (answers m.limits.held m.phones m.clock m.centre origin (omega (arith, e)) h.centre_stands))
@@ -262,13 +262,13 @@ for_receiver m p (Data false tag relay) origin v r e a = a
 
 module _ (now p : ℕ) (octets : List ℕ) (v : PartiesValue) (old new : PhoneValue) (law : Below) (there : slice_get v.phones p ≡ Some old) where
   down_by : (message : Message) (b : Bool) (r : Result Step Dropped) → is_answer message ≡ b → TakesBy b now message old r new
-      → (m : Machine) (origin : Option Origin) (about : Option ℕ) → PartiesStand v m → m.clock ≡ now → Answers true p m (comes m (Phone p) message origin about) r (with_phone v p new)
+      → (m : Machine) (origin : Option Origin) (putting : Option ℕ) → PartiesStand v m → m.clock ≡ now → Answers true p m (comes m (Phone p) message origin putting) r (with_phone v p new)
   unfolding comes
-  down_by message true r e k m origin about h at =
+  down_by message true r e k m origin putting h at =
       for_sender m p message origin (with_phone v p new) r e
       (sender_answers v m p old new h there k.1 (sender_takes m.senders p message) (law.few_put.when_heard m.senders p message) (law.dropped.sender_takes m.senders p message)
       (λ q s apart i. (law.others q p s m.senders apart i).2 message) r (k.0 p m.senders (h.senders_stand p old there)))
-  down_by message false r e k m origin about h at =
+  down_by message false r e k m origin putting h at =
       let d = receiver_receives (receiver_limits m.limits) (m.receiver p) m.clock message origin in
       for_receiver m p message origin (with_phone v p new) r e
       (receiver_answers v m p old new d h there k.1 (law.few_put.by_receiver (receiver_limits m.limits) (m.receiver p) m.clock message origin)

@@ -89,21 +89,21 @@ module _ (law : SetsStayFew) where
   unfolding stays
   stays_bounded m told h = h
 
-  comes_bounded : (m : Machine) (to : Place) (v : Message) (origin : Option Origin) (about : Option ℕ) → Bounded m → Bounded (comes m to v origin about).after
+  comes_bounded : (m : Machine) (to : Place) (v : Message) (origin : Option Origin) (putting : Option ℕ) → Bounded m → Bounded (comes m to v origin putting).after
   unfolding comes comes_to_phone by_sender by_centre by_receiver of_centre
-  comes_bounded m (Centre phone) v origin about h = h
-  comes_bounded m (Phone phone) NotCp origin about h = stays_bounded m _ h
-  comes_bounded m (Phone phone) (Note flag value) origin about h = stays_bounded m _ h
-  comes_bounded m (Phone phone) (Tiny flag value) origin about h = stays_bounded m _ h
-  comes_bounded m (Phone phone) (Data true tag relay) origin about h = h
-  comes_bounded m (Phone phone) (Data false tag relay) origin about h =
+  comes_bounded m (Centre phone) v origin putting h = h
+  comes_bounded m (Phone phone) NotCp origin putting h = stays_bounded m _ h
+  comes_bounded m (Phone phone) (Note flag value) origin putting h = stays_bounded m _ h
+  comes_bounded m (Phone phone) (Tiny flag value) origin putting h = stays_bounded m _ h
+  comes_bounded m (Phone phone) (Data true tag relay) origin putting h = h
+  comes_bounded m (Phone phone) (Data false tag relay) origin putting h =
       changed_each (λ i (r : ReceiverState). IsBounded (receiver_limits m.limits) r) m.receiver phone _
       (receives_bounded m.clock (receiver_limits m.limits) (m.receiver phone) tag relay origin (h phone)) h
 
   carries_bounded : (m : Machine) (x : Option Sent) → Bounded m → Bounded (carries m x).after
   unfolding carries
   carries_bounded m None h = stays_bounded m _ h
-  carries_bounded m (Some x) h = comes_bounded m x.to x.message x.origin x.about h
+  carries_bounded m (Some x) h = comes_bounded m x.to x.message x.origin x.putting h
 
   next_bounded : (m : Machine) (act : Act) → Bounded m → Bounded (next m act).after
   unfolding next by_sender by_centre pushed of_centre ticked ages

@@ -33,16 +33,16 @@ to_phone_called limits m phone (Tiny flag value) origin h = h
 to_phone_called limits m phone (Data true tag relay) origin h = one_more limits m.senders (Take phone (Data true tag relay)) h
 to_phone_called limits m phone (Data false tag relay) origin h = h
 
-comes_called : (limits : Limits) (m : Machine) (place : Place) (message : Message) (origin : Option Origin) (about : Option ℕ) → AreCalled limits m.senders
-    → AreCalled limits (comes m place message origin about).after.senders
+comes_called : (limits : Limits) (m : Machine) (place : Place) (message : Message) (origin : Option Origin) (putting : Option ℕ) → AreCalled limits m.senders
+    → AreCalled limits (comes m place message origin putting).after.senders
 unfolding comes by_centre
-comes_called limits m (Centre phone) message origin about h = h
-comes_called limits m (Phone phone) message origin about h = to_phone_called limits m phone message origin h
+comes_called limits m (Centre phone) message origin putting h = h
+comes_called limits m (Phone phone) message origin putting h = to_phone_called limits m phone message origin h
 
 carries_called : (limits : Limits) (m : Machine) (x : Option Sent) → AreCalled limits m.senders → AreCalled limits (carries m x).after.senders
 unfolding carries stays
 carries_called limits m None h = h
-carries_called limits m (Some x) h = comes_called limits m x.to x.message x.origin x.about h
+carries_called limits m (Some x) h = comes_called limits m x.to x.message x.origin x.putting h
 
 stays_called : (limits : Limits) (m : Machine) (told : Told) → AreCalled limits m.senders → AreCalled limits (stays m told).after.senders
 unfolding stays

@@ -22,9 +22,9 @@ up_as_many : (phone : ℕ) (vs : List Message) → length (to_centre phone vs) �
 up_as_many phone [] = refl
 up_as_many phone (v ∷ vs) = ap suc (up_as_many phone vs)
 
-down_as_many : (phone : ℕ) (origin : Option Origin) (about : Option ℕ) (vs : List Message) → length (to_phone phone origin about vs) ≡ length vs
-down_as_many phone origin about [] = refl
-down_as_many phone origin about (v ∷ vs) = ap suc (down_as_many phone origin about vs)
+down_as_many : (phone : ℕ) (origin : Option Origin) (putting : Option ℕ) (vs : List Message) → length (to_phone phone origin putting vs) ≡ length vs
+down_as_many phone origin putting [] = refl
+down_as_many phone origin putting (v ∷ vs) = ap suc (down_as_many phone origin putting vs)
 
 module _ (law : Below) (m : Machine) where
   abbrev Few : Next → Type 0
@@ -34,23 +34,23 @@ module _ (law : Below) (m : Machine) where
   unfolding stays
   stays_few told = omega arith
 
-  comes_few : (to : Place) (v : Message) (origin : Option Origin) (about : Option ℕ) → Few (comes m to v origin about)
+  comes_few : (to : Place) (v : Message) (origin : Option Origin) (putting : Option ℕ) → Few (comes m to v origin putting)
   unfolding comes comes_to_phone by_sender by_centre by_receiver of_centre sender_takes receiver_receives
-  comes_few (Centre phone) v origin about =
-      subst (λ n. n ≤ 2) (sym (down_as_many phone None about (centre_receives m.limits.held m.phones m.centre m.clock phone v origin).put))
+  comes_few (Centre phone) v origin putting =
+      subst (λ n. n ≤ 2) (sym (down_as_many phone None putting (centre_receives m.limits.held m.phones m.centre m.clock phone v origin).put))
       (law.centre_few.when_received m.limits.held m.phones m.centre m.clock phone v origin)
-  comes_few (Phone phone) NotCp origin about = stays_few _
-  comes_few (Phone phone) (Note flag value) origin about = stays_few _
-  comes_few (Phone phone) (Tiny flag value) origin about = stays_few _
-  comes_few (Phone phone) (Data true tag relay) origin about = (law.few_put.when_heard m.senders phone (Data true tag relay)).two
-  comes_few (Phone phone) (Data false tag relay) origin about =
+  comes_few (Phone phone) NotCp origin putting = stays_few _
+  comes_few (Phone phone) (Note flag value) origin putting = stays_few _
+  comes_few (Phone phone) (Tiny flag value) origin putting = stays_few _
+  comes_few (Phone phone) (Data true tag relay) origin putting = (law.few_put.when_heard m.senders phone (Data true tag relay)).two
+  comes_few (Phone phone) (Data false tag relay) origin putting =
       let few = law.few_put.by_receiver (receiver_limits m.limits) (m.receiver phone) m.clock (Data false tag relay) origin in
       subst (λ n. n ≤ 2) (sym (up_as_many phone (receiver_receives (receiver_limits m.limits) (m.receiver phone) m.clock (Data false tag relay) origin).put)) few
 
   carries_few : (x : Option Sent) → Few (carries m x)
   unfolding carries
   carries_few None = stays_few _
-  carries_few (Some x) = comes_few x.to x.message x.origin x.about
+  carries_few (Some x) = comes_few x.to x.message x.origin x.putting
 
   next_few : (act : Act) → Few (next m act)
   unfolding next by_sender by_centre pushed of_centre

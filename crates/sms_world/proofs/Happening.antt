@@ -229,10 +229,10 @@ keeps_down m p (Tiny flag value) origin = record { limits = refl; clock = refl; 
 keeps_down m p (Data true tag relay) origin = record { limits = refl; clock = refl; sent = refl }
 keeps_down m p (Data false tag relay) origin = record { limits = refl; clock = refl; sent = refl }
 
-keeps_coming : (m : Machine) (place : Place) (message : Message) (origin : Option Origin) (about : Option ℕ) → Keeps m (comes m place message origin about)
+keeps_coming : (m : Machine) (place : Place) (message : Message) (origin : Option Origin) (putting : Option ℕ) → Keeps m (comes m place message origin putting)
 unfolding comes by_centre
-keeps_coming m (Centre p) message origin about = record { limits = refl; clock = refl; sent = refl }
-keeps_coming m (Phone p) message origin about = keeps_down m p message origin
+keeps_coming m (Centre p) message origin putting = record { limits = refl; clock = refl; sent = refl }
+keeps_coming m (Phone p) message origin putting = keeps_down m p message origin
 
 phone_at_place : (up : Bool) (p : ℕ) → phone_of (place_at up p) ≡ p
 phone_at_place true p = refl
@@ -242,17 +242,17 @@ phone_at_place false p = refl
 record Came (v : WorldValue) (m : Machine) (up : Bool) (p : ℕ) (octets : List ℕ) (r : Result PartyStep Dropped) (ps : PartiesValue) : Type 0 where
   message : Message
   read : ReadsAs octets message
-  answers : (origin : Option Origin) (about : Option ℕ) → Answers (not up) p m (comes m (place_at up p) message origin about) r ps
+  answers : (origin : Option Origin) (putting : Option ℕ) → Answers (not up) p m (comes m (place_at up p) message origin putting) r ps
 
 came : (v : WorldValue) (m : Machine) (up : Bool) (p : ℕ) (octets : List ℕ) (ps : PartiesValue) → Below → IsOctets octets → StandsFor v m
     → (r : Result PartyStep Dropped) → parties.Receives v.clock up p octets v.parties r ps → Came v m up p octets r ps
-came v m up p octets ps law are h (Ok step) t = record { message = t.0; read = t.1; answers = λ origin about. t.2 m origin about h.parties_stand h.clock_is }
-came v m up p octets ps law are h (Err dropped.NotCp) t = record { message = t.0; read = t.1; answers = λ origin about. t.2 m origin about h.parties_stand h.clock_is }
-came v m up p octets ps law are h (Err dropped.Unmatched) t = record { message = t.0; read = t.1; answers = λ origin about. t.2 m origin about h.parties_stand h.clock_is }
-came v m up p octets ps law are h (Err dropped.Busy) t = record { message = t.0; read = t.1; answers = λ origin about. t.2 m origin about h.parties_stand h.clock_is }
-came v m up p octets ps law are h (Err dropped.TooManySegments) t = record { message = t.0; read = t.1; answers = λ origin about. t.2 m origin about h.parties_stand h.clock_is }
+came v m up p octets ps law are h (Ok step) t = record { message = t.0; read = t.1; answers = λ origin putting. t.2 m origin putting h.parties_stand h.clock_is }
+came v m up p octets ps law are h (Err dropped.NotCp) t = record { message = t.0; read = t.1; answers = λ origin putting. t.2 m origin putting h.parties_stand h.clock_is }
+came v m up p octets ps law are h (Err dropped.Unmatched) t = record { message = t.0; read = t.1; answers = λ origin putting. t.2 m origin putting h.parties_stand h.clock_is }
+came v m up p octets ps law are h (Err dropped.Busy) t = record { message = t.0; read = t.1; answers = λ origin putting. t.2 m origin putting h.parties_stand h.clock_is }
+came v m up p octets ps law are h (Err dropped.TooManySegments) t = record { message = t.0; read = t.1; answers = λ origin putting. t.2 m origin putting h.parties_stand h.clock_is }
 came v m up p octets ps law are h (Err dropped.Memory) t =
-    let k = law.each octets are in record { message = k.0; read = k.1; answers = λ origin about. t m h.parties_stand h.clock_is }
+    let k = law.each octets are in record { message = k.0; read = k.1; answers = λ origin putting. t m h.parties_stand h.clock_is }
 
 module _ (v : WorldValue) (up : Bool) (p : ℕ) (octets : List ℕ) (law : Below) (are : IsOctets octets) where
   pub injected : (ps : PartiesValue) (r : Result PartyStep Dropped) → p < length v.parties.phones → parties.Receives v.clock up p octets v.parties r ps
@@ -281,7 +281,7 @@ module _ (v : WorldValue) (up : Bool) (p : ℕ) (octets : List ℕ) (law : Below
 
 -- ---- a packet is carried
 
-carried_there : (m : Machine) (k : ℕ) (x : Sent) → packet m k ≡ Some x → carries m (packet m k) ≡ comes m x.to x.message x.origin x.about
+carried_there : (m : Machine) (k : ℕ) (x : Sent) → packet m k ≡ Some x → carries m (packet m k) ≡ comes m x.to x.message x.origin x.putting
 unfolding carries
 carried_there m k x e = ap (λ o. carries m o) e
 
@@ -302,16 +302,16 @@ module _ (v : WorldValue) (n : ℕ) (packet_is : PacketValue) (law : Below) (are
       let s = packet_there m v.packets n packet_is h.packets_are there in
       let x = s.entry in
       let same : k.message ≡ x.message = law.one packet_is.octets x.message k.message are (law.carried packet_is.octets x.message s.is_packet.1) k.read in
-      let d = comes m x.to x.message x.origin x.about in
+      let d = comes m x.to x.message x.origin x.putting in
       record {
         act = MovesPacket (suc n);
         is = refl;
         memory = memory_there m (suc n) x s.is_there;
         does = d;
         next_is = carried_there m (suc n) x s.is_there;
-        keeps = keeps_coming m x.to x.message x.origin x.about;
-        answers = subst (λ (q : Place). Answers (not packet_is.is_up) packet_is.phone m (comes m q x.message x.origin x.about) r ps) (sym s.is_packet.0)
-            (subst (λ (w : Message). Answers (not packet_is.is_up) packet_is.phone m (comes m (place_at packet_is.is_up packet_is.phone) w x.origin x.about) r ps) same (k.answers x.origin x.about));
+        keeps = keeps_coming m x.to x.message x.origin x.putting;
+        answers = subst (λ (q : Place). Answers (not packet_is.is_up) packet_is.phone m (comes m q x.message x.origin x.putting) r ps) (sym s.is_packet.0)
+            (subst (λ (w : Message). Answers (not packet_is.is_up) packet_is.phone m (comes m (place_at packet_is.is_up packet_is.phone) w x.origin x.putting) r ps) same (k.answers x.origin x.putting));
       }
 
 pub nothing_brought : (v : WorldValue) (k : ℕ) → ((m : Machine) → StandsFor v m → packet m k ≡ None) → Steps (Carry k) v (Err NoSuchPacket) v
@@ -460,9 +460,9 @@ not_brought v k n up p num l m h =
       act = MovesPacket k;
       is = refl;
       memory = memory_there m k x e;
-      does = comes m x.to x.message x.origin x.about;
+      does = comes m x.to x.message x.origin x.putting;
       next_is = carried_there m k x e;
-      keeps = keeps_coming m x.to x.message x.origin x.about;
+      keeps = keeps_coming m x.to x.message x.origin x.putting;
       answers = h.parties_stand;
     }
 

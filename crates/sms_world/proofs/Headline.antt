@@ -72,10 +72,10 @@ by_sender_stands m d h g phone =
     grown (inl e) n t f = ap (λ l. nth l n) e ∙ f
     grown (inr e) n t f = ap (λ l. nth l n) e.1 ∙ nth_more e.0 m.senders.texts n t f
 
-by_centre_stands : (m : Machine) (from : ℕ) (origin : Option Origin) (about : Option ℕ) (d : Does CentreState) → Stand m → GoodCall m.phones m.senders.texts m.centre from origin about d
-    → Stand (by_centre m (of_centre from origin about d)).after
+by_centre_stands : (m : Machine) (from : ℕ) (origin : Option Origin) (putting : Option ℕ) (d : Does CentreState) → Stand m → GoodCall m.phones m.senders.texts m.centre from origin putting d
+    → Stand (by_centre m (of_centre from origin putting d)).after
 unfolding by_centre of_centre
-by_centre_stands m from origin about d h g phone =
+by_centre_stands m from origin putting d h g phone =
     receiver_stays m.phones m.senders.texts m.senders.texts m.centre.accepted d.after.accepted (λ n t e. e) g.given
     m.limits.remembered phone (m.receiver phone) (h phone)
 
@@ -142,21 +142,21 @@ module _ (law : Below) where
   to_phone_stands m phone (Data false tag relay) o s h x may =
       by_receiver_stands m phone (receiver_opened (receiver_limits m.limits) (m.receiver phone) m.clock tag relay o) h (relay_stands m phone tag relay o s.texts h x may)
 
-  comes_stands : (m : Machine) (to : Place) (v : Message) (o : Option Origin) (about : Option ℕ) → EachHasItsPiece m → Stand m
+  comes_stands : (m : Machine) (to : Place) (v : Message) (o : Option Origin) (putting : Option ℕ) → EachHasItsPiece m → Stand m
       → HasItsPiece m.phones m.senders.texts m.centre.accepted v to o → message_may_come true m v to o ≡ true
-      → Stand (comes m to v o about).after
+      → Stand (comes m to v o putting).after
   unfolding comes
-  comes_stands m (Centre phone) v o about s h x may =
-      by_centre_stands m phone None about (centre_receives m.limits.held m.phones m.centre m.clock phone v o) h
-      (centre_receives_good true m m.limits.held m.phones m.senders.texts phone about v o s.centre x may)
-  comes_stands m (Phone phone) v o about s h x may = to_phone_stands m phone v o s h x may
+  comes_stands m (Centre phone) v o putting s h x may =
+      by_centre_stands m phone None putting (centre_receives m.limits.held m.phones m.centre m.clock phone v o) h
+      (centre_receives_good true m m.limits.held m.phones m.senders.texts phone putting v o s.centre x may)
+  comes_stands m (Phone phone) v o putting s h x may = to_phone_stands m phone v o s h x may
 
   carries_stands : (m : Machine) (x : Option Sent) → EachHasItsPiece m → Stand m
       → ((y : Sent) → x ≡ Some y → IsSentOf m.phones m.senders.texts m.centre.accepted y) → sent_may_come true m x ≡ true
       → Stand (carries m x).after
   unfolding carries
   carries_stands m None s h f may = stays_stands m _ h
-  carries_stands m (Some x) s h f may = comes_stands m x.to x.message x.origin x.about s h (f x refl) may
+  carries_stands m (Some x) s h f may = comes_stands m x.to x.message x.origin x.putting s h (f x refl) may
 
   pushes_stands : (m : Machine) (phone : ℕ) (d : Does CentreState) → Stand m → GoodCall m.phones m.senders.texts m.centre phone (origin_of (d.after.line phone).latest) None d
       → Stand (by_centre m (pushed phone d)).after

@@ -49,32 +49,32 @@ use Rattle.sms_world.proofs.Once.{packet_sent, receives_put}
 
 -- the tag is that of a putting out of the sender, which is the one of this number
 abbrev IsNumbered : Sender → Tag → Option ℕ → Type 0
-IsNumbered s tag about = (k : ℕ) × (about ≡ Some k) × (tag ≡ tag_of k) × (k < s.outs)
+IsNumbered s tag putting = (k : ℕ) × (putting ≡ Some k) × (tag ≡ tag_of k) × (k < s.outs)
 
 abbrev Numbered : (ℕ → Sender) → Message → Place → Option ℕ → Type 0
-Numbered f NotCp to about = Unit {0}
-Numbered f (Note flag value) to about = Unit {0}
-Numbered f (Tiny flag value) to about = Unit {0}
-Numbered f (Data false tag relay) (Centre p) about = IsNumbered (f p) tag about
-Numbered f (Data false tag relay) (Phone p) about = Unit {0}
-Numbered f (Data true tag relay) (Phone p) about = IsNumbered (f p) tag about
-Numbered f (Data true tag relay) (Centre p) about = Unit {0}
+Numbered f NotCp to putting = Unit {0}
+Numbered f (Note flag value) to putting = Unit {0}
+Numbered f (Tiny flag value) to putting = Unit {0}
+Numbered f (Data false tag relay) (Centre p) putting = IsNumbered (f p) tag putting
+Numbered f (Data false tag relay) (Phone p) putting = Unit {0}
+Numbered f (Data true tag relay) (Phone p) putting = IsNumbered (f p) tag putting
+Numbered f (Data true tag relay) (Centre p) putting = Unit {0}
 
 abbrev SentNumbered : (ℕ → Sender) → Sent → Type 0
-SentNumbered f x = Numbered f x.message x.to x.about
+SentNumbered f x = Numbered f x.message x.to x.putting
 
-still : (s s' : Sender) (tag : Tag) (about : Option ℕ) → s.outs ≤ s'.outs → IsNumbered s tag about → IsNumbered s' tag about
-still s s' tag about l h = let b = h.3 in (h.0, h.1, h.2, omega arith)
+still : (s s' : Sender) (tag : Tag) (putting : Option ℕ) → s.outs ≤ s'.outs → IsNumbered s tag putting → IsNumbered s' tag putting
+still s s' tag putting l h = let b = h.3 in (h.0, h.1, h.2, omega arith)
 
 module _ (f f' : ℕ → Sender) (more : (q : ℕ) → (f q).outs ≤ (f' q).outs) where
-  stays_numbered : (v : Message) (to : Place) (about : Option ℕ) → Numbered f v to about → Numbered f' v to about
-  stays_numbered NotCp to about h = tt
-  stays_numbered (Note flag value) to about h = tt
-  stays_numbered (Tiny flag value) to about h = tt
-  stays_numbered (Data false tag relay) (Centre p) about h = still (f p) (f' p) tag about (more p) h
-  stays_numbered (Data false tag relay) (Phone p) about h = tt
-  stays_numbered (Data true tag relay) (Phone p) about h = still (f p) (f' p) tag about (more p) h
-  stays_numbered (Data true tag relay) (Centre p) about h = tt
+  stays_numbered : (v : Message) (to : Place) (putting : Option ℕ) → Numbered f v to putting → Numbered f' v to putting
+  stays_numbered NotCp to putting h = tt
+  stays_numbered (Note flag value) to putting h = tt
+  stays_numbered (Tiny flag value) to putting h = tt
+  stays_numbered (Data false tag relay) (Centre p) putting h = still (f p) (f' p) tag putting (more p) h
+  stays_numbered (Data false tag relay) (Phone p) putting h = tt
+  stays_numbered (Data true tag relay) (Phone p) putting h = still (f p) (f' p) tag putting (more p) h
+  stays_numbered (Data true tag relay) (Centre p) putting h = tt
 
 -- ---- what a sender does
 
@@ -185,30 +185,30 @@ module _ (x : SenderState) (phone : ℕ) where
 -- ---- what the centre does
 
 abbrev Replies : (ℕ → Sender) → ℕ → Option ℕ → Does CentreState → Type 0
-Replies f phone about d = AllByRecursion (SentNumbered f) (to_phone phone None about d.put)
+Replies f phone putting d = AllByRecursion (SentNumbered f) (to_phone phone None putting d.put)
 
-module _ (f : ℕ → Sender) (phone : ℕ) (about : Option ℕ) (c : CentreState) (now : ℕ) where
-  checked_replies : (tag : Tag) (s : Submission) (o : Option Origin) (k : Check) → IsNumbered (f phone) tag about → Replies f phone about (checked c now phone tag s o k)
+module _ (f : ℕ → Sender) (phone : ℕ) (putting : Option ℕ) (c : CentreState) (now : ℕ) where
+  checked_replies : (tag : Tag) (s : Submission) (o : Option Origin) (k : Check) → IsNumbered (f phone) tag putting → Replies f phone putting (checked c now phone tag s o k)
   unfolding checked
   checked_replies tag s o (Refuse cause failure) h = (tt, (h, tt))
   checked_replies tag s o (Accept r ends stamp) h = (tt, (h, tt))
 
-  takes_replies : (limit : ℕ) (phones : List AddressValue) (tag : Tag) (u : TransferUnit) (o : Option Origin) → IsNumbered (f phone) tag about
-      → Replies f phone about (centre_takes limit phones c now phone tag u o)
+  takes_replies : (limit : ℕ) (phones : List AddressValue) (tag : Tag) (u : TransferUnit) (o : Option Origin) → IsNumbered (f phone) tag putting
+      → Replies f phone putting (centre_takes limit phones c now phone tag u o)
   unfolding centre_takes
   takes_replies limit phones tag (Submit s) o h = checked_replies tag s o (checked_by limit phones (books_of c.accepted now phone s) now s) h
   takes_replies limit phones tag (Deliver d) o h = (tt, (h, tt))
   takes_replies limit phones tag OtherUnit o h = (tt, (h, tt))
   takes_replies limit phones tag BadUnit o h = (tt, (h, tt))
 
-  hears_replies : (tag : Tag) (cause : Option ℕ) (latest : Option Pushing) → Replies f phone about (centre_hears c now phone tag cause latest)
+  hears_replies : (tag : Tag) (cause : Option ℕ) (latest : Option Pushing) → Replies f phone putting (centre_hears c now phone tag cause latest)
   unfolding centre_hears settled
   hears_replies tag cause None = tt
   hears_replies tag cause (Some p) =
-      cond_both (same_tag tag p.tag && ltb now p.message.ends) _ _ (Replies f phone about) (λ _. (tt, tt)) (λ _. tt)
+      cond_both (same_tag tag p.tag && ltb now p.message.ends) _ _ (Replies f phone putting) (λ _. (tt, tt)) (λ _. tt)
 
-  centre_replies : (limit : ℕ) (phones : List AddressValue) (v : Message) (o : Option Origin) → Numbered f v (Centre phone) about
-      → Replies f phone about (centre_receives limit phones c now phone v o)
+  centre_replies : (limit : ℕ) (phones : List AddressValue) (v : Message) (o : Option Origin) → Numbered f v (Centre phone) putting
+      → Replies f phone putting (centre_receives limit phones c now phone v o)
   unfolding centre_receives centre_opened centre_answered
   centre_replies limit phones NotCp o h = tt
   centre_replies limit phones (Note flag value) o h = tt
@@ -234,7 +234,7 @@ unfolding by_sender
 by_sender_all m d h g =
     each_entered (SentNumbered d.after.sender) d.put m.sent g.put
     (each_weaker (SentNumbered m.senders.sender) (SentNumbered d.after.sender) m.sent
-    (λ x t. stays_numbered m.senders.sender d.after.sender g.more x.message x.to x.about t) h)
+    (λ x t. stays_numbered m.senders.sender d.after.sender g.more x.message x.to x.putting t) h)
 
 stays_all : (m : Machine) (told : Told) → All m → All (stays m told).after
 unfolding stays
@@ -263,11 +263,11 @@ unfolding carries comes
 carries_all m None h s = stays_all m _ h
 carries_all m (Some x) h s = go x.to refl (s x refl)
   where
-    go : (to : Place) → x.to ≡ to → Numbered m.senders.sender x.message to x.about → All (comes m to x.message x.origin x.about).after
+    go : (to : Place) → x.to ≡ to → Numbered m.senders.sender x.message to x.putting → All (comes m to x.message x.origin x.putting).after
     go (Phone phone) e t = to_phone_all m phone x.message x.origin h
     go (Centre phone) e t = unfold by_centre of_centre in
         each_entered (SentNumbered m.senders.sender) _ m.sent
-        (centre_replies m.senders.sender phone x.about m.centre m.clock m.limits.held m.phones x.message x.origin t) h
+        (centre_replies m.senders.sender phone x.putting m.centre m.clock m.limits.held m.phones x.message x.origin t) h
 
 next_all : (m : Machine) (e : Event) (act : Act) → IsMetAs (width_of m.senders.wide) e act → NothingIsInjected e → All m → All (next m act).after
 unfolding next ticked centre_pushes
@@ -312,7 +312,7 @@ one_tag k last l b e =
     omega arith
 
 pub few_puttings_out : FewPuttingsOut
-few_puttings_out limits phones past m run event phone few last about outs b =
+few_puttings_out limits phones past m run event phone few last putting outs b =
     let h = packet_sent m (SentNumbered m.senders.sender) b.number (run_all limits phones past m run) _ b.is in
     let l = h.3 in
     h.1 ∙ ap (λ (n : ℕ). Some n) (one_tag h.0 last (omega arith) (omega arith) h.2)

@@ -72,11 +72,11 @@ by_sender_once m d h g =
         (each_weaker (IsSentOf m.phones m.senders.texts m.centre.accepted) (IsSentOf m.phones (e.0 ∷ m.senders.texts) m.centre.accepted) m.sent
         (λ x s. sent_more e.0 m.senders.texts m.phones m.centre.accepted x s) h.sent)
 
-by_centre_once : (m : Machine) (phone : ℕ) (origin : Option Origin) (about : Option ℕ) (d : Does CentreState) → EachHasItsPiece m
-    → GoodCall m.phones m.senders.texts m.centre phone origin about d
-    → EachHasItsPiece (by_centre m (of_centre phone origin about d)).after
+by_centre_once : (m : Machine) (phone : ℕ) (origin : Option Origin) (putting : Option ℕ) (d : Does CentreState) → EachHasItsPiece m
+    → GoodCall m.phones m.senders.texts m.centre phone origin putting d
+    → EachHasItsPiece (by_centre m (of_centre phone origin putting d)).after
 unfolding by_centre of_centre
-by_centre_once m phone origin about d h g =
+by_centre_once m phone origin putting d h g =
     record {
       texts = h.texts;
       senders = h.senders;
@@ -128,21 +128,21 @@ to_phone_once m phone (Data false tag relay) o h =
     by_receiver_once m phone (receiver_opened (receiver_limits m.limits) (m.receiver phone) m.clock tag relay o) h
     (receives_put (IsSentOf m.phones m.senders.texts m.centre.accepted) m.clock (receiver_limits m.limits) (m.receiver phone) phone tag relay o (answers_sent m phone tag))
 
-comes_once : (all : Bool) (m : Machine) (to : Place) (v : Message) (o : Option Origin) (about : Option ℕ) → EachHasItsPiece m
+comes_once : (all : Bool) (m : Machine) (to : Place) (v : Message) (o : Option Origin) (putting : Option ℕ) → EachHasItsPiece m
     → HasItsPiece m.phones m.senders.texts m.centre.accepted v to o → message_may_come all m v to o ≡ true
-    → EachHasItsPiece (comes m to v o about).after
+    → EachHasItsPiece (comes m to v o putting).after
 unfolding comes
-comes_once all m (Centre phone) v o about h x may =
-    by_centre_once m phone None about (centre_receives m.limits.held m.phones m.centre m.clock phone v o) h
-    (centre_receives_good all m m.limits.held m.phones m.senders.texts phone about v o h.centre x may)
-comes_once all m (Phone phone) v o about h x may = to_phone_once m phone v o h
+comes_once all m (Centre phone) v o putting h x may =
+    by_centre_once m phone None putting (centre_receives m.limits.held m.phones m.centre m.clock phone v o) h
+    (centre_receives_good all m m.limits.held m.phones m.senders.texts phone putting v o h.centre x may)
+comes_once all m (Phone phone) v o putting h x may = to_phone_once m phone v o h
 
 carries_once : (all : Bool) (m : Machine) (x : Option Sent) → EachHasItsPiece m
     → ((y : Sent) → x ≡ Some y → IsSentOf m.phones m.senders.texts m.centre.accepted y) → sent_may_come all m x ≡ true
     → EachHasItsPiece (carries m x).after
 unfolding carries
 carries_once all m None h s may = stays_once m _ h
-carries_once all m (Some x) h s may = comes_once all m x.to x.message x.origin x.about h (s x refl) may
+carries_once all m (Some x) h s may = comes_once all m x.to x.message x.origin x.putting h (s x refl) may
 
 pub packet_sent : (m : Machine) (P : Sent → Type 0) (k : ℕ) → AllByRecursion P m.sent → (y : Sent) → packet m k ≡ Some y → P y
 unfolding packet

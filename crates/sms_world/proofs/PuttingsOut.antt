@@ -129,15 +129,15 @@ to_phone_more m phone (Tiny flag value) origin = stays_more m _
 to_phone_more m phone (Data true tag relay) origin = receives_more m.senders phone tag relay
 to_phone_more m phone (Data false tag relay) origin = as_often m.senders
 
-comes_more : (m : Machine) (place : Place) (message : Message) (origin : Option Origin) (about : Option ℕ) → AreMore m.senders (comes m place message origin about).after.senders
+comes_more : (m : Machine) (place : Place) (message : Message) (origin : Option Origin) (putting : Option ℕ) → AreMore m.senders (comes m place message origin putting).after.senders
 unfolding comes by_centre
-comes_more m (Centre phone) message origin about = as_often m.senders
-comes_more m (Phone phone) message origin about = to_phone_more m phone message origin
+comes_more m (Centre phone) message origin putting = as_often m.senders
+comes_more m (Phone phone) message origin putting = to_phone_more m phone message origin
 
 carries_more : (m : Machine) (x : Option Sent) → AreMore m.senders (carries m x).after.senders
 unfolding carries
 carries_more m None = stays_more m _
-carries_more m (Some x) = comes_more m x.to x.message x.origin x.about
+carries_more m (Some x) = comes_more m x.to x.message x.origin x.putting
 
 next_more : (m : Machine) (act : Act) → AreMore m.senders (next m act).after.senders
 unfolding next by_sender by_centre ticked

@@ -161,13 +161,13 @@ module _ (law : Below) (m : Machine) (phone : ℕ) (tag : Tag) (d : Delivery) (o
           (λ t. inr (refl, refl, refl, inr (sets_full (not_taken _ t))))
 
 -- one step that brings a delivery
-delivered : Below → (old : Machine) (k phone : ℕ) (tag : Tag) (about : Option ℕ) (d : Delivery) (o : Origin) (told : Told) (put : List Sent) (new : Machine) (units : Units)
-    → Sound old → IsBounded (receiver_limits old.limits) (old.receiver phone) → packet old k ≡ Some (record { message = Data false tag (Transfer ToPhone (Deliver d)); to = Phone phone; origin = Some o; about = about }) → may_happen true old (Carry k) ≡ true
+delivered : Below → (old : Machine) (k phone : ℕ) (tag : Tag) (putting : Option ℕ) (d : Delivery) (o : Origin) (told : Told) (put : List Sent) (new : Machine) (units : Units)
+    → Sound old → IsBounded (receiver_limits old.limits) (old.receiver phone) → packet old k ≡ Some (record { message = Data false tag (Transfer ToPhone (Deliver d)); to = Phone phone; origin = Some o; putting = putting }) → may_happen true old (Carry k) ≡ true
     → DeliveryOf old.phones old.senders.texts old.centre.accepted phone d o → units_in_delivery d ≡ Some units
     → Acts old (MovesPacket k) told put new
     → Became old phone (record { text = o.text; piece = piece_in old.clock d units }) tag told put new
 unfolding next carries comes comes_to_phone receiver_opened receiver_takes units_in_delivery by_receiver may_happen may_deliver
-delivered law old k phone tag about d o told put new units s bound brings may x p step = go step
+delivered law old k phone tag putting d o told put new units s bound brings may x p step = go step
   where
     rule : may_arrive old.limits.remembered old.senders.texts (old.receiver phone).taken (record { text = o.text; piece = piece_in old.clock d units }) ≡ true
     rule = let e = brings in let f : may_deliver old phone d (units_in_delivery d) o ≡ true = rw e at may in subst (λ v. may_deliver old phone d v o ≡ true) p f
@@ -291,7 +291,7 @@ refused_only_where_full law limits phones past old run event may told put new st
       received old phone (record { text = o.text; piece = piece_in old.clock d (piece_of x.text o.segment) }) o refl
           (told_sequence old.phones old.senders.texts old.centre.accepted phone old.clock d o (piece_of x.text o.segment) x) x.segment.from_one
           (subst (λ v. o.segment ≤ size_of v) (sym x.segment.found) x.segment.within) b.tag told put new
-          (delivered law old b.number phone b.tag b.about d o told put new (piece_of x.text o.segment) s.sound
+          (delivered law old b.number phone b.tag b.putting d o told put new (piece_of x.text o.segment) s.sound
           (run_bounded law.few IsOrderly limits phones past old run phone)
           b.is
           (subst (λ e. may_happen true old e ≡ true) b.carries (orderly_happens law old event s may)) x

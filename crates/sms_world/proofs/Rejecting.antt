@@ -138,51 +138,51 @@ module _ (x : SenderState) (phone : ℕ) (setting : x.reject ≡ true) where
 
 -- what the centre does
 abbrev Quiet : ℕ → Option Origin → Option ℕ → Does CentreState → Type 0
-Quiet phone origin about d = AllByRecursion SentRejects (to_phone phone origin about d.put)
+Quiet phone origin putting d = AllByRecursion SentRejects (to_phone phone origin putting d.put)
 
-checked_quiet : (c : CentreState) (now phone : ℕ) (tag : Tag) (s : Submission) (o origin : Option Origin) (about : Option ℕ) (k : Check) → Quiet phone origin about (checked c now phone tag s o k)
+checked_quiet : (c : CentreState) (now phone : ℕ) (tag : Tag) (s : Submission) (o origin : Option Origin) (putting : Option ℕ) (k : Check) → Quiet phone origin putting (checked c now phone tag s o k)
 unfolding checked
-checked_quiet c now phone tag s o origin about (Refuse cause failure) = (tt, (tt, tt))
-checked_quiet c now phone tag s o origin about (Accept r ends stamp) = (tt, (tt, tt))
+checked_quiet c now phone tag s o origin putting (Refuse cause failure) = (tt, (tt, tt))
+checked_quiet c now phone tag s o origin putting (Accept r ends stamp) = (tt, (tt, tt))
 
-takes_quiet : (limit : ℕ) (phones : List AddressValue) (c : CentreState) (now phone : ℕ) (tag : Tag) (u : TransferUnit) (o origin : Option Origin) (about : Option ℕ)
-    → Quiet phone origin about (centre_takes limit phones c now phone tag u o)
+takes_quiet : (limit : ℕ) (phones : List AddressValue) (c : CentreState) (now phone : ℕ) (tag : Tag) (u : TransferUnit) (o origin : Option Origin) (putting : Option ℕ)
+    → Quiet phone origin putting (centre_takes limit phones c now phone tag u o)
 unfolding centre_takes
-takes_quiet limit phones c now phone tag (Submit s) o origin about =
-    checked_quiet c now phone tag s o origin about (checked_by limit phones (books_of c.accepted now phone s) now s)
-takes_quiet limit phones c now phone tag (Deliver d) o origin about = (tt, (tt, tt))
-takes_quiet limit phones c now phone tag OtherUnit o origin about = (tt, (tt, tt))
-takes_quiet limit phones c now phone tag BadUnit o origin about = (tt, (tt, tt))
+takes_quiet limit phones c now phone tag (Submit s) o origin putting =
+    checked_quiet c now phone tag s o origin putting (checked_by limit phones (books_of c.accepted now phone s) now s)
+takes_quiet limit phones c now phone tag (Deliver d) o origin putting = (tt, (tt, tt))
+takes_quiet limit phones c now phone tag OtherUnit o origin putting = (tt, (tt, tt))
+takes_quiet limit phones c now phone tag BadUnit o origin putting = (tt, (tt, tt))
 
-hears_quiet : (c : CentreState) (now phone : ℕ) (tag : Tag) (cause : Option ℕ) (latest : Option Pushing) (origin : Option Origin) (about : Option ℕ)
-    → Quiet phone origin about (centre_hears c now phone tag cause latest)
+hears_quiet : (c : CentreState) (now phone : ℕ) (tag : Tag) (cause : Option ℕ) (latest : Option Pushing) (origin : Option Origin) (putting : Option ℕ)
+    → Quiet phone origin putting (centre_hears c now phone tag cause latest)
 unfolding centre_hears settled
-hears_quiet c now phone tag cause None origin about = tt
-hears_quiet c now phone tag cause (Some p) origin about =
-    cond_both (same_tag tag p.tag && ltb now p.message.ends) _ _ (Quiet phone origin about) (λ _. (tt, tt)) (λ _. tt)
+hears_quiet c now phone tag cause None origin putting = tt
+hears_quiet c now phone tag cause (Some p) origin putting =
+    cond_both (same_tag tag p.tag && ltb now p.message.ends) _ _ (Quiet phone origin putting) (λ _. (tt, tt)) (λ _. tt)
 
-centre_quiet : (limit : ℕ) (phones : List AddressValue) (c : CentreState) (now phone : ℕ) (v : Message) (o origin : Option Origin) (about : Option ℕ)
-    → Quiet phone origin about (centre_receives limit phones c now phone v o)
+centre_quiet : (limit : ℕ) (phones : List AddressValue) (c : CentreState) (now phone : ℕ) (v : Message) (o origin : Option Origin) (putting : Option ℕ)
+    → Quiet phone origin putting (centre_receives limit phones c now phone v o)
 unfolding centre_receives centre_opened centre_answered
-centre_quiet limit phones c now phone NotCp o origin about = tt
-centre_quiet limit phones c now phone (Note flag value) o origin about = tt
-centre_quiet limit phones c now phone (Tiny flag value) o origin about = tt
-centre_quiet limit phones c now phone (Data false tag (Transfer FromPhone unit)) o origin about = takes_quiet limit phones c now phone tag unit o origin about
-centre_quiet limit phones c now phone (Data false tag (Transfer ToPhone unit)) o origin about = tt
-centre_quiet limit phones c now phone (Data false tag (Answer side cause report)) o origin about = tt
-centre_quiet limit phones c now phone (Data false tag UnknownType) o origin about = (tt, (tt, tt))
-centre_quiet limit phones c now phone (Data false tag Unreadable) o origin about = (tt, (tt, tt))
-centre_quiet limit phones c now phone (Data true tag (Answer FromPhone cause report)) o origin about = hears_quiet c now phone tag cause (c.line phone).latest origin about
-centre_quiet limit phones c now phone (Data true tag (Answer ToPhone cause report)) o origin about = tt
-centre_quiet limit phones c now phone (Data true tag (Transfer side unit)) o origin about = tt
-centre_quiet limit phones c now phone (Data true tag UnknownType) o origin about = tt
-centre_quiet limit phones c now phone (Data true tag Unreadable) o origin about = tt
+centre_quiet limit phones c now phone NotCp o origin putting = tt
+centre_quiet limit phones c now phone (Note flag value) o origin putting = tt
+centre_quiet limit phones c now phone (Tiny flag value) o origin putting = tt
+centre_quiet limit phones c now phone (Data false tag (Transfer FromPhone unit)) o origin putting = takes_quiet limit phones c now phone tag unit o origin putting
+centre_quiet limit phones c now phone (Data false tag (Transfer ToPhone unit)) o origin putting = tt
+centre_quiet limit phones c now phone (Data false tag (Answer side cause report)) o origin putting = tt
+centre_quiet limit phones c now phone (Data false tag UnknownType) o origin putting = (tt, (tt, tt))
+centre_quiet limit phones c now phone (Data false tag Unreadable) o origin putting = (tt, (tt, tt))
+centre_quiet limit phones c now phone (Data true tag (Answer FromPhone cause report)) o origin putting = hears_quiet c now phone tag cause (c.line phone).latest origin putting
+centre_quiet limit phones c now phone (Data true tag (Answer ToPhone cause report)) o origin putting = tt
+centre_quiet limit phones c now phone (Data true tag (Transfer side unit)) o origin putting = tt
+centre_quiet limit phones c now phone (Data true tag UnknownType) o origin putting = tt
+centre_quiet limit phones c now phone (Data true tag Unreadable) o origin putting = tt
 
-pushes_quiet : (phones : List AddressValue) (c : CentreState) (phone : ℕ) (queue : List Acceptance) (origin : Option Origin) (about : Option ℕ)
-    → Quiet phone origin about (pushes_first phones c phone queue)
+pushes_quiet : (phones : List AddressValue) (c : CentreState) (phone : ℕ) (queue : List Acceptance) (origin : Option Origin) (putting : Option ℕ)
+    → Quiet phone origin putting (pushes_first phones c phone queue)
 unfolding pushes_first
-pushes_quiet phones c phone [] origin about = tt
-pushes_quiet phones c phone (a ∷ others) origin about = (tt, tt)
+pushes_quiet phones c phone [] origin putting = tt
+pushes_quiet phones c phone (a ∷ others) origin putting = (tt, tt)
 
 -- the whole
 record AllSay (m : Machine) : Type 0 where
@@ -193,10 +193,10 @@ by_sender_says : (m : Machine) (d : Sends SenderState) → AllSay m → Keeps d 
 unfolding by_sender
 by_sender_says m d h k = record { setting = k.setting; sent = each_entered SentRejects d.put m.sent k.put h.sent }
 
-by_centre_says : (m : Machine) (phone : ℕ) (origin : Option Origin) (about : Option ℕ) (d : Does CentreState) → AllSay m → Quiet phone origin about d
-    → AllSay (by_centre m (of_centre phone origin about d)).after
+by_centre_says : (m : Machine) (phone : ℕ) (origin : Option Origin) (putting : Option ℕ) (d : Does CentreState) → AllSay m → Quiet phone origin putting d
+    → AllSay (by_centre m (of_centre phone origin putting d)).after
 unfolding by_centre of_centre
-by_centre_says m phone origin about d h q = record { setting = h.setting; sent = each_entered SentRejects _ m.sent q h.sent }
+by_centre_says m phone origin putting d h q = record { setting = h.setting; sent = each_entered SentRejects _ m.sent q h.sent }
 
 stays_says : (m : Machine) (told : Told) → AllSay m → AllSay (stays m told).after
 unfolding stays
@@ -206,17 +206,17 @@ replies_say : (phone : ℕ) (tag : Tag) (cause : Option ℕ) (report : Option Re
 unfolding bare
 replies_say phone tag cause report = (tt, (tt, tt))
 
-comes_says : (m : Machine) (to : Place) (v : Message) (o : Option Origin) (about : Option ℕ) → AllSay m → AllSay (comes m to v o about).after
+comes_says : (m : Machine) (to : Place) (v : Message) (o : Option Origin) (putting : Option ℕ) → AllSay m → AllSay (comes m to v o putting).after
 unfolding comes comes_to_phone by_receiver
-comes_says m (Centre phone) v o about h =
-    by_centre_says m phone None about (centre_receives m.limits.held m.phones m.centre m.clock phone v o) h
-    (centre_quiet m.limits.held m.phones m.centre m.clock phone v o None about)
-comes_says m (Phone phone) NotCp o about h = stays_says m _ h
-comes_says m (Phone phone) (Note flag value) o about h = stays_says m _ h
-comes_says m (Phone phone) (Tiny flag value) o about h = stays_says m _ h
-comes_says m (Phone phone) (Data true tag relay) o about h =
+comes_says m (Centre phone) v o putting h =
+    by_centre_says m phone None putting (centre_receives m.limits.held m.phones m.centre m.clock phone v o) h
+    (centre_quiet m.limits.held m.phones m.centre m.clock phone v o None putting)
+comes_says m (Phone phone) NotCp o putting h = stays_says m _ h
+comes_says m (Phone phone) (Note flag value) o putting h = stays_says m _ h
+comes_says m (Phone phone) (Tiny flag value) o putting h = stays_says m _ h
+comes_says m (Phone phone) (Data true tag relay) o putting h =
     by_sender_says m (sender_receives m.senders phone tag relay) h (receives_keeps m.senders phone h.setting tag relay)
-comes_says m (Phone phone) (Data false tag relay) o about h =
+comes_says m (Phone phone) (Data false tag relay) o putting h =
     record {
       setting = h.setting;
       sent = each_entered SentRejects _ m.sent
@@ -226,7 +226,7 @@ comes_says m (Phone phone) (Data false tag relay) o about h =
 carries_says : (m : Machine) (x : Option Sent) → AllSay m → AllSay (carries m x).after
 unfolding carries
 carries_says m None h = stays_says m _ h
-carries_says m (Some x) h = comes_says m x.to x.message x.origin x.about h
+carries_says m (Some x) h = comes_says m x.to x.message x.origin x.putting h
 
 next_says : (m : Machine) (act : Act) → AllSay m → AllSay (next m act).after
 unfolding next pushed centre_pushes ticked

@@ -218,20 +218,20 @@ pub record Given (f : Facts) (r : Next) (to : Place) : Type 0 where
 
 module _ (law : Below) (m : Machine) (l : Ledger) (sound : Sound m) (h : IsLedgerOf l m) where
   -- a submission
-  submission_right : (phone : ℕ) (tag : Tag) (s : Submission) (o : Origin) (about : Option ℕ) (f : Facts) → SubmissionOf m.senders.texts phone s o
+  submission_right : (phone : ℕ) (tag : Tag) (s : Submission) (o : Origin) (putting : Option ℕ) (f : Facts) → SubmissionOf m.senders.texts phone s o
       → (k : Check) → checked_by m.limits.held m.phones (books_of m.centre.accepted m.clock phone s) m.clock s ≡ k
-      → f.put ≡ length (to_phone phone None about (checked m.centre m.clock phone tag s (Some o) k).put)
+      → f.put ≡ length (to_phone phone None putting (checked m.centre m.clock phone tag s (Some o) k).put)
       → IsLedgerOf (with_marks (submission_noted l m.clock o (of_party (checked m.centre m.clock phone tag s (Some o) k).answer)) (neithers f.put))
-      (by_centre m (of_centre phone None about (checked m.centre m.clock phone tag s (Some o) k))).after
+      (by_centre m (of_centre phone None putting (checked m.centre m.clock phone tag s (Some o) k))).after
   unfolding checked
-  submission_right phone tag s o about f x (Refuse cause failure) e z =
-      subst (λ i. IsLedgerOf (with_marks l (neithers i)) (by_centre m (of_centre phone None about (checked m.centre m.clock phone tag s (Some o) (Refuse cause failure)))).after) (sym z)
-      (by_centre_right l m h phone about (checked m.centre m.clock phone tag s (Some o) (Refuse cause failure)) refl)
-  submission_right phone tag s o about f x (Accept r ends stamp) e z = unfold by_centre of_centre in
-      subst (λ v. IsLedgerOf (with_marks (holds l m.clock o v) (neithers f.put)) (by_centre m (of_centre phone None about (checked m.centre m.clock phone tag s (Some o) (Accept r ends stamp)))).after) (sym recipient)
+  submission_right phone tag s o putting f x (Refuse cause failure) e z =
+      subst (λ i. IsLedgerOf (with_marks l (neithers i)) (by_centre m (of_centre phone None putting (checked m.centre m.clock phone tag s (Some o) (Refuse cause failure)))).after) (sym z)
+      (by_centre_right l m h phone putting (checked m.centre m.clock phone tag s (Some o) (Refuse cause failure)) refl)
+  submission_right phone tag s o putting f x (Accept r ends stamp) e z = unfold by_centre of_centre in
+      subst (λ v. IsLedgerOf (with_marks (holds l m.clock o v) (neithers f.put)) (by_centre m (of_centre phone None putting (checked m.centre m.clock phone tag s (Some o) (Accept r ends stamp)))).after) (sym recipient)
       (record {
-        marks = marks_more l.marks m.sent (to_phone phone None about (checked m.centre m.clock phone tag s (Some o) (Accept r ends stamp)).put) (neithers f.put) h.marks
-            (to_phone_neither phone about (checked m.centre m.clock phone tag s (Some o) (Accept r ends stamp)).put ∙ ap neithers (sym z));
+        marks = marks_more l.marks m.sent (to_phone phone None putting (checked m.centre m.clock phone tag s (Some o) (Accept r ends stamp)).put) (neithers f.put) h.marks
+            (to_phone_neither phone putting (checked m.centre m.clock phone tag s (Some o) (Accept r ends stamp)).put ∙ ap neithers (sym z));
         texts = h.texts;
         senders = h.senders;
         ends = λ p. ends_at p;
@@ -314,44 +314,44 @@ module _ (law : Below) (m : Machine) (l : Ledger) (sound : Sound m) (h : IsLedge
       (taken_right phone tag d o x may))
 
   abbrev pub Right : Place → Message → Option Origin → Option ℕ → Facts → Type 0
-  Right to v origin about f =
-      IsLedgerOf (carry_noted l m.senders.reject m.clock f (comes m to v origin about).answer (Some (message_mark v to origin))) (comes m to v origin about).after
+  Right to v origin putting f =
+      IsLedgerOf (carry_noted l m.senders.reject m.clock f (comes m to v origin putting).answer (Some (message_mark v to origin))) (comes m to v origin putting).after
 
   -- to the centre comes something else
-  other_up : (phone : ℕ) (v : Message) (origin : Option Origin) (about : Option ℕ) (f : Facts) → message_mark v (Centre phone) origin ≡ Neither
+  other_up : (phone : ℕ) (v : Message) (origin : Option Origin) (putting : Option ℕ) (f : Facts) → message_mark v (Centre phone) origin ≡ Neither
       → ((tag : Tag) (s : Submission) → v ≡ Data false tag (Transfer FromPhone (Submit s)) → ⊥)
-      → Given f (comes m (Centre phone) v origin about) (Centre phone) → Right (Centre phone) v origin about f
+      → Given f (comes m (Centre phone) v origin putting) (Centre phone) → Right (Centre phone) v origin putting f
   unfolding comes
-  other_up phone v origin about f e n g =
-      subst (λ k. IsLedgerOf (carry_noted l m.senders.reject m.clock f (comes m (Centre phone) v origin about).answer (Some k)) (comes m (Centre phone) v origin about).after) (sym e)
-      (subst (λ to. IsLedgerOf (other_noted l m.senders.reject f (comes m (Centre phone) v origin about).answer to) (comes m (Centre phone) v origin about).after) (sym g.goes)
-      (subst (λ i. IsLedgerOf (with_marks l (neithers i)) (comes m (Centre phone) v origin about).after) (sym as_many)
-      (by_centre_right l m h phone about (centre_receives m.limits.held m.phones m.centre m.clock phone v origin)
+  other_up phone v origin putting f e n g =
+      subst (λ k. IsLedgerOf (carry_noted l m.senders.reject m.clock f (comes m (Centre phone) v origin putting).answer (Some k)) (comes m (Centre phone) v origin putting).after) (sym e)
+      (subst (λ to. IsLedgerOf (other_noted l m.senders.reject f (comes m (Centre phone) v origin putting).answer to) (comes m (Centre phone) v origin putting).after) (sym g.goes)
+      (subst (λ i. IsLedgerOf (with_marks l (neithers i)) (comes m (Centre phone) v origin putting).after) (sym as_many)
+      (by_centre_right l m h phone putting (centre_receives m.limits.held m.phones m.centre m.clock phone v origin)
       (centre_same m.limits.held m.phones m.centre m.clock phone v origin n))))
     where
-      as_many : f.put ≡ length (to_phone phone None about (centre_receives m.limits.held m.phones m.centre m.clock phone v origin).put)
+      as_many : f.put ≡ length (to_phone phone None putting (centre_receives m.limits.held m.phones m.centre m.clock phone v origin).put)
       as_many = unfold by_centre of_centre in g.as_many
 
-  pub up_right : (phone : ℕ) (v : Message) (origin : Option Origin) (about : Option ℕ) (f : Facts) → HasItsPiece m.phones m.senders.texts m.centre.accepted v (Centre phone) origin
-      → Given f (comes m (Centre phone) v origin about) (Centre phone) → Right (Centre phone) v origin about f
+  pub up_right : (phone : ℕ) (v : Message) (origin : Option Origin) (putting : Option ℕ) (f : Facts) → HasItsPiece m.phones m.senders.texts m.centre.accepted v (Centre phone) origin
+      → Given f (comes m (Centre phone) v origin putting) (Centre phone) → Right (Centre phone) v origin putting f
   unfolding comes centre_receives centre_opened centre_takes by_centre checked of_centre checked_by
-  up_right phone (Data false tag (Transfer FromPhone (Submit s))) (Some o) about f x g =
-      submission_right phone tag s o about f x (checked_by m.limits.held m.phones (books_of m.centre.accepted m.clock phone s) m.clock s) refl (unfold by_centre of_centre in g.as_many)
-  up_right phone (Data false tag (Transfer FromPhone (Submit s))) None about f x g = absurd x
-  up_right phone NotCp origin about f x g = absurd x
-  up_right phone (Tiny flag value) origin about f x g = absurd x
-  up_right phone (Note flag value) origin about f x g = other_up phone (Note flag value) origin about f refl (λ t s e. cc) g
-  up_right phone (Data true tag relay) origin about f x g = other_up phone (Data true tag relay) origin about f refl (λ t s e. cc) g
-  up_right phone (Data false tag (Transfer FromPhone (Deliver d))) origin about f x g = other_up phone (Data false tag (Transfer FromPhone (Deliver d))) origin about f refl (λ t s e. cc) g
-  up_right phone (Data false tag (Transfer FromPhone OtherUnit)) origin about f x g = absurd x
-  up_right phone (Data false tag (Transfer FromPhone BadUnit)) origin about f x g = absurd x
-  up_right phone (Data false tag (Transfer ToPhone (Submit s))) origin about f x g = other_up phone (Data false tag (Transfer ToPhone (Submit s))) origin about f refl (λ t s e. cc) g
-  up_right phone (Data false tag (Transfer ToPhone (Deliver d))) origin about f x g = absurd x
-  up_right phone (Data false tag (Transfer ToPhone OtherUnit)) origin about f x g = absurd x
-  up_right phone (Data false tag (Transfer ToPhone BadUnit)) origin about f x g = absurd x
-  up_right phone (Data false tag (Answer side cause report)) origin about f x g = other_up phone (Data false tag (Answer side cause report)) origin about f refl (λ t s e. cc) g
-  up_right phone (Data false tag UnknownType) origin about f x g = absurd x
-  up_right phone (Data false tag Unreadable) origin about f x g = absurd x
+  up_right phone (Data false tag (Transfer FromPhone (Submit s))) (Some o) putting f x g =
+      submission_right phone tag s o putting f x (checked_by m.limits.held m.phones (books_of m.centre.accepted m.clock phone s) m.clock s) refl (unfold by_centre of_centre in g.as_many)
+  up_right phone (Data false tag (Transfer FromPhone (Submit s))) None putting f x g = absurd x
+  up_right phone NotCp origin putting f x g = absurd x
+  up_right phone (Tiny flag value) origin putting f x g = absurd x
+  up_right phone (Note flag value) origin putting f x g = other_up phone (Note flag value) origin putting f refl (λ t s e. cc) g
+  up_right phone (Data true tag relay) origin putting f x g = other_up phone (Data true tag relay) origin putting f refl (λ t s e. cc) g
+  up_right phone (Data false tag (Transfer FromPhone (Deliver d))) origin putting f x g = other_up phone (Data false tag (Transfer FromPhone (Deliver d))) origin putting f refl (λ t s e. cc) g
+  up_right phone (Data false tag (Transfer FromPhone OtherUnit)) origin putting f x g = absurd x
+  up_right phone (Data false tag (Transfer FromPhone BadUnit)) origin putting f x g = absurd x
+  up_right phone (Data false tag (Transfer ToPhone (Submit s))) origin putting f x g = other_up phone (Data false tag (Transfer ToPhone (Submit s))) origin putting f refl (λ t s e. cc) g
+  up_right phone (Data false tag (Transfer ToPhone (Deliver d))) origin putting f x g = absurd x
+  up_right phone (Data false tag (Transfer ToPhone OtherUnit)) origin putting f x g = absurd x
+  up_right phone (Data false tag (Transfer ToPhone BadUnit)) origin putting f x g = absurd x
+  up_right phone (Data false tag (Answer side cause report)) origin putting f x g = other_up phone (Data false tag (Answer side cause report)) origin putting f refl (λ t s e. cc) g
+  up_right phone (Data false tag UnknownType) origin putting f x g = absurd x
+  up_right phone (Data false tag Unreadable) origin putting f x g = absurd x
 
   -- a phone's sender is called
   sent_right : (phone : ℕ) (f : Facts) (d : Sends SenderState) → Called m.senders phone (l.sender phone) d → Grown m.senders.texts d.after.texts (of_party d.answer)
@@ -360,12 +360,12 @@ module _ (law : Below) (m : Machine) (l : Ledger) (sound : Sound m) (h : IsLedge
   sent_right phone f d c g t = by_sender_right l m h phone d f.text sound.receivers c g (unfold by_sender in t)
 
   -- to a phone comes something else
-  other_down : (phone : ℕ) (v : Message) (origin : Option Origin) (about : Option ℕ) (f : Facts) → message_mark v (Phone phone) origin ≡ Neither → f.to ≡ Phone phone
-      → IsLedgerOf (sender_noted l m.senders.reject phone f.text (comes m (Phone phone) v origin about).answer) (comes m (Phone phone) v origin about).after
-      → Right (Phone phone) v origin about f
-  other_down phone v origin about f e z r =
-      subst (λ k. IsLedgerOf (carry_noted l m.senders.reject m.clock f (comes m (Phone phone) v origin about).answer (Some k)) (comes m (Phone phone) v origin about).after) (sym e)
-      (subst (λ to. IsLedgerOf (other_noted l m.senders.reject f (comes m (Phone phone) v origin about).answer to) (comes m (Phone phone) v origin about).after) (sym z) r)
+  other_down : (phone : ℕ) (v : Message) (origin : Option Origin) (putting : Option ℕ) (f : Facts) → message_mark v (Phone phone) origin ≡ Neither → f.to ≡ Phone phone
+      → IsLedgerOf (sender_noted l m.senders.reject phone f.text (comes m (Phone phone) v origin putting).answer) (comes m (Phone phone) v origin putting).after
+      → Right (Phone phone) v origin putting f
+  other_down phone v origin putting f e z r =
+      subst (λ k. IsLedgerOf (carry_noted l m.senders.reject m.clock f (comes m (Phone phone) v origin putting).answer (Some k)) (comes m (Phone phone) v origin putting).after) (sym e)
+      (subst (λ to. IsLedgerOf (other_noted l m.senders.reject f (comes m (Phone phone) v origin putting).answer to) (comes m (Phone phone) v origin putting).after) (sym z) r)
 
   -- what a receiver drops
   dropped_right : (phone : ℕ) (f : Facts) (tag : Tag) (v : Relay) (origin : Option Origin)
@@ -384,41 +384,41 @@ module _ (law : Below) (m : Machine) (l : Ledger) (sound : Sound m) (h : IsLedge
         receivers = λ p. subst (λ r. ReceiverNoted (size_in m.senders.texts) m.clock r (l.receiver p)) (sym (not_changed m.receiver phone p)) (h.receivers p);
       }))
 
-  down_right : (phone : ℕ) (v : Message) (origin : Option Origin) (about : Option ℕ) (f : Facts) → HasItsPiece m.phones m.senders.texts m.centre.accepted v (Phone phone) origin
+  down_right : (phone : ℕ) (v : Message) (origin : Option Origin) (putting : Option ℕ) (f : Facts) → HasItsPiece m.phones m.senders.texts m.centre.accepted v (Phone phone) origin
       → message_may_come true m v (Phone phone) origin ≡ true
-      → Given f (comes m (Phone phone) v origin about) (Phone phone) → Right (Phone phone) v origin about f
+      → Given f (comes m (Phone phone) v origin putting) (Phone phone) → Right (Phone phone) v origin putting f
   unfolding comes comes_to_phone
-  down_right phone NotCp origin about f x may g = absurd x
-  down_right phone (Tiny flag value) origin about f x may g = absurd x
-  down_right phone (Note flag value) origin about f x may g =
-      other_down phone (Note flag value) origin about f refl g.goes (unfold stays in same_sender l m h phone)
-  down_right phone (Data true tag relay) origin about f x may g =
-      other_down phone (Data true tag relay) origin about f refl g.goes
+  down_right phone NotCp origin putting f x may g = absurd x
+  down_right phone (Tiny flag value) origin putting f x may g = absurd x
+  down_right phone (Note flag value) origin putting f x may g =
+      other_down phone (Note flag value) origin putting f refl g.goes (unfold stays in same_sender l m h phone)
+  down_right phone (Data true tag relay) origin putting f x may g =
+      other_down phone (Data true tag relay) origin putting f refl g.goes
       (unfold by_sender in sent_right phone f (sender_receives m.senders phone tag relay)
       (answers_called m.senders phone (l.sender phone) sound.once.senders (h.senders phone) tag relay) (answers_grown m.senders phone tag relay)
       (λ number t before e s. absurd (answers_untyped m.senders phone tag relay number e)))
-  down_right phone (Data false tag (Transfer ToPhone (Deliver d))) (Some o) about f x may g = unfold by_receiver receiver_opened receiver_takes units_in_delivery in
+  down_right phone (Data false tag (Transfer ToPhone (Deliver d))) (Some o) putting f x may g = unfold by_receiver receiver_opened receiver_takes units_in_delivery in
       delivery_right phone tag d o f x may g.as_many
-  down_right phone (Data false tag (Transfer ToPhone (Deliver d))) None about f x may g = absurd x
-  down_right phone (Data false tag (Transfer ToPhone (Submit s))) origin about f x may g = absurd x
-  down_right phone (Data false tag (Transfer ToPhone OtherUnit)) origin about f x may g = absurd x
-  down_right phone (Data false tag (Transfer ToPhone BadUnit)) origin about f x may g = absurd x
-  down_right phone (Data false tag (Transfer FromPhone (Submit s))) origin about f x may g = absurd x
-  down_right phone (Data false tag (Transfer FromPhone (Deliver d))) origin about f x may g =
-      other_down phone (Data false tag (Transfer FromPhone (Deliver d))) origin about f refl g.goes
+  down_right phone (Data false tag (Transfer ToPhone (Deliver d))) None putting f x may g = absurd x
+  down_right phone (Data false tag (Transfer ToPhone (Submit s))) origin putting f x may g = absurd x
+  down_right phone (Data false tag (Transfer ToPhone OtherUnit)) origin putting f x may g = absurd x
+  down_right phone (Data false tag (Transfer ToPhone BadUnit)) origin putting f x may g = absurd x
+  down_right phone (Data false tag (Transfer FromPhone (Submit s))) origin putting f x may g = absurd x
+  down_right phone (Data false tag (Transfer FromPhone (Deliver d))) origin putting f x may g =
+      other_down phone (Data false tag (Transfer FromPhone (Deliver d))) origin putting f refl g.goes
       (dropped_right phone f tag (Transfer FromPhone (Deliver d)) origin (unfold receiver_opened in refl))
-  down_right phone (Data false tag (Transfer FromPhone OtherUnit)) origin about f x may g = absurd x
-  down_right phone (Data false tag (Transfer FromPhone BadUnit)) origin about f x may g = absurd x
-  down_right phone (Data false tag (Answer side cause report)) origin about f x may g =
-      other_down phone (Data false tag (Answer side cause report)) origin about f refl g.goes
+  down_right phone (Data false tag (Transfer FromPhone OtherUnit)) origin putting f x may g = absurd x
+  down_right phone (Data false tag (Transfer FromPhone BadUnit)) origin putting f x may g = absurd x
+  down_right phone (Data false tag (Answer side cause report)) origin putting f x may g =
+      other_down phone (Data false tag (Answer side cause report)) origin putting f refl g.goes
       (dropped_right phone f tag (Answer side cause report) origin (unfold receiver_opened in refl))
-  down_right phone (Data false tag UnknownType) origin about f x may g = absurd x
-  down_right phone (Data false tag Unreadable) origin about f x may g = absurd x
+  down_right phone (Data false tag UnknownType) origin putting f x may g = absurd x
+  down_right phone (Data false tag Unreadable) origin putting f x may g = absurd x
 
-  come_right : (to : Place) (v : Message) (origin : Option Origin) (about : Option ℕ) (f : Facts) → HasItsPiece m.phones m.senders.texts m.centre.accepted v to origin
-      → message_may_come true m v to origin ≡ true → Given f (comes m to v origin about) to → Right to v origin about f
-  come_right (Centre phone) v origin about f x may g = up_right phone v origin about f x g
-  come_right (Phone phone) v origin about f x may g = down_right phone v origin about f x may g
+  come_right : (to : Place) (v : Message) (origin : Option Origin) (putting : Option ℕ) (f : Facts) → HasItsPiece m.phones m.senders.texts m.centre.accepted v to origin
+      → message_may_come true m v to origin ≡ true → Given f (comes m to v origin putting) to → Right to v origin putting f
+  come_right (Centre phone) v origin putting f x may g = up_right phone v origin putting f x g
+  come_right (Phone phone) v origin putting f x may g = down_right phone v origin putting f x may g
 
   -- ---- the events
 
@@ -462,7 +462,7 @@ module _ (law : Below) (m : Machine) (l : Ledger) (sound : Sound m) (h : IsLedge
       go None e may g = nowhere (Carry k) f NoSuchPacket g
       go (Some x) e may g =
           subst (λ v. IsLedgerOf (carry_noted l m.senders.reject m.clock f (carries m (Some x)).answer v) (carries m (Some x)).after) (sym (there ∙ ap (option_map mark_of) e))
-          (come_right x.to x.message x.origin x.about f (packet_sent m (IsSentOf m.phones m.senders.texts m.centre.accepted) k sound.once.sent x e) may
+          (come_right x.to x.message x.origin x.putting f (packet_sent m (IsSentOf m.phones m.senders.texts m.centre.accepted) k sound.once.sent x e) may
           (record { as_many = g.as_many; goes = g.goes k x refl e }))
 
   tick_kept : (later : ℕ) (seconds : ℕ) (f : Facts) → m.clock ≤ later → IsLedgerOf l (ticked m later)

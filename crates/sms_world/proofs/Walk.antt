@@ -80,8 +80,8 @@ is_number (Some k) n = k == n
 
 -- an answer with the tag of the latest putting out answers that putting out
 unfoldable pub answer_may_come : Machine → ℕ → Tag → Option ℕ → Bool
-answer_may_come m phone tag about =
-    not (same_tag tag (tag_of ((m.senders.sender phone).outs - 1))) || is_number about ((m.senders.sender phone).outs - 1)
+answer_may_come m phone tag putting =
+    not (same_tag tag (tag_of ((m.senders.sender phone).outs - 1))) || is_number putting ((m.senders.sender phone).outs - 1)
 
 abbrev pub is_recipient : ℕ → Option ℕ → Bool
 is_recipient n None = false
@@ -104,25 +104,25 @@ own_unit m OtherUnit to origin = true
 own_unit m BadUnit to origin = true
 
 abbrev pub own_relay : Machine → Bool → Tag → Relay → Place → Option Origin → Option ℕ → Bool
-own_relay m false tag (Transfer FromPhone unit) to origin about = own_unit m unit to origin
-own_relay m false tag (Transfer ToPhone unit) to origin about = true
-own_relay m true tag (Transfer side unit) to origin about = true
-own_relay m true tag (Answer side cause report) (Phone phone) origin about = answer_may_come m phone tag about
-own_relay m true tag (Answer side cause report) (Centre phone) origin about = true
-own_relay m false tag (Answer side cause report) to origin about = true
-own_relay m flag tag UnknownType to origin about = true
-own_relay m flag tag Unreadable to origin about = true
+own_relay m false tag (Transfer FromPhone unit) to origin putting = own_unit m unit to origin
+own_relay m false tag (Transfer ToPhone unit) to origin putting = true
+own_relay m true tag (Transfer side unit) to origin putting = true
+own_relay m true tag (Answer side cause report) (Phone phone) origin putting = answer_may_come m phone tag putting
+own_relay m true tag (Answer side cause report) (Centre phone) origin putting = true
+own_relay m false tag (Answer side cause report) to origin putting = true
+own_relay m flag tag UnknownType to origin putting = true
+own_relay m flag tag Unreadable to origin putting = true
 
 abbrev pub own_message : Machine → Message → Place → Option Origin → Option ℕ → Bool
-own_message m NotCp to origin about = true
-own_message m (Note flag value) to origin about = true
-own_message m (Tiny flag value) to origin about = true
-own_message m (Data flag tag relay) to origin about = own_relay m flag tag relay to origin about
+own_message m NotCp to origin putting = true
+own_message m (Note flag value) to origin putting = true
+own_message m (Tiny flag value) to origin putting = true
+own_message m (Data flag tag relay) to origin putting = own_relay m flag tag relay to origin putting
 
 -- so it is of what goes to this phone or comes from it
 abbrev pub IsOwn : ℕ → Machine → Option Sent → Type 0
 IsOwn one m None = Unit {0}
-IsOwn one m (Some x) = phone_of x.to ≡ one → own_message m x.message x.to x.origin x.about ≡ true
+IsOwn one m (Some x) = phone_of x.to ≡ one → own_message m x.message x.to x.origin x.putting ≡ true
 
 -- nothing is injected, and answers and rejections at this phone are of what they seem to be of
 abbrev pub IsHonestSeen : ℕ → Machine → Event → Type 0

@@ -21,12 +21,12 @@ on_their_way up phone [] (x ∷ put) there carried = absurd carried
 on_their_way up phone (p ∷ packets) [] there carried = absurd carried
 on_their_way up phone (p ∷ packets) (x ∷ put) there carried = ((there.0, carried.0), on_their_way up phone packets put there.1 carried.1)
 
-pub down_to : (phone : ℕ) (origin : Option Origin) (about : Option ℕ) (packets : List (List ℕ)) (ms : List Message) → CarriesEach packets ms
-    → ArePacketsOf (on_way false phone packets) (to_phone phone origin about ms)
-down_to phone origin about [] [] c = tt
-down_to phone origin about [] (m ∷ ms) c = absurd c
-down_to phone origin about (p ∷ packets) [] c = absurd c
-down_to phone origin about (p ∷ packets) (m ∷ ms) c = ((refl, c.0), down_to phone origin about packets ms c.1)
+pub down_to : (phone : ℕ) (origin : Option Origin) (putting : Option ℕ) (packets : List (List ℕ)) (ms : List Message) → CarriesEach packets ms
+    → ArePacketsOf (on_way false phone packets) (to_phone phone origin putting ms)
+down_to phone origin putting [] [] c = tt
+down_to phone origin putting [] (m ∷ ms) c = absurd c
+down_to phone origin putting (p ∷ packets) [] c = absurd c
+down_to phone origin putting (p ∷ packets) (m ∷ ms) c = ((refl, c.0), down_to phone origin putting packets ms c.1)
 
 pub up_from : (phone : ℕ) (packets : List (List ℕ)) (ms : List Message) → CarriesEach packets ms
     → ArePacketsOf (on_way true phone packets) (to_centre phone ms)
@@ -46,9 +46,9 @@ pub as_many_sent : (put : List Sent) → length (messages_of put) ≡ length put
 as_many_sent [] = refl
 as_many_sent (x ∷ put) = ap suc (as_many_sent put)
 
-pub put_none : (phone : ℕ) (origin : Option Origin) (about : Option ℕ) (ms : List Message) → ms ≡ [] → to_phone phone origin about ms ≡ []
-put_none phone origin about [] e = refl
-put_none phone origin about (m ∷ ms) e = absurd cc
+pub put_none : (phone : ℕ) (origin : Option Origin) (putting : Option ℕ) (ms : List Message) → ms ≡ [] → to_phone phone origin putting ms ≡ []
+put_none phone origin putting [] e = refl
+put_none phone origin putting (m ∷ ms) e = absurd cc
 
 pub put_none_up : (phone : ℕ) (ms : List Message) → ms ≡ [] → to_centre phone ms ≡ []
 put_none_up phone [] e = refl

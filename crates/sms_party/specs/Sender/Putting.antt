@@ -27,7 +27,7 @@ puts_text phone s n reject (Some t) =
             (Transfer FromPhone (Submit (submission_of t (suc s.accepted) reject)));
         to = Centre phone;
         origin = Some (record { text = n; segment = suc s.accepted });
-        about = Some s.outs;
+        putting = Some s.outs;
       } ∷ [];
       sender = record {
         pending = s.pending;

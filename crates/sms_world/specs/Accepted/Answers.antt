@@ -10,5 +10,5 @@ use Rattle.sms_world.specs.Orderly.Brought.{BringsAnswer}
 -- two numbers.
 abbrev pub AnswersAnswerWhatTheyName : ℕ → Machine → Event → Type 0
 AnswersAnswerWhatTheyName phone m event =
-    (last : ℕ) (about : Option ℕ) → (m.senders.sender phone).outs ≡ suc last
-    → BringsAnswer m event phone (tag_of last) about → about ≡ Some last
+    (last : ℕ) (putting : Option ℕ) → (m.senders.sender phone).outs ≡ suc last
+    → BringsAnswer m event phone (tag_of last) putting → putting ≡ Some last

@@ -65,10 +65,10 @@ Receives now up phone octets old (Err dropped.Memory) new =
     (m : Machine) → PartiesStand old m → m.clock ≡ now → PartiesStand new m
 Receives now up phone octets old result new =
     (message : Message) × ReadsAs octets message
-    × ((m : Machine) (origin : Option Origin) (about : Option ℕ)
+    × ((m : Machine) (origin : Option Origin) (putting : Option ℕ)
     → PartiesStand old m → m.clock ≡ now
     → Answers (not up) phone m
-    (comes m (place_at up phone) message origin about) result new)
+    (comes m (place_at up phone) message origin putting) result new)
 
 -- The clock moves on.
 abbrev pub MovesTo : ℕ → PartiesValue → PartiesValue → Type 0

@@ -76,14 +76,14 @@ by_receiver m phone d =
 
 -- What the centre puts out goes to the phone.
 abbrev pub to_phone : ℕ → Option Origin → Option ℕ → List Message → List Sent
-to_phone phone origin about [] = []
-to_phone phone origin about (v ∷ vs) =
-    record { message = v; to = Phone phone; origin = origin; about = about }
-    ∷ to_phone phone origin about vs
+to_phone phone origin putting [] = []
+to_phone phone origin putting (v ∷ vs) =
+    record { message = v; to = Phone phone; origin = origin; putting = putting }
+    ∷ to_phone phone origin putting vs
 
 unfoldable pub of_centre : ℕ → Option Origin → Option ℕ → Does CentreState → Sends CentreState
-of_centre phone origin about d =
-    record { answer = d.answer; put = to_phone phone origin about d.put; after = d.after }
+of_centre phone origin putting d =
+    record { answer = d.answer; put = to_phone phone origin putting d.put; after = d.after }
 
 -- The centre did this.
 unfoldable pub by_centre : Machine → Sends CentreState → Next
@@ -117,11 +117,11 @@ comes_to_phone m phone (Data false tag relay) origin =
     (receiver_opened (receiver_limits m.limits) (m.receiver phone) m.clock tag relay origin)
 
 unfoldable pub comes : Machine → Place → Message → Option Origin → Option ℕ → Next
-comes m (Centre phone) message origin about =
+comes m (Centre phone) message origin putting =
     by_centre m
-    (of_centre phone None about
+    (of_centre phone None putting
     (centre_receives m.limits.held m.phones m.centre m.clock phone message origin))
-comes m (Phone phone) message origin about = comes_to_phone m phone message origin
+comes m (Phone phone) message origin putting = comes_to_phone m phone message origin
 
 -- The packet of this number, counted from 1, if as many were put out.
 unfoldable pub packet : Machine → ℕ → Option Sent
@@ -130,7 +130,7 @@ packet m (suc k) = nth m.sent k
 
 unfoldable pub carries : Machine → Option Sent → Next
 carries m None = stays m (Err NoSuchPacket)
-carries m (Some x) = comes m x.to x.message x.origin x.about
+carries m (Some x) = comes m x.to x.message x.origin x.putting
 
 -- ---- the clock moves
 

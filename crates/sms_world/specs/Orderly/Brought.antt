@@ -23,13 +23,13 @@ pub record BringsSubmission (m : Machine) (event : Event) (phone : ℕ) (s : Sub
   pub number : ℕ
   pub carries : event ≡ Carry number
   pub tag : Tag
-  pub about : Option ℕ
+  pub putting : Option ℕ
   pub is : packet m number
       ≡ Some (record {
         message = Data false tag (Transfer FromPhone (Submit s));
         to = Centre phone;
         origin = origin;
-        about = about;
+        putting = putting;
       })
 
 -- The event brings this SMS-DELIVER to a phone.
@@ -38,19 +38,19 @@ pub record BringsDelivery (m : Machine) (event : Event) (phone : ℕ) (d : Deliv
   pub number : ℕ
   pub carries : event ≡ Carry number
   pub tag : Tag
-  pub about : Option ℕ
+  pub putting : Option ℕ
   pub is : packet m number
       ≡ Some (record {
         message = Data false tag (Transfer ToPhone (Deliver d));
         to = Phone phone;
         origin = origin;
-        about = about;
+        putting = putting;
       })
 
 -- The event brings an RP-ACK or RP-ERROR with this transaction value and reference to a phone's
 -- sender. It answers the sender's putting out of this number, counted from 0.
 pub record BringsAnswer (m : Machine) (event : Event) (phone : ℕ) (tag : Tag)
-    (about : Option ℕ) : Type 0 where
+    (putting : Option ℕ) : Type 0 where
   pub number : ℕ
   pub carries : event ≡ Carry number
   pub side : Side
@@ -62,5 +62,5 @@ pub record BringsAnswer (m : Machine) (event : Event) (phone : ℕ) (tag : Tag)
         message = Data true tag (Answer side cause report);
         to = Phone phone;
         origin = origin;
-        about = about;
+        putting = putting;
       })
