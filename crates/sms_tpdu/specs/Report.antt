@@ -10,6 +10,7 @@ pub mod Kind
 pub mod KindLaws
 pub mod Laws
 pub mod Indicated
+pub mod Text
 pub mod IndicatedLaws
 use Rattle.std.specs.Prelude.{ℕ, Bool, List, ◌∷◌, ◌++◌, Option}
 use Rattle.sms_field.specs.Field.{Field, ◌>>=◌, always, octet_by}

@@ -6,6 +6,7 @@ pub mod kind;
 pub mod octet;
 pub mod optional;
 pub mod parts;
+pub mod text;
 pub mod view;
 pub mod writing;
 

@@ -63,7 +63,7 @@ impl<'a> Model for PartsView<'a> {
 }
 
 /// The alphabet by which a report's data are counted.
-fn report_alphabet(dcs: Option<u8>) -> Alphabet
+pub fn report_alphabet(dcs: Option<u8>) -> Alphabet
     ensures { result ≡ formats.report_alphabet dcs }
 {
     match dcs {
