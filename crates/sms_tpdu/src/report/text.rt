@@ -9,7 +9,7 @@ ghost use Rattle.sms_tpdu.specs.Report.Text.{octets_of_header, body_after, text_
 ghost use Rattle.sms_tpdu.specs.UserData.BodySeen.{seen_body};
 ghost use Rattle.sms_tpdu.specs.UserData.Lengths as lengths;
 
-use crate::report::parts::{ReportDataView, report_alphabet};
+use crate::report::parts::{REPORT_DATA_MAX, ReportDataView, report_alphabet};
 use crate::user_data::lengths::{fill_bits, length_of_header};
 use crate::user_data::view::body::{BodyView, SeptetsView};
 use sms_field::Alphabet;
@@ -42,7 +42,7 @@ fn body_after<'a>(
 ) -> Option<BodyView<'a>>
     requires counted { length octets.now ≡ lengths.octets_of_length alphabet count }
     requires lies { taken ≤ length octets.now }
-    requires few { length octets.now ≤ 159 }
+    requires few { length octets.now ≤ REPORT_DATA_MAX }
     ensures { option_map seen_body result ≡ body_after alphabet count octets.now taken }
 {
     let header = length_of_header(alphabet, taken);
