@@ -14,7 +14,7 @@ use crate::user_data::UserData;
 use crate::user_data::body::Body;
 use crate::user_data::concat::Concat;
 use crate::user_data::header::{Header, put_element};
-use crate::user_data::lengths::{fill_bits, length_of_header};
+use crate::user_data::lengths::{OCTETS_MAX, SEPTETS_MAX, fill_bits, length_of_header};
 use crate::user_data::lent::UnitsView;
 use sms_field::Alphabet;
 use sms_text::{pack_into, put_units, room_for_septets};
@@ -23,7 +23,7 @@ use std::alloc::{AllocError, Global};
 /// How many octets a header has, with its length octet; 0 where there is none.
 fn octets_taken(header: &Option<Header>) -> usize
     ensures is { result ≡ length (header_octets header.now) }
-    ensures few { result ≤ 140 }
+    ensures few { result ≤ OCTETS_MAX }
 {
     match header {
         Some(header) => header.as_slice().len() + 1,
@@ -52,7 +52,7 @@ pub fn room_for_user_data(user: &UserData) -> usize
 
 /// The length of user data with septets after the octets of a header.
 fn length_of_septets(taken: usize, septets: &[u8]) -> u8
-    requires { lengths.length_of_header Gsm7 taken + length septets.now ≤ 160 }
+    requires { lengths.length_of_header Gsm7 taken + length septets.now ≤ SEPTETS_MAX }
     ensures { result ≡ lengths.length_of_header Gsm7 taken + length septets.now }
 {
     (length_of_header(Alphabet::Gsm7, taken) + septets.len()) as u8
