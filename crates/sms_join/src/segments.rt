@@ -10,7 +10,7 @@ use crate::cut::SEGMENTS_MAX;
 use crate::segment::{Segment, SegmentView};
 use crate::units::Units;
 use crate::written::Written;
-use sms_tpdu::Width;
+use sms_tpdu::{OCTETS_MAX, Width};
 use std::alloc::{AllocError, Global};
 use std::marker::Model;
 
@@ -35,9 +35,9 @@ impl Model for Segments {
     ghost invariant = { λ s. AreEnds s.units s.ends.items };
 }
 
-/// The most octets of user data in a unit, with TP-UDL before them and one more, which packing
-/// writes and takes back.
-const ROOM: usize = 142;
+/// The most octets of user data, TP-UDL before them, and one more, which packing writes and takes
+/// back.
+const ROOM: usize = OCTETS_MAX + 2;
 
 /// Where the piece of an index starts.
 pub(crate) fn start_of(ends: &[usize], index: usize) -> usize
