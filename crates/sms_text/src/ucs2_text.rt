@@ -6,6 +6,7 @@ ghost use Rattle.std.specs.String.{string_bytes};
 ghost use Rattle.std.specs.Char.Utf16.{utf16_lossy_chars};
 ghost use Rattle.sms_text.specs.Utf16.{units_high_first};
 
+use crate::four_units::put_four;
 use crate::spelled::unit_word;
 use crate::ucs2::{text_of_ucs2, unit, units_of_octets};
 use crate::written::{put_word, text_of_utf8};
@@ -15,7 +16,7 @@ use std::alloc::{AllocError, Global};
 /// half of a pair.
 #[inline(never)]
 fn put_ucs2(out: &mut [u8], octets: &[u8]) -> Option<usize>
-    requires { 3 * (length octets.now / 2) + 4 ≤ length out.old }
+    requires { 3 * (length octets.now / 2) + 16 ≤ length out.old }
     ensures within { IfSome result (λ end. end ≤ length out.new) }
     ensures text { IfSome result (λ end. IsUtf8 (take end out.new)) }
     ensures spelled { IfSome result (λ end. take end out.new
@@ -24,11 +25,16 @@ fn put_ucs2(out: &mut [u8], octets: &[u8]) -> Option<usize>
     let mut rest = octets;
     let mut at = 0;
     while let [high, low, others @ ..] = rest {
-        let Some(word) = unit_word(unit(*high, *low)) else {
-            return None;
-        };
-        at = put_word(out, at, word);
-        rest = others;
+        if let Some((after, left)) = put_four(out, at, rest) {
+            at = after;
+            rest = left;
+        } else {
+            let Some(word) = unit_word(unit(*high, *low)) else {
+                return None;
+            };
+            at = put_word(out, at, word);
+            rest = others;
+        }
     }
     Some(at)
 }
@@ -38,7 +44,7 @@ fn text_of_whole(alloc: Global, octets: &[u8]) -> Result<Option<String>, AllocEr
     ensures { IfOk result (λ found. IfSome found (λ text.
         chars (string_bytes text) ≡ utf16_lossy_chars (units_high_first octets.now))) }
 {
-    let room = octets.len() / 2 * 3 + 4;
+    let room = octets.len() / 2 * 3 + 16;
     let mut text = Vec::with_capacity(alloc, room)?;
     text.resize(room, 0)?;
     let Some(end) = put_ucs2(&mut text, octets) else {
