@@ -1,5 +1,5 @@
 -- Four units of which each takes one octet or two in UTF-8, and the octets that are kept.
-use Rattle.std.proofs.Common.{◌≡◌, ℕ, suc, ◌+◌, ◌-◌, ◌*◌, ◌/◌, ◌%◌, ◌<◌, ◌≤◌, Bool, true, false, cond, leb, List, [], ◌∷◌, ◌++◌, length, take, drop, get_or, bit_and, inl, refl, sym, ap, subst, ◌∙◌, append_assoc, length-append, arith, w8}
+use Rattle.std.proofs.Common.{◌≡◌, ℕ, suc, ◌+◌, ◌-◌, ◌*◌, ◌/◌, ◌%◌, ◌^◌, ◌<◌, ◌≤◌, Bool, true, false, cond, leb, List, [], ◌∷◌, ◌++◌, length, take, drop, get_or, map, replicate, bit_and, Fits, inl, refl, sym, ap, subst, ◌∙◌, append_assoc, length-append, arith, w8}
 use Rattle.std.proofs.lemmas.Bool.{leb-true, leb-false}
 use Rattle.std.proofs.lemmas.Nat.{and_mask}
 use Rattle.std.proofs.lemmas.List.{take_at, take-take, length-take-le, take-append-drop, take_rest}
@@ -9,7 +9,7 @@ use Rattle.std.specs.Char.Utf16.{utf16_lossy_chars}
 use Rattle.std.specs.Str.{IsUtf8}
 use Rattle.std.proofs.Math.Utf8.{encode, encodes}
 use Rattle.std.proofs.str.Laws.{one, two}
-use lib.Lanes.{digits_l, number_l, top, put_chunk}
+use lib.Lanes.{digits_l, number_l, top, put_chunk, pick_l, chunk, zip2, sel_l, mask_l}
 use lib.Utf8.{low_scalar}
 use Rattle.sms_text.specs.Utf16.{units_high_first}
 use Rattle.sms_text.proofs.Ucs2Text.{text_in, whole_unit}
@@ -141,3 +141,42 @@ four_placed out lanes octets others at count p q r s sixteen few room spelled ma
       ap (λ (l : List ℕ). l ++ encodes (text_in others)) new ∙ append_assoc (take at out) (encodes four) (encodes (text_in others)) ∙ ap (λ (l : List ℕ). take at out ++ l) (sym (encodes-append four (text_in others))) ∙ ap (λ (l : List ℕ). take at out ++ encodes l) (sym rest),
       λ text. subst IsUtf8 (sym new) (IsUtf8-append _ _ text (four_utf8 p q r s hp hq hr hs)),
     )
+
+-- ---- units from octets
+
+wide : (n x y z : ℕ) → x < 256 → y < 256 → digits_l 65536 (suc n) (x + 256 * (y + 256 * z)) ≡ (256 * y + x) ∷ digits_l 65536 n z
+wide n x y z hx hy =
+    let low : (x + 256 * (y + 256 * z)) % 65536 ≡ 256 * y + x = omega (arith, hx, hy) in
+    let rest : (x + 256 * (y + 256 * z)) / 65536 ≡ z = omega (arith, hx, hy) in
+    rw (low, rest) refl
+
+abbrev swapped : List ℕ → List ℕ
+swapped octets = pick_l 0 (chunk 0 8 octets ++ replicate 8 0) (1 ∷ 0 ∷ 3 ∷ 2 ∷ 5 ∷ 4 ∷ 7 ∷ 6 ∷ 8 ∷ 8 ∷ 8 ∷ 8 ∷ 8 ∷ 8 ∷ 8 ∷ 8 ∷ [])
+
+pub units_are : (octets : List ℕ) → ((i : ℕ) → Fits w8 (get_or octets i 0)) → 8 ≤ length octets → digits_l 65536 8 (number_l 256 (swapped octets))
+    ≡ (256 * get_or octets 0 0 + get_or octets 1 0) ∷ (256 * get_or octets 2 0 + get_or octets 3 0) ∷ (256 * get_or octets 4 0 + get_or octets 5 0) ∷ (256 * get_or octets 6 0 + get_or octets 7 0) ∷ 0 ∷ 0 ∷ 0 ∷ 0 ∷ []
+units_are [] fits many = absurd (omega arith)
+units_are (a ∷ []) fits many = absurd (omega arith)
+units_are (a ∷ b ∷ []) fits many = absurd (omega arith)
+units_are (a ∷ b ∷ c ∷ []) fits many = absurd (omega arith)
+units_are (a ∷ b ∷ c ∷ d ∷ []) fits many = absurd (omega arith)
+units_are (a ∷ b ∷ c ∷ d ∷ e ∷ []) fits many = absurd (omega arith)
+units_are (a ∷ b ∷ c ∷ d ∷ e ∷ f ∷ []) fits many = absurd (omega arith)
+units_are (a ∷ b ∷ c ∷ d ∷ e ∷ f ∷ g ∷ []) fits many = absurd (omega arith)
+units_are (a ∷ b ∷ c ∷ d ∷ e ∷ f ∷ g ∷ h ∷ others) fits many =
+    wide 7 b a _ (fits 1).fits (fits 0).fits ∙ ap (λ (l : List ℕ). (256 * a + b) ∷ l) (wide 6 d c _ (fits 3).fits (fits 2).fits ∙ ap (λ (l : List ℕ). (256 * c + d) ∷ l) (wide 5 f e _ (fits 5).fits (fits 4).fits ∙ ap (λ (l : List ℕ). (256 * e + f) ∷ l) (wide 4 h g 0 (fits 7).fits (fits 6).fits)))
+
+abbrev at_least : ℕ → ℕ → ℕ
+at_least a b = cond (leb a b) 65535 0
+
+abbrev longer : List ℕ → List Bool
+longer units = map (top 15) (zip2 at_least (replicate 8 128) units)
+
+abbrev two_lanes : List ℕ → List ℕ
+two_lanes units =
+    zip2 (λ a b. (a + b) % 65536) (zip2 (λ a b. (a + b) % 65536) (zip2 (λ a b. a / 2 ^ b) units (replicate 8 6)) (zip2 (λ a b. a * 2 ^ b % 65536) (zip2 bit_and units (replicate 8 63)) (replicate 8 8))) (replicate 8 32960)
+
+pub four_of : (units : List ℕ) (a b c d : ℕ) → units ≡ a ∷ b ∷ c ∷ d ∷ 0 ∷ 0 ∷ 0 ∷ 0 ∷ [] → a < 2048 → b < 2048 → c < 2048 → d < 2048
+    → take (get_or COUNTS (mask_l (longer units) % 18446744073709551616) 0) (swz_l w8 16 (digits_l 256 16 (number_l 65536 (sel_l (longer units) (two_lanes units) units))) 0 (get_or PLACES (mask_l (longer units) % 18446744073709551616) []))
+    ≡ encodes (take 4 units)
+four_of units a b c d e ha hb hc hd = rw e (four_are a b c d ha hb hc hd)
