@@ -100,7 +100,7 @@ impl Header {
 }
 
 /// Adds the element that tells the place of a segment.
-pub(crate) fn put_element(out: &mut Vec<u8>, concat: Concat) -> Result<(), AllocError>
+fn put_element(out: &mut Vec<u8>, concat: Concat) -> Result<(), AllocError>
     requires { concat.width ≡ Eight → concat.reference < 256 }
     ensures { OnOk result
         (out.new.items ≡ out.old.items ++ element_octets (concat_element concat)) }
