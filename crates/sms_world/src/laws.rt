@@ -16,6 +16,7 @@ ghost use Rattle.sms_world.specs.Headline.Stores.{StoresStand};
 ghost use Rattle.sms_world.specs.Noted.{NotesStayRight};
 ghost use Rattle.sms_world.specs.OrderTests.{OrderIsTested};
 ghost use Rattle.sms_world.specs.OrderTold.{OrderIsTold};
+ghost use Rattle.sms_world.specs.Traced.{TracesTell};
 ghost use Rattle.sms_world.specs.Understood.{IsOneAct};
 ghost use Rattle.sms_world.specs.World.Asked.{FactsAreTold};
 ghost use Rattle.sms_world.specs.World.Claims.{ClaimsHold};
@@ -87,6 +88,14 @@ pub fn notes_stay_right()
 /// event that comes out of order is told, with a condition that it breaks.
 pub fn watching_goes_on()
     ensures { WatchingGoesOn }
+{
+    laws_below();
+}
+
+/// At each event of an honest run right notes of packets and acceptances tell whether it meets the
+/// conditions under which `accepted` means accepted; and where it does, they stay right.
+pub fn traces_tell()
+    ensures { TracesTell }
 {
     laws_below();
 }

@@ -452,7 +452,7 @@ impl Notes {
 }
 
 /// Nothing is noted of as many senders.
-fn new_senders(alloc: Global, count: usize) -> Result<Vec<SenderNotes>, AllocError>
+pub(crate) fn new_senders(alloc: Global, count: usize) -> Result<Vec<SenderNotes>, AllocError>
     ensures count { IfOk result (λ all. length all.items ≡ count) }
     ensures new { IfOk result
         (λ all. (p : ℕ) → sender_at (slice_get all.items p) ≡ sender_at None) }
