@@ -65,7 +65,7 @@ pub mod Rejecting
 pub mod Rows
 pub mod Networks
 pub mod Transcribing
-pub mod WatchedPlayed
+pub mod WorldPlayed
 pub mod Judging
 pub mod Promises
 pub mod Nowhere
