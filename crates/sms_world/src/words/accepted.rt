@@ -14,10 +14,10 @@ use sms_script::Script;
 use std::alloc::{AllocError, Global};
 
 /// How an event broke a condition under which `accepted` means accepted, in words.
-pub fn ground_text(ground: Ground) -> &'static str
-    ensures { result.now ≡ ground_text ground }
+pub fn ground_text(why: Ground) -> &'static str
+    ensures { result.now ≡ ground_text why }
 {
-    match ground {
+    match why {
         Ground::AnswerToAnother { .. } => "answer to an earlier submission",
         Ground::ReferenceUsedAgain { .. } => "reference used again",
         Ground::Injected => "injected",
@@ -34,10 +34,10 @@ fn phone_text(alloc: Global, script: &Script, phone: usize) -> Result<String, Al
 }
 
 /// The phone to which an answer came, or the segment that was brought, after a space.
-fn bearer_text(alloc: Global, script: &Script, ground: Ground) -> Result<String, AllocError>
-    ensures { IfOk result (λ s. string_bytes s ≡ bearer_text script.now ground) }
+fn bearer_text(alloc: Global, script: &Script, why: Ground) -> Result<String, AllocError>
+    ensures { IfOk result (λ s. string_bytes s ≡ bearer_text script.now why) }
 {
-    match ground {
+    match why {
         Ground::AnswerToAnother { phone } => phone_text(alloc, script, phone),
         Ground::ReferenceUsedAgain { segment } => segment_text(alloc, script, Some(segment)),
         Ground::Injected => Ok(String::new(alloc)),
