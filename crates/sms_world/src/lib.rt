@@ -28,6 +28,7 @@ pub use laws::{
     traces_tell, unread_octets_change_nothing, unread_units_change_no_party, watching_goes_on,
 };
 pub use order::{Breach, Disorder, TextSegment};
+pub use playing::trusted::{Verdicts, play_trusted, play_with_accepted};
 pub use playing::{play, play_watched, play_with_order, told_stores_stand};
 pub use running::run;
 pub use sms_message::{Dropped, Outcome};
@@ -39,5 +40,6 @@ pub use sms_script::{
 pub use trusted::TrustedWorld;
 pub use watched::WatchedWorld;
 pub use watched_run::run_watched;
+pub use words::accepted::{accepted_line, ground_text, verdict_lines};
 pub use words::order::{disorder_text, number_told, order_line};
 pub use world::World;
