@@ -1,0 +1,125 @@
+//! Rows of the tests of what is told of `accepted` in runs. Between bars stand parts, and after an
+//! asterisk how many times a part stands.
+
+use crate::fed::Fed;
+
+/// A script whose phones are given, and the lines that tell of its order and of `accepted`.
+pub struct Trusted {
+    /// Settings and events: the phones stand before them.
+    pub script: &'static str,
+    pub order: &'static str,
+    pub accepted: &'static str,
+}
+
+/// The phones of the scripts.
+pub const PHONES: &str = "phone a +1001\nphone b +1002\nphone c +1003\n";
+
+/// Runs in which it means accepted.
+pub static MEANT: [Trusted; 10] = [
+    // Two packets are lost, and a repeat is rejected as a duplicate.
+    Trusted {
+        script: "type a +1002 hi\ncarry 1\ntimeout a\ncarry 4\ncarry 6\npush b\ncarry 8\ncarry 8\n",
+        order: "order: kept\n",
+        accepted: "accepted: means accepted\n",
+    },
+    // A text in two segments.
+    Trusted {
+        script: "type a +1002 |a*161|\ncarry 1\ncarry 3\ncarry 5\ncarry 7\n",
+        order: "order: kept\n",
+        accepted: "accepted: means accepted\n",
+    },
+    // The same answer comes twice, and one of an earlier text.
+    Trusted {
+        script: "type a +1002 one\ntype a +1002 two\ncarry 1\ncarry 3\ncarry 3\ncarry 5\ncarry 3\ncarry 7\n",
+        order: "order: kept\n",
+        accepted: "accepted: means accepted\n",
+    },
+    // Out of order, and meant all the same: a copy of the first putting out.
+    Trusted {
+        script: "type a +1002 hi\ncarry 1\ncarry 1\ncarry 3\n",
+        order: "order: event 3: repeat without rejection a 1 1\n",
+        accepted: "accepted: means accepted\n",
+    },
+    // A reference is used again, but no rejection is asked for.
+    Trusted {
+        script: "|type a +1002 hi\n*257|carry 1\ncarry 3\n|timeout a\n*1020|carry 1025\ncarry 1027\n",
+        order: "order: kept\n",
+        accepted: "accepted: means accepted\n",
+    },
+    // The accepted one with the reference has ended.
+    Trusted {
+        script: "reject\n|type a +1002 hi\n*257|carry 1\ncarry 3\n|timeout a\n*1020|tick 172800\ncarry 1025\ncarry 1027\n",
+        order: "order: kept\n",
+        accepted: "accepted: means accepted\n",
+    },
+    // The reference is used again to another address.
+    Trusted {
+        script: "reject\n|type a +1002 hi\n*256|type a +1003 hi\ncarry 1\ncarry 3\n|timeout a\n*1020|carry 1025\ncarry 1027\n",
+        order: "order: kept\n",
+        accepted: "accepted: means accepted\n",
+    },
+    // The reference is used again by another phone.
+    Trusted {
+        script: "reject\ntype a +1002 hi\ntype c +1002 hi\ncarry 1\ncarry 2\ncarry 4\ncarry 6\n",
+        order: "order: kept\n",
+        accepted: "accepted: means accepted\n",
+    },
+    // An answer comes 1,791 puttings out later.
+    Trusted {
+        script: "|type a +1002 hi\n*449|carry 1\n|timeout a\n*1791|carry 3\n",
+        order: "order: kept\n",
+        accepted: "accepted: means accepted\n",
+    },
+    // An answer comes 1,793 puttings out later.
+    Trusted {
+        script: "|type a +1002 hi\n*449|carry 1\n|timeout a\n*1793|carry 3\n",
+        order: "order: kept\n",
+        accepted: "accepted: means accepted\n",
+    },
+];
+
+/// Runs with an event after which it need not.
+pub static DOUBTED: [Trusted; 7] = [
+    // The 257th text has the reference of the first, which is held.
+    Trusted {
+        script: "reject\n|type a +1002 hi\n*257|carry 1\ncarry 3\n|timeout a\n*1020|carry 1025\n",
+        order: "order: kept\n",
+        accepted: "accepted: event 1280: reference used again a 257 1\n",
+    },
+    // So in the last second in which the first is valid.
+    Trusted {
+        script: "reject\n|type a +1002 hi\n*257|carry 1\ncarry 3\n|timeout a\n*1020|tick 172799\ncarry 1025\n",
+        order: "order: kept\n",
+        accepted: "accepted: event 1281: reference used again a 257 1\n",
+    },
+    // The repeat of the 257th text asks for rejection.
+    Trusted {
+        script: "|type a +1002 hi\n*257|carry 1\ncarry 3\n|timeout a\n*1020|carry 1025\ntimeout a\ncarry 1028\n",
+        order: "order: kept\n",
+        accepted: "accepted: event 1282: reference used again a 257 1\n",
+    },
+    // An answer comes 1,792 puttings out later.
+    Trusted {
+        script: "|type a +1002 hi\n*449|carry 1\n|timeout a\n*1792|carry 3\n",
+        order: "order: kept\n",
+        accepted: "accepted: event 2243: answer to an earlier submission a\n",
+    },
+    // Octets come that nobody has put out.
+    Trusted {
+        script: "type a +1002 hi\ninject down a 9901020300\n",
+        order: "order: event 2: injected\n",
+        accepted: "accepted: event 2: injected\n",
+    },
+    // The tick with which the clock starts is no event of the transcript.
+    Trusted {
+        script: "clock 1000\ninject up a FF\ninject up a FF\n",
+        order: "order: event 1: injected\n",
+        accepted: "accepted: event 1: injected\n",
+    },
+    // The two first events are not the same.
+    Trusted {
+        script: "type a +1002 hi\ncarry 1\ncarry 1\ninject up a FF\n",
+        order: "order: event 3: repeat without rejection a 1 1\n",
+        accepted: "accepted: event 4: injected\n",
+    },
+];
