@@ -10,36 +10,39 @@ use std::alloc::Global;
 use std::process::Abort;
 use std::test::Fail;
 
+/// The words that ask for it.
+const ALONE: [&str; 3] = ["sms", "play", "--accepted"];
+
 /// The words that ask for both.
 const BOTH: [&str; 4] = ["sms", "play", "--orderly", "--accepted"];
 
-/// Whether it is told of a row, alone and with its order.
-fn is_row_told(alloc: Global, row: &Trusted) -> Result<bool, Fail> {
-    let script = script_of(alloc, PHONES, row.script)?;
-    let alone = is_told(alloc, &["sms", "play", "--accepted"], &script, row.accepted);
-    drop(script);
-    alone
+/// Whether both are told of a script, its order first.
+fn are_both_told(alloc: Global, script: &str, row: &Trusted) -> Result<bool, Fail> {
+    let lines = [row.order, row.accepted].concat(alloc)?;
+    let told = is_told(alloc, &BOTH, script, &lines);
+    drop(lines);
+    told
 }
 
-/// Whether both are told of a row, its order first.
-fn are_both_told(alloc: Global, row: &Trusted) -> Result<bool, Fail> {
-    let lines = [row.order, row.accepted].concat(alloc)?;
-    let script = script_of(alloc, PHONES, row.script);
-    let told = match script {
-        Ok(script) => is_told(alloc, &BOTH, &script, &lines),
-        Err(fail) => Err(fail),
-    };
-    drop(lines);
+/// Whether it is told of a script, alone and after its order.
+fn is_script_told(alloc: Global, script: &str, row: &Trusted) -> Result<bool, Fail> {
+    let alone = is_told(alloc, &ALONE, script, row.accepted)?;
+    Ok(alone && are_both_told(alloc, script, row)?)
+}
+
+/// Whether it is told of a row.
+fn is_row_told(alloc: Global, row: &Trusted) -> Result<bool, Fail> {
+    let script = script_of(alloc, PHONES, row.script)?;
+    let told = is_script_told(alloc, &script, row);
+    drop(script);
     told
 }
 
 /// It is told of each row.
 fn are_told(rt: &impl Abort, alloc: Global, rows: &[Trusted]) -> Result<(), Fail> {
     for row in rows {
-        let alone = is_row_told(alloc, row)?;
-        holds(rt, &row.script, alone);
-        let both = are_both_told(alloc, row)?;
-        holds(rt, &row.script, both);
+        let told = is_row_told(alloc, row)?;
+        holds(rt, &row.script, told);
     }
     Ok(())
 }
@@ -57,7 +60,7 @@ fn tells_the_first_event_after_which_it_need_not(rt: HostRuntime) -> Result<(), 
 /// Whether the output of a row ends so.
 fn ends_so(alloc: Global, row: &Ending) -> Result<bool, Fail> {
     let script = script_of(alloc, PHONES, row.script)?;
-    let ends = ends_with(alloc, &BOTH, &script, row.ends);
+    let ends = ends_with(alloc, row.words, &script, row.ends);
     drop(script);
     ends
 }

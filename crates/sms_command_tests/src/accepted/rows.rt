@@ -123,3 +123,98 @@ pub static DOUBTED: [Trusted; 7] = [
         accepted: "accepted: event 4: injected\n",
     },
 ];
+
+/// Whole transcripts, and a script that is not played to its end.
+pub static WHOLES: [Fed; 5] = [
+    Fed {
+        words: &["sms", "play", "--accepted"],
+        input: "",
+        status: 0,
+        output: "accepted: means accepted\n",
+    },
+    Fed {
+        words: &["sms", "play", "--orderly", "--accepted"],
+        input: "",
+        status: 0,
+        output: "order: kept\naccepted: means accepted\n",
+    },
+    Fed {
+        words: &["sms", "play", "--orderly", "--accepted"],
+        input: "brief\nphone a +1001\nphone b +1002\ntype a +1002 hi\ncarry 1\ncarry 1\n",
+        status: 0,
+        output: "1 typed 1\n#1 a>centre 22\n2 held\n#2 centre>a 2\n#3 centre>a 16\n3 held\n#4 centre>a 2\n#5 centre>a 16\nsent a 1 waiting\nstore a 0\nstore b 0\norder: event 3: repeat without rejection a 1 1\naccepted: means accepted\n",
+    },
+    Fed {
+        words: &["sms", "play", "--accepted"],
+        input: "phone a +1001\npush a\npush b\n",
+        status: 1,
+        output: "1 nothing waits\nline 3: unknown phone\n",
+    },
+    Fed {
+        words: &["sms", "play", "--orderly", "--accepted", "--check"],
+        input: "phone a +1001\ncarry 1\ninject up a FF\n",
+        status: 1,
+        output: "1 fault no such packet\n2 drop not cp\nstore a 0\norder: event 2: injected\naccepted: event 2: injected\n",
+    },
+];
+
+/// What is told as objects in JSON.
+pub static OBJECTS: [Fed; 4] = [
+    Fed {
+        words: &["sms", "play", "--json", "--accepted"],
+        input: "phone a +1001\ntick 5",
+        status: 0,
+        output: "{\"event\":1,\"word\":\"ticked\",\"packets\":[]}\n{\"phone\":\"a\",\"sent\":[],\"store\":[]}\n{\"accepted\":{\"means\":true}}\n",
+    },
+    Fed {
+        words: &["sms", "play", "--json", "--orderly", "--accepted"],
+        input: "phone a +1001\ntick 5",
+        status: 0,
+        output: "{\"event\":1,\"word\":\"ticked\",\"packets\":[]}\n{\"phone\":\"a\",\"sent\":[],\"store\":[]}\n{\"order\":{\"kept\":true}}\n{\"accepted\":{\"means\":true}}\n",
+    },
+    Fed {
+        words: &["sms", "play", "--json", "--orderly", "--accepted"],
+        input: "clock 7\nphone a +1001\ninject up a FF\n",
+        status: 0,
+        output: "{\"event\":1,\"word\":\"drop not cp\",\"packets\":[]}\n{\"phone\":\"a\",\"sent\":[],\"store\":[]}\n{\"order\":{\"kept\":false,\"event\":1,\"condition\":\"injected\"}}\n{\"accepted\":{\"means\":false,\"event\":1,\"condition\":\"injected\"}}\n",
+    },
+    Fed {
+        words: &["sms", "play", "--json", "--accepted"],
+        input: "push a\n",
+        status: 1,
+        output: "{\"fault\":{\"line\":1,\"reason\":\"unknown phone\"}}\n",
+    },
+];
+
+/// A script whose phones are given, and how its output ends, with these words.
+pub struct Ending {
+    pub words: &'static [&'static str],
+    /// Settings and events: the phones stand before them.
+    pub script: &'static str,
+    pub ends: &'static str,
+}
+
+/// What goes wrong without each of the conditions: a text is shown as accepted that the centre has
+/// never taken, and as an object what is told of it.
+pub static ENDS: [Ending; 4] = [
+    Ending {
+        words: &["sms", "play", "--orderly", "--accepted"],
+        script: "|type a +1002 hi\n*449|carry 1\n|timeout a\n*1792|carry 3\n",
+        ends: "sent a 449 accepted\nstore a 0\nstore b 0\nstore c 0\norder: kept\naccepted: event 2243: answer to an earlier submission a\n",
+    },
+    Ending {
+        words: &["sms", "play", "--orderly", "--accepted"],
+        script: "reject\n|type a +1002 hi\n*257|carry 1\ncarry 3\n|timeout a\n*1020|carry 1025\ncarry 1027\n",
+        ends: "sent a 257 accepted\nstore a 0\nstore b 0\nstore c 0\norder: kept\naccepted: event 1280: reference used again a 257 1\n",
+    },
+    Ending {
+        words: &["sms", "play", "--json", "--accepted"],
+        script: "|type a +1002 hi\n*449|carry 1\n|timeout a\n*1792|carry 3\n",
+        ends: "{\"accepted\":{\"means\":false,\"event\":2243,\"condition\":\"answer to an earlier submission\",\"phone\":\"a\"}}\n",
+    },
+    Ending {
+        words: &["sms", "play", "--json", "--orderly", "--accepted"],
+        script: "reject\n|type a +1002 hi\n*257|carry 1\ncarry 3\n|timeout a\n*1020|carry 1025\ncarry 1027\n",
+        ends: "{\"order\":{\"kept\":true}}\n{\"accepted\":{\"means\":false,\"event\":1280,\"condition\":\"reference used again\",\"phone\":\"a\",\"text\":257,\"segment\":1}}\n",
+    },
+];
