@@ -71,3 +71,8 @@ pub mod Promises
 pub mod Nowhere
 pub mod Called
 pub mod PuttingsOut
+pub mod HeldTold
+pub mod Tracing
+pub mod TracesKept
+pub mod Doubting
+pub mod Trusting

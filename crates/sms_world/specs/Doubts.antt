@@ -40,7 +40,7 @@ pub record FirstDoubt (first : Machine) (past : List (Event × Told)) (d : Doubt
   pub parts : past ≡ later ++ (event, told) ∷ earlier
   pub before : Machine
   pub honest : HonestRun first earlier before
-  pub shakes : Shakes d.ground before event
+  pub shakes : Shakes d.why before event
   pub number : d.event ≡ min (suc (length earlier)) (2 ^ 64 - 1)
 
 -- So far the run is honest at every phone; or this is its first doubt, and it is not.

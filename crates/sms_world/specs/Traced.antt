@@ -90,14 +90,22 @@ holds t phone reference recipient part ends =
           else t.held p r q;
     }
 
-abbrev pub seen_held : Traces → ℕ → Seen → Option Part → Traces
-seen_held t phone (Submits reject reference (Some recipient) (Some ends)) part =
+abbrev pub holds_if : Traces → ℕ → ℕ → Option ℕ → Option ℕ → Option Part → Traces
+holds_if t phone reference (Some recipient) (Some ends) part =
     holds t phone reference recipient part ends
-seen_held t phone _ part = t
+holds_if t phone reference (Some recipient) None part = t
+holds_if t phone reference None ends part = t
+
+abbrev pub submission_traced : Traces → ℕ → ℕ → Option ℕ → Option ℕ → Option Part → Told → Traces
+submission_traced t phone reference recipient ends part (Ok Held) =
+    holds_if t phone reference recipient ends part
+submission_traced t phone reference recipient ends part _ = t
 
 abbrev pub taken_traced : Traces → ℕ → Seen → Option Part → Told → Traces
-taken_traced t phone seen part (Ok Held) = seen_held t phone seen part
-taken_traced t phone seen part _ = t
+taken_traced t phone (Submits reject reference recipient ends) part told =
+    submission_traced t phone reference recipient ends part told
+taken_traced t phone (Answers tag) part told = t
+taken_traced t phone Other part told = t
 
 -- ---- an event
 
@@ -132,7 +140,7 @@ traced t reject (Inject place octets) told b put = t
 -- the event meets the conditions at every phone, or breaks this one
 abbrev pub IsGround : Option Ground → Machine → Event → Type 0
 IsGround None m event = IsHonest m event
-IsGround (Some ground) m event = Shakes ground m event
+IsGround (Some why) m event = Shakes why m event
 
 -- After each honest run of phones with different addresses, where the notes are right: what they tell
 -- of an event is so; and where it meets the conditions, they stay right.

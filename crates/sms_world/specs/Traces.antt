@@ -48,12 +48,32 @@ segment_up (Phone phone) origin = None
 abbrev pub trace_of : Sent → Trace
 trace_of x = record { segment = segment_up x.to x.origin; putting = x.putting }
 
--- what a packet to the centre is of, is of a text that was typed at its phone
-abbrev pub IsOfItsPhone : List Text → Place → Option Origin → Type 0
-IsOfItsPhone texts (Centre phone) (Some o) =
-    (t : Text) × (nth texts o.text ≡ Some t) × (t.phone ≡ phone)
-IsOfItsPhone texts (Centre phone) None = Unit {0}
-IsOfItsPhone texts (Phone phone) origin = Unit {0}
+-- the text that a submission is of was typed at its phone
+abbrev pub IsTypedThere : List Text → ℕ → Origin → Type 0
+IsTypedThere texts phone o = (t : Text) × (nth texts o.text ≡ Some t) × (t.phone ≡ phone)
+
+abbrev pub IsUnitThere : List Text → ℕ → Origin → TransferUnit → Type 0
+IsUnitThere texts phone o (Submit s) = IsTypedThere texts phone o
+IsUnitThere texts phone o (Deliver d) = Unit {0}
+IsUnitThere texts phone o OtherUnit = Unit {0}
+IsUnitThere texts phone o BadUnit = Unit {0}
+
+abbrev pub IsRelayThere : List Text → ℕ → Origin → Relay → Type 0
+IsRelayThere texts phone o (Transfer side unit) = IsUnitThere texts phone o unit
+IsRelayThere texts phone o (Answer side cause report) = Unit {0}
+IsRelayThere texts phone o UnknownType = Unit {0}
+IsRelayThere texts phone o Unreadable = Unit {0}
+
+abbrev pub IsMessageThere : List Text → ℕ → Origin → Message → Type 0
+IsMessageThere texts phone o (Data flag tag relay) = IsRelayThere texts phone o relay
+IsMessageThere texts phone o NotCp = Unit {0}
+IsMessageThere texts phone o (Note flag value) = Unit {0}
+IsMessageThere texts phone o (Tiny flag value) = Unit {0}
+
+abbrev pub IsOfItsPhone : List Text → Place → Option Origin → Message → Type 0
+IsOfItsPhone texts (Centre phone) (Some o) message = IsMessageThere texts phone o message
+IsOfItsPhone texts (Centre phone) None message = Unit {0}
+IsOfItsPhone texts (Phone phone) origin message = Unit {0}
 
 -- ---- accepted submissions
 
@@ -179,7 +199,7 @@ pub record AreTracesOf (t : Traces) (m : Machine) : Type 0 where
   pub few : (phone : ℕ) → (m.senders.sender phone).outs ≤ length m.sent
   pub held : (phone reference recipient : ℕ)
       → t.held phone reference recipient ≡ held_of m.centre.accepted phone reference recipient
-  pub own : AllByRecursion (λ x. IsOfItsPhone m.senders.texts x.to x.origin) m.sent
+  pub own : AllByRecursion (λ x. IsOfItsPhone m.senders.texts x.to x.origin x.message) m.sent
 
 -- ---- the test
 

@@ -30,5 +30,5 @@ pub struct Doubt {
     /// Its number among all events, counted from 1.
     pub event: u64,
     /// How it broke the condition.
-    pub ground: Ground,
+    pub why: Ground,
 }

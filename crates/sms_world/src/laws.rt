@@ -96,9 +96,7 @@ pub fn watching_goes_on()
 /// conditions under which `accepted` means accepted; and where it does, they stay right.
 pub fn traces_tell()
     ensures { TracesTell }
-{
-    laws_below();
-}
+{}
 
 /// What a world answers of its latest pushes and newest texts is so in each state that it stands
 /// for.

@@ -221,7 +221,8 @@ impl Notes {
         ensures senders { length self.new.senders.items ≡ length self.old.senders.items }
         ensures receivers { length self.new.receivers.items ≡ length self.old.receivers.items }
         ensures marks { self.new.marks ≡ self.old.marks }
-        ensures noted { AreAlike (holds (ledger_in self.old) now (origin_of_part part) (Some recipient))
+        ensures noted { AreAlike
+            (holds (ledger_in self.old) now (origin_of_part part) (Some recipient))
             (ledger_in self.new) }
     {
         let receiver = &mut self.receivers[recipient];

@@ -14,7 +14,7 @@ ghost use Rattle.sms_world.specs.World.Steps.{event_of, PutsMore, Steps};
 
 use crate::doubt::Doubt;
 use crate::fault::WorldFault;
-use crate::laws::{claims_hold, laws_below, traces_tell};
+use crate::laws::{claims_hold, laws_below, runs_are_determined, traces_tell};
 use crate::traces::TraceNotes;
 use crate::traces::trace::{Brought, brought_by};
 use crate::watched::WatchedWorld;
@@ -98,6 +98,7 @@ impl TrustedWorld {
             → self.new.watched.world.packets ≡ self.old.watched.world.packets }
     {
         traces_tell();
+        runs_are_determined();
         let number = self.watched.events().saturating_add(1);
         let brought = brought_by(self.alloc, self.watched.world(), event);
         let now = self.watched.world().clock();
@@ -154,10 +155,10 @@ fn doubt_after(
     if let Some(doubt) = first {
         return Some(doubt);
     }
-    let ground = notes.ground_at(now, event, brought)?;
+    let why = notes.ground_at(now, event, brought)?;
     Some(Doubt {
         event: number,
-        ground,
+        why,
     })
 }
 

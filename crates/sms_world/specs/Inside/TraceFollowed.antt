@@ -26,9 +26,9 @@ pub record AreTraceRows (n : TraceNotes) (world : WorldValue) : Type 0 where
 
 -- the doubt after an event, the number of which is this
 abbrev pub doubt_after : Option Doubt → ℕ → Option Ground → Option Doubt
-doubt_after (Some d) number ground = Some d
+doubt_after (Some d) number why = Some d
 doubt_after None number None = None
-doubt_after None number (Some ground) = Some (record { event = number; ground = ground })
+doubt_after None number (Some why) = Some (record { event = number; why = why })
 
 -- An honest run to a state that the old world stands for, an event that meets the conditions there,
 -- and the step of the world at it.
