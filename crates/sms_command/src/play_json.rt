@@ -180,8 +180,8 @@ impl Printed for Acceptance<'_> {
         if let Some(doubt) = self.doubt {
             let number = number_told(self.script, doubt.event);
             object.number_named("event", number);
-            object.text_named("condition", ground_text(doubt.ground));
-            put_bearer(object, self.script, doubt.ground);
+            object.text_named("condition", ground_text(doubt.why));
+            put_bearer(object, self.script, doubt.why);
         }
         object.close();
     }

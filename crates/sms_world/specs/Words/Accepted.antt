@@ -27,7 +27,7 @@ abbrev pub accepted_line : SettingsValue → Option Doubt → List ℕ
 accepted_line s None = codes "accepted: means accepted" ⊕ line_end
 accepted_line s (Some d) =
     codes "accepted: event " ⊕ decimal (number_told s d.event) ⊕ codes ": "
-    ⊕ ground_text d.ground ⊕ bearer_text s d.ground ⊕ line_end
+    ⊕ ground_text d.why ⊕ bearer_text s d.why ⊕ line_end
 
 -- the line that tells of the order, where it is asked for
 abbrev pub order_if : Bool → SettingsValue → Option Breach → List ℕ

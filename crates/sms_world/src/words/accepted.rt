@@ -58,8 +58,8 @@ pub fn accepted_line(
         return "accepted: means accepted\n".to_string(alloc);
     };
     let number = number_told(script, doubt.event);
-    let words = ground_text(doubt.ground);
-    let bearer = bearer_text(alloc, script, doubt.ground)?;
+    let words = ground_text(doubt.why);
+    let bearer = bearer_text(alloc, script, doubt.why)?;
     format!(in alloc; "accepted: event {number}: {words}{bearer}\n")
 }
 
