@@ -188,8 +188,8 @@ impl Printed for Acceptance<'_> {
 }
 
 /// Adds the phone to which an answer came, or the segment that was brought.
-fn put_bearer(object: &mut Object, script: &Script, ground: Ground) {
-    match ground {
+fn put_bearer(object: &mut Object, script: &Script, why: Ground) {
+    match why {
         Ground::AnswerToAnother { phone } => object.text_named("phone", script.name(phone)),
         Ground::ReferenceUsedAgain { segment } => put_segment(object, script, Some(segment)),
         Ground::Injected => {}
