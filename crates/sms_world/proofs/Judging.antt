@@ -25,7 +25,7 @@ use Rattle.sms_world.specs.Machine.Event.{Event}
 use Rattle.sms_world.specs.Machine.Step.{Run}
 use Rattle.sms_world.specs.Network.{conduct_with, ends_of}
 use Rattle.sms_world.specs.Playing.{clock_events, script_past, HappensAsRun, ToldStoresStand}
-use Rattle.sms_world.specs.Playing.Accepted.{AreVerdicts, JudgesAccepted}
+use Rattle.sms_world.specs.Playing.Trusted.{AreVerdicts, JudgesAccepted}
 use Rattle.sms_world.specs.Playing.Order.{IsJudged, JudgesBy, Judges, TellsBy}
 use Rattle.sms_world.specs.Told.{Told}
 use Rattle.sms_world.specs.Trusted.{TrustedValue, TrustedBy, AcceptedIsTold, AcceptedMeansAccepted}
@@ -114,7 +114,7 @@ module _ {N : Type 0} (world_of : N → WorldValue) (By : N → Limits → List 
       )
 
   -- where all was played there is one
-  pub no_network : (old new before now : Option (List ℕ)) (s : SettingsValue) (network : Option N)
+  no_network : (old new before now : Option (List ℕ)) (s : SettingsValue) (network : Option N)
       → network ≡ None → Leaves Here old new before now s network (Ok tt) → ⊥
   no_network old new before now s network none (p, settings, is) = let k : None ≡ Some p.network = sym none ∙ is in absurd cc
 
@@ -139,9 +139,18 @@ judged t happened world breach r told =
 pub judges : Below → ClaimsHold → RefusedOnlyWhereFull → ToldStoresStand → (old new before now : Option (List ℕ)) (s : SettingsValue) (network : Option WatchedValue) (w : WatchedValue) (breach : Option Breach)
     → network ≡ Some w → Leaves watched_conduct old new before now s network (Ok tt) → OrderIsTold w breach → Judges old new before now s breach
 judges law claims refused stores old new before now s network w breach =
-    judges_by (λ w. w.world) LedTo begun_stands IsJudged breach (λ w. OrderIsTold w breach)
+    judges_by (λ (w : WatchedValue). w.world) LedTo begun_stands IsJudged breach (λ (w : WatchedValue). OrderIsTold w breach)
     (λ t happened w order r led. judged t happened w.world breach r (order t.settings.limits t.settings.known.addresses _ r.last led))
     law claims refused stores old new before now s network w
+
+-- where all was played there is a world
+pub no_watched : (old new before now : Option (List ℕ)) (s : SettingsValue) (network : Option WatchedValue)
+    → network ≡ None → Leaves watched_conduct old new before now s network (Ok tt) → ⊥
+no_watched = no_network (λ (w : WatchedValue). w.world) LedTo
+
+pub no_trusted : (old new before now : Option (List ℕ)) (s : SettingsValue) (network : Option TrustedValue)
+    → network ≡ None → Leaves trusted_conduct old new before now s network (Ok tt) → ⊥
+no_trusted = no_network (λ (w : TrustedValue). w.watched.world) TrustedBy
 
 -- what a world tells
 abbrev TellsBoth : Verdicts → TrustedValue → Type 0
@@ -150,7 +159,7 @@ TellsBoth v w = OrderIsTold w.watched v.breach × AcceptedIsTold w v.doubt × Ac
 pub judges_accepted : Below → ClaimsHold → RefusedOnlyWhereFull → ToldStoresStand → (old new before now : Option (List ℕ)) (s : SettingsValue) (network : Option TrustedValue) (w : TrustedValue) (v : Verdicts)
     → network ≡ Some w → Leaves trusted_conduct old new before now s network (Ok tt) → TellsBoth v w → JudgesAccepted old new before now s v
 judges_accepted law claims refused stores old new before now s network w v =
-    judges_by (λ w. w.watched.world) (λ w limits phones past last. TrustedBy w limits phones past last) begun_trusted AreVerdicts v (TellsBoth v)
+    judges_by (λ (w : TrustedValue). w.watched.world) TrustedBy begun_trusted AreVerdicts v (TellsBoth v)
     (λ t happened w tells r by. record {
       order = judged t happened w.watched.world v.breach r (tells.0 t.settings.limits t.settings.known.addresses _ r.last by.led);
       told = tells.1 t.settings.limits t.settings.known.addresses _ r.last by;

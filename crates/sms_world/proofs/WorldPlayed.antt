@@ -140,7 +140,7 @@ module _ {N : Type 0} (world_of : N → WorldValue) (BeginsWith : Limits → Lis
     plays_there (Err (faults.Script n why)) s = in_line (faults.Script n why) s
 
 pub plays_watched : (old new before now : Option (List ℕ)) (result : Result (Unit {0}) PlayFault) → Plays watched_conduct old new before now result → Plays conduct old new before now result
-plays_watched = plays_there (λ w. w.world) BeginsWatched GoesOnWatched begun_stands
+plays_watched = plays_there (λ (w : WatchedValue). w.world) BeginsWatched GoesOnWatched begun_stands
 
 pub plays_trusted : (old new before now : Option (List ℕ)) (result : Result (Unit {0}) PlayFault) → Plays trusted_conduct old new before now result → Plays conduct old new before now result
-plays_trusted = plays_there (λ w. w.watched.world) BeginsTrusted GoesOnTrusted begun_trusted
+plays_trusted = plays_there (λ (w : TrustedValue). w.watched.world) BeginsTrusted GoesOnTrusted begun_trusted

@@ -1,7 +1,7 @@
 -- A world of which it is told whether `accepted` means accepted, as contracts see it: what has led
 -- to it, and what it tells.
 pub mod Network
-use Rattle.std.specs.Prelude.{◌≡◌, ℕ, List, [], ◌∷◌, Option, None}
+use Rattle.std.specs.Prelude.{◌≡◌, ℕ, List, [], ◌∷◌, Option, Some, None}
 use Rattle.sms_field.specs.Address.Value.{AddressValue}
 use Rattle.sms_script.specs.declared.script.limits.Limits.{Limits}
 use Rattle.sms_world.specs.declared.doubt.Doubt.{Doubt}

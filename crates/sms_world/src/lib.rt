@@ -40,6 +40,6 @@ pub use sms_script::{
 pub use trusted::TrustedWorld;
 pub use watched::WatchedWorld;
 pub use watched_run::run_watched;
-pub use words::accepted::{accepted_line, ground_text, verdict_lines};
+pub use words::doubts::{accepted_line, ground_text, verdict_lines};
 pub use words::order::{disorder_text, number_told, order_line};
 pub use world::World;

@@ -4,4 +4,4 @@ use Rattle.sms_world.specs.Network.{conduct_with}
 use Rattle.sms_world.specs.Trusted.{TrustedValue, BeginsTrusted, GoesOnTrusted}
 
 abbrev pub trusted_conduct : Conduct TrustedValue
-trusted_conduct = conduct_with (λ w. w.watched.world) BeginsTrusted GoesOnTrusted
+trusted_conduct = conduct_with (λ (w : TrustedValue). w.watched.world) BeginsTrusted GoesOnTrusted

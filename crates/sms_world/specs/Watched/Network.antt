@@ -4,4 +4,4 @@ use Rattle.sms_world.specs.Network.{conduct_with}
 use Rattle.sms_world.specs.Watched.{WatchedValue, BeginsWatched, GoesOnWatched}
 
 abbrev pub watched_conduct : Conduct WatchedValue
-watched_conduct = conduct_with (λ w. w.world) BeginsWatched GoesOnWatched
+watched_conduct = conduct_with (λ (w : WatchedValue). w.world) BeginsWatched GoesOnWatched

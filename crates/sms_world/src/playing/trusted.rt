@@ -5,7 +5,7 @@ ghost use Rattle.sms_script.specs.Play.{Plays};
 ghost use Rattle.sms_script.specs.declared.fault.PlayFault.TheVariants.{Read, Write};
 ghost use Rattle.sms_script.specs.Script.{before_all};
 ghost use Rattle.sms_world.specs.Network.{conduct};
-ghost use Rattle.sms_world.specs.Playing.Accepted.{JudgesAccepted, PlaysWithAccepted};
+ghost use Rattle.sms_world.specs.Playing.Trusted.{JudgesAccepted, PlaysWithAccepted};
 ghost use Rattle.sms_world.specs.Playing.Order.{as_played};
 
 use crate::doubt::Doubt;
@@ -13,7 +13,7 @@ use crate::laws::{claims_hold, deliveries_are_refused_only_where_full, laws_belo
 use crate::order::Breach;
 use crate::playing::told_stores_stand;
 use crate::trusted::TrustedWorld;
-use crate::words::accepted::verdict_lines;
+use crate::words::doubts::verdict_lines;
 use sms_script::{PlayFault, Script, Sink, Source, play_on, write_whole};
 use std::alloc::Global;
 

@@ -3,10 +3,9 @@ use Rattle.std.proofs.lemmas.Result.{err_from_is_err_and}
 use Rattle.sms_script.specs.Play.{Plays}
 use Rattle.sms_script.specs.declared.fault.PlayFault.{PlayFault}
 use Rattle.sms_world.specs.Network.{conduct}
-use Rattle.sms_world.specs.Watched.{LedTo}
 use Rattle.sms_world.specs.declared.order.Breach.{Breach}
 use Rattle.sms_world.specs.Playing.Order.{as_played}
-use Rattle.sms_world.proofs.Judging.{judges, no_network}
+use Rattle.sms_world.proofs.Judging.{judges, no_watched}
 use Rattle.sms_world.proofs.Transcribing.{transcribes}
 use Rattle.sms_world.proofs.WorldPlayed.{plays_watched}
 use Rattle.sms_world.proofs.playing.play_watched.Goals as goal
@@ -43,4 +42,4 @@ returns-in_default-clause-transcribes g c =
 
 pub returns-in_default-clause-judges : goal.returns-in_default-clause-judges
 returns-in_default-clause-judges g c =
-    absurd (no_network (λ w. w.world) LedTo _ _ _ _ c.play_on.new.script c.play_on.new.network c.in_default.is c.in_ok-play_on.ensures.leaves)
+    absurd (no_watched _ _ _ _ c.play_on.new.script c.play_on.new.network c.in_default.is c.in_ok-play_on.ensures.leaves)

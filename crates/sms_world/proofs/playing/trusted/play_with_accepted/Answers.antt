@@ -1,8 +1,8 @@
 use Rattle.std.proofs.Common.{◌∙◌, ap, sym, subst, Err, Ok, Result, inl, inr}
 use Rattle.std.proofs.lemmas.Result.{err_from_is_err_and}
 use Rattle.sms_script.specs.declared.fault.PlayFault.{PlayFault}
-use Rattle.sms_world.specs.Playing.Accepted.{AreVerdicts, PlaysWithAccepted}
-use Rattle.sms_world.specs.Words.Accepted.{verdict_lines}
+use Rattle.sms_world.specs.Playing.Trusted.{AreVerdicts, PlaysWithAccepted}
+use Rattle.sms_world.specs.Words.Doubts.{verdict_lines}
 use Rattle.sms_world.proofs.Judging.{tells, tells_front, tells_nothing}
 use Rattle.sms_world.proofs.playing.trusted.play_with_accepted.Goals as goal
 

@@ -4,7 +4,7 @@ ghost use Rattle.std.specs.Prelude.{◌≡◌, IfOk, codes};
 ghost use Rattle.std.specs.String.{string_bytes};
 ghost use Rattle.sms_script.specs.Meaning.Known.{name_of};
 ghost use Rattle.sms_script.specs.Transcript.Appended.{◌⊕◌};
-ghost use Rattle.sms_world.specs.Words.Accepted.{ground_text, bearer_text, accepted_line, order_if, verdict_lines};
+ghost use Rattle.sms_world.specs.Words.Doubts.{ground_text, bearer_text, accepted_line, order_if, verdict_lines};
 
 use crate::doubt::{Doubt, Ground};
 use crate::order::Breach;

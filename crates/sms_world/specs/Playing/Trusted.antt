@@ -8,7 +8,7 @@ use Rattle.sms_world.specs.Doubts.{IsMeant}
 use Rattle.sms_world.specs.Machine.{start}
 use Rattle.sms_world.specs.Playing.{script_past}
 use Rattle.sms_world.specs.Playing.Order.{IsJudged, JudgesBy, PlaysAndTells}
-use Rattle.sms_world.specs.Words.Accepted.{verdict_lines}
+use Rattle.sms_world.specs.Words.Doubts.{verdict_lines}
 use Rattle.sms_world.specs.World.Claims.{ShownWereAccepted}
 
 -- So the events of a script happened, this is its transcript, and this is told of the order of this
