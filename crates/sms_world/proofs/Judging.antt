@@ -129,12 +129,9 @@ judged t happened world breach r told =
       run = r;
       text_is = refl;
       told = told;
-      headline = λ none. r.promises.headline (subst Told_so none told);
-      stores = λ none. r.stores (subst Told_so none told);
+      headline = λ none. r.promises.headline (subst (IsTold (start t.settings.limits t.settings.known.addresses) (script_past t.settings t.events r.at_clock r.told) r.last) none told);
+      stores = λ none. r.stores (subst (IsTold (start t.settings.limits t.settings.known.addresses) (script_past t.settings t.events r.at_clock r.told) r.last) none told);
     }
-  where
-    abbrev Told_so : Option Breach → Type 0
-    Told_so = IsTold (start t.settings.limits t.settings.known.addresses) (script_past t.settings t.events r.at_clock r.told) r.last
 
 pub judges : Below → ClaimsHold → RefusedOnlyWhereFull → ToldStoresStand → (old new before now : Option (List ℕ)) (s : SettingsValue) (network : Option WatchedValue) (w : WatchedValue) (breach : Option Breach)
     → network ≡ Some w → Leaves watched_conduct old new before now s network (Ok tt) → OrderIsTold w breach → Judges old new before now s breach
@@ -158,6 +155,7 @@ TellsBoth v w = OrderIsTold w.watched v.breach × AcceptedIsTold w v.doubt × Ac
 
 pub judges_accepted : Below → ClaimsHold → RefusedOnlyWhereFull → ToldStoresStand → (old new before now : Option (List ℕ)) (s : SettingsValue) (network : Option TrustedValue) (w : TrustedValue) (v : Verdicts)
     → network ≡ Some w → Leaves trusted_conduct old new before now s network (Ok tt) → TellsBoth v w → JudgesAccepted old new before now s v
+unfolding judged
 judges_accepted law claims refused stores old new before now s network w v =
     judges_by (λ (w : TrustedValue). w.watched.world) TrustedBy begun_trusted AreVerdicts v (TellsBoth v)
     (λ t happened w tells r by. record {
