@@ -69,7 +69,7 @@ wanted law world event way text is = λ m s. ([], m, want_of_memory law world m 
 
 -- ---- the tables say what the notes do
 
-sender_row : (xs : List SenderNotes) (p : ℕ) → sender_in_row (slice_get (map sender_note xs) p) ≡ sender_at (slice_get xs p)
+pub sender_row : (xs : List SenderNotes) (p : ℕ) → sender_in_row (slice_get (map sender_note xs) p) ≡ sender_at (slice_get xs p)
 sender_row [] p = refl
 sender_row (x ∷ xs) zero = refl
 sender_row (x ∷ xs) (suc p) = sender_row xs p

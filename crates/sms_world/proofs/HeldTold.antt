@@ -2,7 +2,7 @@
 use Rattle.std.proofs.Common.{◌≡◌, ℕ, zero, suc, ◌<◌, ◌≤◌, max, Bool, true, false, cond, not, ◌&&◌, ◌||◌, eqb, ltb, leb, List, [], ◌∷◌, Option, Some, None, refl, sym, ap, ◌∙◌, subst, arith, Contains}
 use Rattle.std.specs.List.{AllByRecursion}
 use Rattle.std.specs.Option.{option_map}
-use Rattle.std.proofs.lemmas.Bool.{and_parts, or_parts, or_left, or_right, eqb-true, eq-eqb, ltb-true, ltb-false, leb-true, leb-false, lt-ltb}
+use Rattle.std.proofs.lemmas.Bool.{and_parts, or_parts, or_left, or_right, eqb-true, eq-eqb, ltb-true, ltb-false, leb-true, leb-false, lt-ltb, le-ltb}
 use Rattle.sms_centre.specs.Centre.State.{Acceptance}
 use Rattle.sms_world.specs.declared.notes.mark.Part.{Part}
 use Rattle.sms_world.specs.Traces.{HeldNote, part_of, same_part, adds, held_of, is_other_held}
@@ -84,10 +84,7 @@ pub adds_tell : (held : Option HeldNote) (part : Option Part) (end : ℕ) (other
 adds_tell None part end other now b = go (same_part part other)
   where
     go : (x : Bool) → cond x (ltb now 0) (ltb now end) ≡ ((not x && ltb now end) || false)
-    go true = zero_none now
-      where
-        zero_none : (k : ℕ) → ltb k 0 ≡ false
-        zero_none k = refl
+    go true = le-ltb now 0 (omega arith)
     go false = or_none (ltb now end)
       where
         or_none : (x : Bool) → x ≡ (x || false)
@@ -165,27 +162,25 @@ has_other (a ∷ past) phone reference recipient part now =
 
 held_bounded : (past : List Acceptance) (phone reference recipient : ℕ) → Bounded (held_of past phone reference recipient)
 held_bounded [] phone reference recipient = tt
-held_bounded (a ∷ past) phone reference recipient = go (has_key a phone reference recipient)
+held_bounded (a ∷ past) phone reference recipient = go (has_key a phone reference recipient) (held_bounded past phone reference recipient)
   where
-    go : (b : Bool) → Bounded (cond b (Some (adds (held_of past phone reference recipient) (option_map part_of a.origin) a.ends)) (held_of past phone reference recipient))
-    go true = adds_bounded (held_of past phone reference recipient) (option_map part_of a.origin) a.ends (held_bounded past phone reference recipient)
-    go false = held_bounded past phone reference recipient
+    go : (b : Bool) → Bounded (held_of past phone reference recipient)
+        → Bounded (cond b (Some (adds (held_of past phone reference recipient) (option_map part_of a.origin) a.ends)) (held_of past phone reference recipient))
+    go true ih = adds_bounded (held_of past phone reference recipient) (option_map part_of a.origin) a.ends ih
+    go false ih = ih
 
 held_told : (past : List Acceptance) (phone reference recipient : ℕ) (part : Option Part) (now : ℕ)
     → is_other_held (held_of past phone reference recipient) part now ≡ has_other past phone reference recipient part now
 held_told [] phone reference recipient part now = refl
-held_told (a ∷ past) phone reference recipient part now = go (has_key a phone reference recipient)
+held_told (a ∷ past) phone reference recipient part now = go (held_told past phone reference recipient part now) (has_key a phone reference recipient)
   where
-    ih : is_other_held (held_of past phone reference recipient) part now ≡ has_other past phone reference recipient part now
-    ih = held_told past phone reference recipient part now
-
-    go : (b : Bool)
+    go : is_other_held (held_of past phone reference recipient) part now ≡ has_other past phone reference recipient part now → (b : Bool)
         → is_other_held (cond b (Some (adds (held_of past phone reference recipient) (option_map part_of a.origin) a.ends)) (held_of past phone reference recipient)) part now
         ≡ ((b && (not (same_part (option_map part_of a.origin) part) && ltb now a.ends)) || has_other past phone reference recipient part now)
-    go true =
+    go ih true =
         adds_tell (held_of past phone reference recipient) (option_map part_of a.origin) a.ends part now (held_bounded past phone reference recipient)
         ∙ ap (λ x. (not (same_part (option_map part_of a.origin) part) && ltb now a.ends) || x) ih
-    go false = ih
+    go ih false = ih
 
 -- one of another segment that has not ended
 pub record OtherHeld (past : List Acceptance) (phone reference recipient : ℕ) (part : Option Part) (now : ℕ) : Type 0 where
@@ -201,11 +196,12 @@ some_other : (past : List Acceptance) (phone reference recipient : ℕ) (part : 
     → has_other past phone reference recipient part now ≡ true → OtherHeld past phone reference recipient part now
 some_other [] phone reference recipient part now e = cc
 some_other (a ∷ past) phone reference recipient part now e =
-    go (has_key a phone reference recipient && (not (same_part (option_map part_of a.origin) part) && ltb now a.ends)) refl e
+    go (some_other past phone reference recipient part now) (has_key a phone reference recipient && (not (same_part (option_map part_of a.origin) part) && ltb now a.ends)) refl e
   where
-    go : (b : Bool) → (has_key a phone reference recipient && (not (same_part (option_map part_of a.origin) part) && ltb now a.ends)) ≡ b
+    go : (has_other past phone reference recipient part now ≡ true → OtherHeld past phone reference recipient part now)
+        → (b : Bool) → (has_key a phone reference recipient && (not (same_part (option_map part_of a.origin) part) && ltb now a.ends)) ≡ b
         → (b || has_other past phone reference recipient part now) ≡ true → OtherHeld (a ∷ past) phone reference recipient part now
-    go true f g =
+    go ih true f g =
         let p = and_parts (has_key a phone reference recipient) (not (same_part (option_map part_of a.origin) part) && ltb now a.ends) f in
         let k = and_parts (eqb a.phone phone) (eqb a.submission.reference reference && eqb a.recipient recipient) p.0 in
         let r = and_parts (eqb a.submission.reference reference) (eqb a.recipient recipient) k.1 in
@@ -223,8 +219,8 @@ some_other (a ∷ past) phone reference recipient part now e =
         not_true : (b : Bool) → not b ≡ true → b ≡ false
         not_true false e = refl
         not_true true e = cc
-    go false f g =
-        let h = some_other past phone reference recipient part now g in
+    go ih false f g =
+        let h = ih g in
         record { a = h.a; there = contains_more a past h.a h.there; phone_is = h.phone_is; reference_is = h.reference_is; recipient_is = h.recipient_is; other = h.other; lasts = h.lasts }
 
 no_other : (past : List Acceptance) (phone reference recipient : ℕ) (part : Option Part) (now : ℕ)

@@ -76,3 +76,5 @@ pub mod Tracing
 pub mod TracesKept
 pub mod Doubting
 pub mod Trusting
+pub mod TraceBack
+pub mod TraceRead

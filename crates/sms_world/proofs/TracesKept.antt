@@ -68,7 +68,7 @@ map_entered f [] xs = refl
 map_entered f (y ∷ ys) xs = map_entered f ys (y ∷ xs)
 
 pub length_entered : {X : Type 0} (ys xs : List X) → length (entered ys xs) ≡ length ys + length xs
-length_entered [] xs = refl
+length_entered [] xs = omega arith
 length_entered (y ∷ ys) xs = let e = length_entered ys (y ∷ xs) in omega (arith, e)
 
 sent_more : (old : List Trace) (sent put : List Sent) (more : List Trace) → old ≡ map trace_of sent → more ≡ map trace_of put
@@ -361,6 +361,11 @@ module _ (t : Traces) (c : CentreState) (phones : List AddressValue) (now phone 
   receives_after limit (Data true tag UnknownType) = h
   receives_after limit (Data true tag Unreadable) = h
 
+abbrev SameBut : Traces → ℕ → ℕ → Option ℕ → Option ℕ → Option Part → Told → Type 0
+SameBut t phone reference recipient ends part v =
+    ((submission_traced t phone reference recipient ends part v).sent ≡ t.sent) × ((submission_traced t phone reference recipient ends part v).numbers ≡ t.numbers)
+    × ((p : ℕ) → (submission_traced t phone reference recipient ends part v).sender p ≡ t.sender p) × ((p : ℕ) → (submission_traced t phone reference recipient ends part v).outs p ≡ t.outs p)
+
 -- what is noted of acceptances changes nothing else
 taken_same : (t : Traces) (phone : ℕ) (seen : Seen) (part : Option Part) (told : Told)
     → ((taken_traced t phone seen part told).sent ≡ t.sent) × ((taken_traced t phone seen part told).numbers ≡ t.numbers)
@@ -375,12 +380,7 @@ taken_same t phone (Submits reject reference recipient ends) part told = by told
     held (Some r) None = (refl, refl, (λ p. refl), (λ p. refl))
     held None e = (refl, refl, (λ p. refl), (λ p. refl))
 
-    abbrev Same : Told → Type 0
-    Same v =
-        ((submission_traced t phone reference recipient ends part v).sent ≡ t.sent) × ((submission_traced t phone reference recipient ends part v).numbers ≡ t.numbers)
-        × ((p : ℕ) → (submission_traced t phone reference recipient ends part v).sender p ≡ t.sender p) × ((p : ℕ) → (submission_traced t phone reference recipient ends part v).outs p ≡ t.outs p)
-
-    by : (v : Told) → Same v
+    by : (v : Told) → SameBut t phone reference recipient ends part v
     by (Ok outcome.Held) = held recipient ends
     by (Ok (outcome.Typed number)) = (refl, refl, (λ p. refl), (λ p. refl))
     by (Ok (outcome.Segment number segment)) = (refl, refl, (λ p. refl), (λ p. refl))

@@ -140,12 +140,12 @@ module _ (x : SenderState) (phone : ℕ) where
   typed_counted t =
       cond_both (eqb (length (x.sender phone).pending) 0) _ _
       (λ (p : Puts). Counted x phone (does (record { wide = x.wide; reject = x.reject; texts = t ∷ x.texts; sender = x.sender }) phone (outcome.Typed t.number) [] p))
-      (λ _. let c = puts_counted (t ∷ x.texts) phone (appended (x.sender phone) (length x.texts)) x.reject in given c.traces c.outs)
-      (λ _. given refl refl)
+      (λ _. let c = puts_counted (t ∷ x.texts) phone (appended (x.sender phone) (length x.texts)) x.reject in given (puts (t ∷ x.texts) phone (appended (x.sender phone) (length x.texts)) x.reject) c.traces c.outs)
+      (λ _. given (record { sent = []; sender = appended (x.sender phone) (length x.texts) }) refl refl)
     where
-      given : {p : Puts} → map trace_of p.sent ≡ called_traces (x.sender phone).outs (map mark_of p.sent) → p.sender.outs ≡ called_outs (x.sender phone).outs (map mark_of p.sent)
+      given : (p : Puts) → map trace_of p.sent ≡ called_traces (x.sender phone).outs (map mark_of p.sent) → p.sender.outs ≡ called_outs (x.sender phone).outs (map mark_of p.sent)
           → Counted x phone (does (record { wide = x.wide; reject = x.reject; texts = t ∷ x.texts; sender = x.sender }) phone (outcome.Typed t.number) [] p)
-      given {p} e o = record { traces = e; outs = ap (λ (v : Sender). v.outs) (changed_here x.sender phone p.sender) ∙ o; numbers = refl }
+      given p e o = record { traces = e; outs = ap (λ (v : Sender). v.outs) (changed_here x.sender phone p.sender) ∙ o; numbers = refl }
 
   pub composes_counted : (target : AddressValue) (characters : List ℕ) (pieces : List Units) → Counted x phone (composes x phone target characters pieces)
   unfolding composes

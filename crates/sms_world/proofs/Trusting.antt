@@ -26,16 +26,17 @@ use Rattle.sms_world.specs.Inside.Below.{Below}
 use Rattle.sms_world.specs.Inside.Asked.{way_at}
 use Rattle.sms_world.specs.Inside.NotesValue.{IsCounted}
 use Rattle.sms_world.specs.Inside.TraceFollowed.{AreTraceRows, doubt_after, HonestStep, FollowsTraces}
-use Rattle.sms_world.specs.Inside.TraceValue.{traces_in, IsBroughtFor, IsTraceFor, IsCountedAt, IsBroughtBy}
+use Rattle.sms_world.specs.Inside.TraceValue.{traces_in, trace_tables_in, IsBroughtFor, IsTraceFor, IsCountedAt, IsBroughtBy}
 use Rattle.sms_world.specs.Ledger.{SenderNote, SenderNoted}
 use Rattle.sms_world.specs.Machine.{Machine, start}
 use Rattle.sms_world.specs.Machine.Event.{Event, Compose, Carry, Timeout, Push, Tick, Inject}
 use Rattle.sms_world.specs.Machine.Next.{packet}
 use Rattle.sms_world.specs.Machine.Step.{Step, RunWith, Run}
 use Rattle.sms_world.specs.Told.{Told}
+use Rattle.sms_world.specs.TraceTables.{traces_of}
 use Rattle.sms_world.specs.Traced.{call_traced, with_traces, taken_traced, down_traced, way_traced, carry_traced, traced, IsGround, TracesTell}
 use Rattle.sms_world.specs.Traces.{Trace, Seen, Submits, Answers, Other, Brought, seen_of, brought_of, brought_to, brought_at, Traces, new_traces, TraceAlike, AreTracesOf, trace_at, seen_ground, carried_ground, ground_at}
-use Rattle.sms_world.specs.Trusted.{TrustedValue, TracesFollow, TrustedBy, ComesTrusted, IsTrusted, BeginsTrusted, GoesOnTrusted, AcceptedIsTold, AcceptedMeansAccepted}
+use Rattle.sms_world.specs.Trusted.{TrustedValue, TracesFollow, TrustsBy, ComesTrusted, IsTrusted, BeginsTrusted, GoesOnTrusted, AcceptedIsTold, AcceptedMeansAccepted}
 use Rattle.sms_world.specs.Watched.{WatchedValue, LedTo, IsWatched, ComesOf, BeginsWatched, GoesOnWatched}
 use Rattle.sms_world.specs.World.Claims.{AcceptedWereAccepted}
 use Rattle.sms_world.specs.World.Parties.{place_at}
@@ -49,6 +50,7 @@ use Rattle.sms_world.proofs.Replaced.{not_changed}
 use Rattle.sms_world.proofs.Counted.{few_accepted}
 use Rattle.sms_world.proofs.Factual.{as_many as as_many_packets, put_nothing, how_many, phone_there, goes_so}
 use Rattle.sms_world.proofs.FewOut.{step_few}
+use Rattle.sms_world.proofs.Followed.{sender_row}
 use Rattle.sms_world.proofs.Fitting.{run_fits}
 use Rattle.sms_world.proofs.Stamped.{run_stamped}
 use Rattle.sms_world.proofs.TracesKept.{acts_right}
@@ -176,15 +178,9 @@ module _ (law : TracesTell) (determined : RunsAreDetermined) where
       (steps : Steps event old.world told new.world) (goes : GoesOnWatched event old told new) (brings : IsBroughtBy old.world event brought)
       (number : ℕ) (counts : number ≡ min (old.events + 1) (2 ^ 64 - 1)) (is : after ≡ doubt_after doubt number (ground_at t old.world.clock event brought))
       (follows : after ≡ None → FollowsTraces event old.world t told new.world u) where
-    abbrev Old : TrustedValue
-    Old = record { watched = old; notes = t; doubt = doubt }
-
-    abbrev New : TrustedValue
-    New = record { watched = new; notes = u; doubt = after }
-
     pub goes_by : (limits : Limits) (phones : List AddressValue) (past : List (Event × Told)) (last : Machine) → Run (start limits phones) past last
-        → TrustedBy (record { watched = old; notes = t; doubt = doubt }) limits phones past last
-        → ComesTrusted limits phones ((event, told) ∷ past) (record { watched = new; notes = u; doubt = after })
+        → TrustsBy old t doubt limits phones past last
+        → (n : Machine) × Run (start limits phones) ((event, told) ∷ past) n × TrustsBy new u after limits phones ((event, told) ∷ past) n
     goes_by limits phones past last run by = (
       s.1,
       on,
@@ -256,13 +252,35 @@ module _ (law : TracesTell) (determined : RunsAreDetermined) where
                 (sym (is ∙ (ap (λ v. doubt_after v number (ground_at t old.world.clock event brought)) f ∙ ap (doubt_after None number) k)))
                 (doubts limits phones past last run event told s.1 number g so.0 (subst (λ v. IsGround v last event) k so.2) counted)
 
-    pub goes_trusted : GoesOnTrusted event (record { watched = old; notes = t; doubt = doubt }) told (record { watched = new; notes = u; doubt = after })
-    goes_trusted limits phones past c = goes_by limits phones past c.0 c.1 c.2
+-- ---- in terms of the tables
 
-    pub stays_trusted : IsTrusted (record { watched = old; notes = t; doubt = doubt }) → IsTrusted (record { watched = new; notes = u; doubt = after })
-    stays_trusted h =
-        let r = goes_by h.limits h.phones h.past h.last h.by.led.watches.run h.by in
-        record { limits = h.limits; phones = h.phones; past = (event, told) ∷ h.past; last = r.0; by = r.2 }
+trusts_alike : (watched : WatchedValue) (t u : Traces) (doubt : Option Doubt) (limits : Limits) (phones : List AddressValue) (past : List (Event × Told)) (last : Machine) → TraceAlike t u
+    → TrustsBy watched t doubt limits phones past last → TrustsBy watched u doubt limits phones past last
+trusts_alike watched t u None limits phones past last a h = record { led = h.led; tells = h.tells; notes = alike_right t u last a h.notes }
+trusts_alike watched t u (Some d) limits phones past last a h = record { led = h.led; tells = h.tells; notes = tt }
+
+to_tables : (n : TraceNotes) → TraceAlike (traces_in n) (traces_of (trace_tables_in n))
+to_tables n = record { sent = refl; numbers = refl; sender = λ p. sender_row n.senders.items p; outs = λ p. refl; held = λ p r q. refl }
+
+module _ (law : TracesTell) (determined : RunsAreDetermined) (old new : WatchedValue) (before later : TraceNotes) (doubt after : Option Doubt) (event : Event) (told : Told) (brought : Option Brought)
+    (steps : Steps event old.world told new.world) (goes : GoesOnWatched event old told new) (brings : IsBroughtBy old.world event brought)
+    (number : ℕ) (counts : number ≡ min (old.events + 1) (2 ^ 64 - 1)) (is : after ≡ doubt_after doubt number (ground_at (traces_in before) old.world.clock event brought))
+    (follows : after ≡ None → FollowsTraces event old.world (traces_in before) told new.world (traces_in later)) where
+  goes_tables : (limits : Limits) (phones : List AddressValue) (past : List (Event × Told)) (last : Machine) → Run (start limits phones) past last
+      → TrustsBy old (traces_of (trace_tables_in before)) doubt limits phones past last
+      → (n : Machine) × Run (start limits phones) ((event, told) ∷ past) n × TrustsBy new (traces_of (trace_tables_in later)) after limits phones ((event, told) ∷ past) n
+  goes_tables limits phones past last run by =
+      let r = goes_by law determined old new (traces_in before) (traces_in later) doubt after event told brought steps goes brings number counts is follows limits phones past last run
+      (trusts_alike old (traces_of (trace_tables_in before)) (traces_in before) doubt limits phones past last (flip (traces_in before) (traces_of (trace_tables_in before)) (to_tables before)) by) in
+      (r.0, r.1, trusts_alike new (traces_in later) (traces_of (trace_tables_in later)) after limits phones ((event, told) ∷ past) r.0 (to_tables later) r.2)
+
+  pub goes_trusted : GoesOnTrusted event (record { watched = old; notes = trace_tables_in before; doubt = doubt }) told (record { watched = new; notes = trace_tables_in later; doubt = after })
+  goes_trusted limits phones past c = goes_tables limits phones past c.0 c.1 c.2
+
+  pub stays_trusted : IsTrusted (record { watched = old; notes = trace_tables_in before; doubt = doubt }) → IsTrusted (record { watched = new; notes = trace_tables_in later; doubt = after })
+  stays_trusted h =
+      let r = goes_tables h.limits h.phones h.past h.last h.by.led.watches.run h.by in
+      record { limits = h.limits; phones = h.phones; past = (event, told) ∷ h.past; last = r.0; by = r.2 }
 
 -- ---- a fault
 
@@ -397,19 +415,20 @@ few_new below old new m event told s steps =
 
 -- ---- its beginning, and what it tells
 
-module _ (limits : Limits) (phones : List AddressValue) (w : WatchedValue) (t : Traces) (alike : TraceAlike new_traces t) (begins : BeginsWatched limits phones w) where
-  begun : TrustedBy (record { watched = w; notes = t; doubt = None }) limits phones [] begins.0
+module _ (limits : Limits) (phones : List AddressValue) (w : WatchedValue) (notes : TraceNotes) (alike : TraceAlike new_traces (traces_in notes)) (begins : BeginsWatched limits phones w) where
+  begun : TrustsBy w (traces_of (trace_tables_in notes)) None limits phones [] begins.0
   begun =
       record {
         led = begins.2;
         tells = begins.1;
-        notes = subst (AreTracesOf t) begins.1 (alike_right new_traces t (start limits phones) alike (new_right limits phones));
+        notes = subst (AreTracesOf (traces_of (trace_tables_in notes))) begins.1
+            (alike_right (traces_in notes) (traces_of (trace_tables_in notes)) (start limits phones) (to_tables notes) (alike_right new_traces (traces_in notes) (start limits phones) alike (new_right limits phones)));
       }
 
-  pub begins_trusted : BeginsTrusted limits phones (record { watched = w; notes = t; doubt = None })
+  pub begins_trusted : BeginsTrusted limits phones (record { watched = w; notes = trace_tables_in notes; doubt = None })
   begins_trusted = (begins.0, begins.1, begun)
 
-  pub new_trusted : IsTrusted (record { watched = w; notes = t; doubt = None })
+  pub new_trusted : IsTrusted (record { watched = w; notes = trace_tables_in notes; doubt = None })
   new_trusted = record { limits = limits; phones = phones; past = []; last = begins.0; by = begun }
 
 pub told_so : (w : TrustedValue) → AcceptedIsTold w w.doubt

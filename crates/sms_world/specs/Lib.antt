@@ -17,6 +17,7 @@ pub mod Breaches
 pub mod Watched
 pub mod Doubts
 pub mod Traces
+pub mod TraceTables
 pub mod Traced
 pub mod Trusted
 pub mod Accepted

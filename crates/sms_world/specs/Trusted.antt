@@ -10,6 +10,7 @@ use Rattle.sms_world.specs.Machine.{Machine, start}
 use Rattle.sms_world.specs.Machine.Event.{Event}
 use Rattle.sms_world.specs.Machine.Step.{Run}
 use Rattle.sms_world.specs.Told.{Told}
+use Rattle.sms_world.specs.TraceTables.{TraceTables, traces_of}
 use Rattle.sms_world.specs.Traces.{Traces, AreTracesOf}
 use Rattle.sms_world.specs.Watched.{WatchedValue, LedTo}
 use Rattle.sms_world.specs.World.Claims.{ShownWereAccepted}
@@ -18,7 +19,7 @@ pub record TrustedValue : Type 0 where
   -- the world, and what is told of its order
   pub watched : WatchedValue
   -- what is noted of the events besides
-  pub notes : Traces
+  pub notes : TraceTables
   -- the first after which `accepted` need not mean accepted
   pub doubt : Option Doubt
 
@@ -29,11 +30,16 @@ TracesFollow (Some d) t m = Unit {0}
 
 -- These events, each with its answer, the newest first, have led to the watched world; and this is
 -- told of them.
-pub record TrustedBy (w : TrustedValue) (limits : Limits) (phones : List AddressValue)
-    (past : List (Event × Told)) (last : Machine) : Type 0 where
-  pub led : LedTo w.watched limits phones past last
-  pub tells : IsMeant (start limits phones) past last w.doubt
-  pub notes : TracesFollow w.doubt w.notes last
+pub record TrustsBy (watched : WatchedValue) (t : Traces) (doubt : Option Doubt) (limits : Limits)
+    (phones : List AddressValue) (past : List (Event × Told)) (last : Machine) : Type 0 where
+  pub led : LedTo watched limits phones past last
+  pub tells : IsMeant (start limits phones) past last doubt
+  pub notes : TracesFollow doubt t last
+
+abbrev pub TrustedBy : TrustedValue → Limits → List AddressValue → List (Event × Told) → Machine
+    → Type 0
+TrustedBy w limits phones past last =
+    TrustsBy w.watched (traces_of w.notes) w.doubt limits phones past last
 
 -- There is such a run, which is the one of these events and answers.
 abbrev pub ComesTrusted : Limits → List AddressValue → List (Event × Told) → TrustedValue → Type 0

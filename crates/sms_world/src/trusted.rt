@@ -39,14 +39,14 @@ pub struct TrustedWorld {
 
 impl Model for TrustedWorld {
     ghost use Rattle.sms_world.specs.Inside.TraceFollowed.{AreTraceRows};
-    ghost use Rattle.sms_world.specs.Inside.TraceValue.{traces_in};
+    ghost use Rattle.sms_world.specs.Inside.TraceValue.{trace_tables_in};
     ghost use Rattle.sms_world.specs.Trusted.{TrustedValue, IsTrusted};
 
     ghost Value = { TrustedValue };
 
     ghost view = { λ w. record {
       watched = w.watched;
-      notes = traces_in w.notes;
+      notes = trace_tables_in w.notes;
       doubt = w.doubt;
     } };
 
@@ -54,7 +54,7 @@ impl Model for TrustedWorld {
         AreTraceRows w.notes w.watched.world
         × IsTrusted (record {
           watched = w.watched;
-          notes = traces_in w.notes;
+          notes = trace_tables_in w.notes;
           doubt = w.doubt;
         }) };
 }

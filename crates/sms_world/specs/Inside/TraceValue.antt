@@ -1,30 +1,21 @@
 -- A reader may pass this by: contracts of private functions, and proofs, alone cite it.
 --
 -- What is noted of packets and acceptances, as contracts see it.
-use Rattle.std.specs.Prelude.{◌≡◌, ℕ, ◌+◌, ◌-◌, ◌^◌, ◌≤◌, ◌<◌, Bool, if◌then◌else◌, List, [], ◌∷◌, ◌++◌, length, option_to_list, Option, Some, None, slice_get}
+use Rattle.std.specs.Prelude.{◌≡◌, ℕ, ◌+◌, ◌-◌, ◌^◌, ◌≤◌, ◌<◌, Bool, if◌then◌else◌, List, [], ◌∷◌, ◌++◌, length, map, option_to_list, Option, Some, None, slice_get}
 use Rattle.std.specs.Map.{lookup}
 use Rattle.std.specs.VecDeque.{deque_len, deque_capacity}
 use Rattle.std.specs.Vec.{vec_len, vec_capacity}
 use Rattle.indexmap.specs.IndexMap.{spare}
-use Rattle.sms_world.specs.contracts.traces.held.ReferenceKeyPartialEq.TheImpl as key
 use Rattle.sms_world.specs.declared.traces.TraceNotes.{TraceNotes}
-use Rattle.sms_world.specs.declared.traces.held.ReferenceKey.{ReferenceKey}
 use Rattle.sms_world.specs.declared.notes.sender.SenderNotes.{SenderNotes}
-use Rattle.sms_world.specs.Inside.NotesValue.{sender_at, IsCounted}
+use Rattle.sms_world.specs.Inside.NotesValue.{sender_note, sender_at, IsCounted}
 use Rattle.sms_world.specs.Ledger.{Mark, Neither}
 use Rattle.sms_world.specs.Machine.{Machine}
 use Rattle.sms_world.specs.Machine.Event.{Event, Compose, Carry, Timeout, Push}
+use Rattle.sms_world.specs.TraceTables.{key_eq, out_at, TraceTables}
 use Rattle.sms_world.specs.Traces.{Brought, Traces, brought_at}
 use Rattle.sms_world.specs.World.Standing.{StandsFor}
 use Rattle.sms_world.specs.World.Value.{WorldValue}
-
--- what `==` answers for the keys
-abbrev pub key_eq : ReferenceKey → ReferenceKey → Bool
-key_eq = (key.ghosts).eq
-
-abbrev pub out_at : Option ℕ → ℕ
-out_at None = 0
-out_at (Some n) = n
 
 -- the tables as functions
 abbrev pub traces_in : TraceNotes → Traces
@@ -38,6 +29,16 @@ traces_in n =
           lookup
           (key_eq (record { phone = phone; reference = reference; recipient = recipient }))
           n.held.entries;
+    }
+
+abbrev pub trace_tables_in : TraceNotes → TraceTables
+trace_tables_in n =
+    record {
+      sent = n.sent.items;
+      numbers = n.numbers.items;
+      senders = map sender_note n.senders.items;
+      outs = n.outs.items;
+      held = n.held.entries;
     }
 
 -- there is room for what an event at this phone can add

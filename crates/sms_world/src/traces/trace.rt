@@ -75,7 +75,10 @@ fn seen_in(alloc: Global, world: &World, octets: &[u8]) -> Seen
     ensures { (v : Message) → Carries octets.now v
         → result ≡ seen_of (phones_of world.now.parties.centre) world.now.clock v }
 {
-    let Ok((connection, InnerView::Relay(relay))) = unwrap_view(octets) else {
+    let Ok((connection, inner)) = unwrap_view(octets) else {
+        return Seen::Other;
+    };
+    let InnerView::Relay(relay) = inner else {
         return Seen::Other;
     };
     match &relay.body {

@@ -1,5 +1,4 @@
 use Rattle.std.proofs.Common.{refl, sym, ◌∙◌}
-use Rattle.sms_world.specs.Inside.TraceValue.{traces_in}
 use Rattle.sms_world.proofs.Trusting.{begins_trusted, new_trusted}
 use Rattle.sms_world.proofs.trusted.TrustedWorld.new.Goals as goal
 
@@ -9,9 +8,9 @@ invariant_of-result c = (
     senders = c.in_ok-notes.ensures.senders ∙ sym c.in_ok-watched.ensures.phones;
     outs = c.in_ok-notes.ensures.outs ∙ sym c.in_ok-watched.ensures.phones;
   },
-  new_trusted c.args.limits c.args.phones.now c.in_ok-watched.watched (traces_in c.in_ok-notes.notes) c.in_ok-notes.ensures.alike c.in_ok-watched.ensures.begins,
+  new_trusted c.args.limits c.args.phones.now c.in_ok-watched.watched c.in_ok-notes.notes c.in_ok-notes.ensures.alike c.in_ok-watched.ensures.begins,
 )
 
 pub returns-clause-begins : goal.returns-clause-begins
 returns-clause-begins c =
-    begins_trusted c.args.limits c.args.phones.now c.in_ok-watched.watched (traces_in c.in_ok-notes.notes) c.in_ok-notes.ensures.alike c.in_ok-watched.ensures.begins
+    begins_trusted c.args.limits c.args.phones.now c.in_ok-watched.watched c.in_ok-notes.notes c.in_ok-notes.ensures.alike c.in_ok-watched.ensures.begins
