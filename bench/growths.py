@@ -2,8 +2,8 @@
 """Plays worked scripts with each request for memory refused in turn, and judges what comes of it.
 
 A run ends with status 3 and `out of memory`, after a front of its transcript that ends with a whole line; or with status
-0, one event told as `drop memory` and the others as without its line; or nothing changes. With `--orderly` the order that
-is told at the end is that of the events as they were answered. It needs cc, the GNU C library, and crates/sms/out/sms,
+0, one event told as `drop memory` and the others as without its line; or nothing changes. What `--orderly` and
+`--accepted` tell at the end is of the events as they were answered. It needs cc, the GNU C library, and crates/sms/out/sms,
 which `rt run` in crates/sms leaves there; PROGRAM names another one.
 """
 import os
@@ -79,12 +79,19 @@ push b
 carry 12
 carry 5
 """
+INJECTED = PHONES + """\
+type a +1002 hi
+inject down a 9901020300
+carry 1
+carry 3
+"""
 SCRIPTS = {
     "a lossy network": LOSSY,
     "161 letters out of order": LETTERS,
     "open sets that are full": FULL,
     "a repeat after two days": TWO_DAYS,
     "a segment of a text that is forgotten": FORGOTTEN,
+    "octets that are injected": INJECTED,
 }
 SETTINGS = ("phone ", "open ", "remembered ")
 
@@ -131,23 +138,26 @@ def with_drop(transcript, event):
 
 
 def divided(wrote):
-    """A transcript without the order that is told at its end, and the event and the rest of that line."""
-    begin = wrote.find("order: ")
-    if begin < 0:
-        return wrote, None
-    order = re.fullmatch(r"order: (?:kept|event (\d+): (.*))\n", wrote[begin:])
-    assert order, wrote[begin:]
-    return wrote[:begin], (int(order[1] or 0), order[2])
+    """A transcript without what is told of its run at its end; and of each line that tells it the name, the event and the
+    rest."""
+    begin = re.search(r"^(?:order|accepted): ", wrote, re.MULTILINE)
+    if not begin:
+        return wrote, []
+    told = []
+    for line in wrote[begin.start():].splitlines(keepends=True):
+        verdict = re.fullmatch(r"(order|accepted): (?:kept|means accepted|event (\d+): (.*))\n", line)
+        assert verdict, line
+        told.append((verdict[1], int(verdict[2] or 0), verdict[3]))
+    return wrote[:begin.start()], told
 
 
-def with_order(order, whole, event):
-    """The order that is to be told where an event was answered as one for which there is no memory: one event more than
-    without it; or that very event came out of order, whatever it was answered."""
-    if order is None:
-        return None
-    if whole[0] == event:
+def with_verdict(verdict, whole, event):
+    """What is to be told where an event was answered as one for which there is no memory: one event more than without it; or
+    that very event was the first to break a condition, whatever it was answered."""
+    if whole[1] == event:
         return whole
-    return (order[0] + 1 if order[0] >= event else order[0], order[1])
+    name, first, rest = verdict
+    return (name, first + 1 if first >= event else first, rest)
 
 
 def judge(runs, script, whole, number):
@@ -166,15 +176,17 @@ def judge(runs, script, whole, number):
     event = int(re.search(r"^(\d+) drop memory$", wrote, re.MULTILINE)[1])
     assert wrote.count("drop memory") == 1, (number, wrote)
     _, other, _, _ = runs.play(without_event(script, event))
-    (told, order), (others, other_order) = divided(wrote), divided(other)
+    (told, verdicts), (others, other_verdicts) = divided(wrote), divided(other)
+    _, whole_verdicts = divided(whole)
     assert told == with_drop(others, event), (number, wrote)
-    assert order == with_order(other_order, divided(whole)[1], event), (number, wrote)
+    wanted = [with_verdict(verdict, first, event) for verdict, first in zip(other_verdicts, whole_verdicts, strict=True)]
+    assert verdicts == wanted, (number, wrote)
     return "drop memory"
 
 
 def main():
     with tempfile.TemporaryDirectory() as folder:
-        for words in ((), ("--orderly",)):
+        for words in ((), ("--orderly",), ("--accepted",), ("--orderly", "--accepted")):
             runs = Runs(folder, words)
             for name, script in SCRIPTS.items():
                 status, whole, fault, asked = runs.play(script)

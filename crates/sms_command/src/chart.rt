@@ -18,7 +18,7 @@ use crate::fault::Fault;
 use crate::outcomes::told_of;
 use crate::page::Page;
 use crate::printed::put_escaped;
-use crate::run::{Happened, Running, Teller, run_script};
+use crate::run::{Happened, Running, Teller, Watching, run_script};
 use sms_script::Script;
 use sms_world::{Event, WorldFault};
 use std::alloc::Global;
@@ -274,7 +274,7 @@ pub fn put_chart<R: Read, W: Write>(
         packets: Vec::new(alloc),
     };
     let mut page = Page::new(alloc);
-    let drawn = run_script(alloc, false, &mut run, &mut page, input, output);
+    let drawn = run_script(alloc, Watching::Nothing, &mut run, &mut page, input, output);
     drop(run);
     let written = page.write_to(output);
     drop(page);

@@ -17,11 +17,11 @@ impl From<PlayFault> for Fault {
     }
 }
 
-/// Plays a script, and writes its transcript, and whether its run was orderly where that is asked
-/// for.
+/// Plays a script, and writes its transcript, and what else is asked for: whether its run was
+/// orderly, and whether `accepted` means accepted in it.
 fn play_from<S: Source, K: Sink>(
     alloc: Global,
-    tells_order: bool,
+    asked: Played,
     source: &mut S,
     sink: &mut K,
 ) -> Result<(), PlayFault>
@@ -29,7 +29,9 @@ fn play_from<S: Source, K: Sink>(
     requires begins { S.has_ended source.old ≡ false }
     requires writes { K.has_failed sink.old ≡ false }
 {
-    if tells_order {
+    if asked.tells_accepted {
+        sms_world::play_with_accepted(alloc, asked.tells_order, source, sink)
+    } else if asked.tells_order {
         sms_world::play_with_order(alloc, source, sink)
     } else {
         sms_world::play(alloc, source, sink)
@@ -47,7 +49,7 @@ pub fn play_script<R: Read, W: Write>(
     let output = RefCell::new(output);
     let mut ear = Ear::new(alloc, input, &output)?;
     let mut mouth = Mouth::new(&output, asked.is_checked);
-    let played = play_from(alloc, asked.tells_order, &mut ear, &mut mouth);
+    let played = play_from(alloc, asked, &mut ear, &mut mouth);
     let is_mute = ear.is_mute();
     let has_fault = mouth.has_found_fault();
     drop(ear);

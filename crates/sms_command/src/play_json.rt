@@ -6,17 +6,21 @@ use crate::object::Object;
 use crate::outcomes::{is_fault, told_of};
 use crate::page::Page;
 use crate::printed::Number;
-use crate::run::{Happened, Running, Teller, run_script};
+use crate::run::{Happened, Running, Teller, Watching, run_script};
 use crate::shown::Done;
 use crate::words::Played;
 use sms_script::{Packet, Script};
-use sms_world::{Breach, PlayFault, Status, TextSegment, disorder_text, number_told};
+use sms_world::{
+    Breach, Doubt, Ground, PlayFault, Status, TextSegment, disorder_text, ground_text, number_told,
+};
 use std::alloc::Global;
 use std::io::{Read, Write};
 
 /// Tells a run as objects in JSON.
 #[derive(Drop)]
 struct Objects {
+    /// What is asked for.
+    asked: Played,
     /// Whether an event named nothing.
     has_fault: bool,
 }
@@ -158,6 +162,57 @@ fn put_segment(object: &mut Object, script: &Script, segment: Option<TextSegment
     object.number_named("segment", brought.segment as u64);
 }
 
+/// What is told of `accepted` in a run.
+#[derive(Clone, Copy)]
+struct Acceptance<'a> {
+    script: &'a Script,
+    /// The first event after which it need not mean accepted, if there is one.
+    doubt: Option<Doubt>,
+}
+
+impl Printed for Acceptance<'_> {
+    fn plain(&self, _page: &mut Page) {}
+
+    fn json(&self, object: &mut Object) {
+        object.open();
+        object.name("means");
+        object.flag(self.doubt.is_none());
+        if let Some(doubt) = self.doubt {
+            let number = number_told(self.script, doubt.event);
+            object.number_named("event", number);
+            object.text_named("condition", ground_text(doubt.why));
+            put_bearer(object, self.script, doubt.why);
+        }
+        object.close();
+    }
+}
+
+/// Adds the phone to which an answer came, or the segment that was brought.
+fn put_bearer(object: &mut Object, script: &Script, why: Ground) {
+    match why {
+        Ground::AnswerToAnother { phone } => object.text_named("phone", script.name(phone)),
+        Ground::ReferenceUsedAgain { segment } => put_segment(object, script, Some(segment)),
+        Ground::Injected => {}
+    }
+}
+
+/// Adds an object that tells something of a run.
+fn put_told<P: Printed>(alloc: Global, name: &'static str, told: P, page: &mut Page) {
+    let mut lines = Lines::new(alloc, Form::Json, page.take(alloc));
+    lines.put(name, told);
+    *page = lines.finish();
+}
+
+/// Adds what is told of the order of a run and of `accepted`, where that is asked for.
+fn put_verdicts(alloc: Global, asked: Played, script: &Script, running: &Running, page: &mut Page) {
+    if let (true, Some(breach)) = (asked.tells_order, running.order()) {
+        put_told(alloc, "order", Order { script, breach }, page);
+    }
+    if let Some(doubt) = running.accepted() {
+        put_told(alloc, "accepted", Acceptance { script, doubt }, page);
+    }
+}
+
 impl Teller for Objects {
     fn tell(
         &mut self,
@@ -188,11 +243,7 @@ impl Teller for Objects {
             lines.put("store", Stored { running, phone });
             *page = lines.finish();
         }
-        if let Some(breach) = running.order() {
-            let mut lines = Lines::new(alloc, Form::Json, page.take(alloc));
-            lines.put("order", Order { script, breach });
-            *page = lines.finish();
-        }
+        put_verdicts(alloc, self.asked, script, running, page);
         Ok(())
     }
 }
@@ -215,20 +266,34 @@ fn put_script_fault(alloc: Global, fault: &PlayFault, page: &mut Page) -> Result
     Ok(true)
 }
 
+/// What the world is to tell of a run.
+fn watching(asked: Played) -> Watching {
+    if asked.tells_accepted {
+        Watching::Accepted
+    } else if asked.tells_order {
+        Watching::Order
+    } else {
+        Watching::Nothing
+    }
+}
+
 /// Plays the script that an input has, and writes an object for each event, and at the end one for
-/// each phone, and one that tells whether the run was orderly where that is asked for. Where events
-/// that name nothing count, they are faults.
+/// each phone, and those that tell whether the run was orderly and whether `accepted` means accepted
+/// where that is asked for. Where events that name nothing count, they are faults.
 pub fn play_as_json<R: Read, W: Write>(
     alloc: Global,
     asked: Played,
     input: &mut R,
     output: &mut W,
 ) -> Result<Done, Fault> {
-    let mut objects = Objects { has_fault: false };
+    let mut objects = Objects {
+        asked,
+        has_fault: false,
+    };
     let mut page = Page::new(alloc);
     let mut played = run_script(
         alloc,
-        asked.tells_order,
+        watching(asked),
         &mut objects,
         &mut page,
         input,

@@ -6,13 +6,24 @@ use crate::feed::{Feed, Line};
 use crate::page::Page;
 use sms_script::Script;
 use sms_world::{
-    Breach, Entry, Event, Outcome, PlayFault, ScriptFault, Status, WatchedWorld, World, WorldFault,
+    Breach, Doubt, Entry, Event, Outcome, PlayFault, ScriptFault, Status, TrustedWorld,
+    WatchedWorld, World, WorldFault,
 };
-use std::alloc::Global;
+use std::alloc::{AllocError, Global};
 use std::io::{Read, Write};
 
 /// The greatest number of lines of a script.
 const LINES_MAX: u64 = 100_000;
+
+/// What is to be told of a run besides.
+#[derive(Clone, Copy)]
+pub enum Watching {
+    Nothing,
+    /// Whether it is orderly.
+    Order,
+    /// Whether it is orderly, and whether `accepted` means accepted.
+    Accepted,
+}
 
 /// The world that a script is played on.
 #[derive(Drop)]
@@ -20,16 +31,19 @@ pub enum Running {
     Plain(World),
     /// One that tells whether the run is orderly.
     Watched(WatchedWorld),
+    /// One that tells besides whether `accepted` means accepted.
+    Trusted(TrustedWorld),
 }
 
 impl Running {
     /// The world that a script has set, at the beginning.
-    fn new(alloc: Global, is_watched: bool, script: &Script) -> Result<Running, Fault> {
+    fn new(alloc: Global, watching: Watching, script: &Script) -> Result<Running, Fault> {
         let (limits, phones) = (script.limits(), script.addresses());
-        if is_watched {
-            return Ok(Running::Watched(WatchedWorld::new(alloc, limits, phones)?));
+        match watching {
+            Watching::Nothing => plain(World::new(alloc, limits, phones)),
+            Watching::Order => watched(WatchedWorld::new(alloc, limits, phones)),
+            Watching::Accepted => trusted(TrustedWorld::new(alloc, limits, phones)),
         }
-        Ok(Running::Plain(World::new(alloc, limits, phones)?))
     }
 
     /// Lets an event happen.
@@ -37,6 +51,7 @@ impl Running {
         match self {
             Running::Plain(world) => world.step(event),
             Running::Watched(watched) => watched.step(event),
+            Running::Trusted(trusted) => trusted.step(event),
         }
     }
 
@@ -45,6 +60,7 @@ impl Running {
         match self {
             Running::Plain(world) => world,
             Running::Watched(watched) => watched.world(),
+            Running::Trusted(trusted) => trusted.world(),
         }
     }
 
@@ -54,6 +70,16 @@ impl Running {
         match self {
             Running::Plain(_) => None,
             Running::Watched(watched) => Some(watched.order()),
+            Running::Trusted(trusted) => Some(trusted.watched().order()),
+        }
+    }
+
+    /// What is told of `accepted`, where that is noted: the first event after which it need not mean
+    /// accepted, if there is one.
+    pub fn accepted(&self) -> Option<Option<Doubt>> {
+        match self {
+            Running::Plain(_) | Running::Watched(_) => None,
+            Running::Trusted(trusted) => Some(trusted.accepted()),
         }
     }
 
@@ -91,6 +117,21 @@ impl Running {
             None
         }
     }
+}
+
+/// A world, if one could be made.
+fn plain(made: Result<World, AllocError>) -> Result<Running, Fault> {
+    Ok(Running::Plain(made?))
+}
+
+/// A watched world, if one could be made.
+fn watched(made: Result<WatchedWorld, AllocError>) -> Result<Running, Fault> {
+    Ok(Running::Watched(made?))
+}
+
+/// A world that tells what `accepted` means, if one could be made.
+fn trusted(made: Result<TrustedWorld, AllocError>) -> Result<Running, Fault> {
+    Ok(Running::Trusted(made?))
 }
 
 /// An event that has happened.
@@ -134,8 +175,8 @@ pub trait Teller: Drop {
 #[derive(Drop)]
 struct Run {
     script: Script,
-    /// Whether the world tells the order of the run.
-    is_watched: bool,
+    /// What the world tells of the run.
+    watching: Watching,
     running: Option<Running>,
     events: u64,
 }
@@ -162,7 +203,7 @@ impl Run {
         if let Some(running) = self.running.take() {
             return Ok(running);
         }
-        let mut running = Running::new(alloc, self.is_watched, &self.script)?;
+        let mut running = Running::new(alloc, self.watching, &self.script)?;
         if let Some(seconds) = self.script.clock() {
             let _ = running.step(&Event::Tick(seconds));
         }
@@ -271,11 +312,11 @@ fn run_lines<T: Teller, R: Read, W: Write>(
     run.finish(alloc, teller, page)
 }
 
-/// Plays the script that an input has, on a world that is watched or not, and writes what a teller
-/// tells of it. What was told before a fault stands.
+/// Plays the script that an input has, on a world that tells this of the run, and writes what a
+/// teller tells of it. What was told before a fault stands.
 pub fn run_script<T: Teller, R: Read, W: Write>(
     alloc: Global,
-    is_watched: bool,
+    watching: Watching,
     teller: &mut T,
     page: &mut Page,
     input: &mut R,
@@ -283,7 +324,7 @@ pub fn run_script<T: Teller, R: Read, W: Write>(
 ) -> Result<(), Fault> {
     let mut run = Run {
         script: Script::new(alloc),
-        is_watched,
+        watching,
         running: None,
         events: 0,
     };

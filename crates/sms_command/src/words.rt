@@ -169,6 +169,8 @@ pub struct Played {
     pub is_checked: bool,
     /// Whether it is told at the end if the run was orderly.
     pub tells_order: bool,
+    /// Whether it is told at the end if `accepted` meant accepted.
+    pub tells_accepted: bool,
 }
 
 /// One command with its words.
@@ -450,6 +452,11 @@ static SUBCOMMANDS: [Subcommand; 6] = [
                 form: WordForm::Flag,
                 help: "Tells at the end whether the run was orderly, so that each store is just the texts typed to it; or the first event that came out of order, and how",
             },
+            Word {
+                name: "accepted",
+                form: WordForm::Flag,
+                help: "Tells at the end whether each text that is shown as accepted was accepted by the centre; or the first event after which it need not be, and why",
+            },
         ],
         example: Some(SCRIPT_HELP),
     },
@@ -624,6 +631,7 @@ fn played_of<'a>(found: &ArgMatches<'_>) -> Request<'a> {
         form: form_found(found),
         is_checked: found.get_flag("check"),
         tells_order: found.get_flag("orderly"),
+        tells_accepted: found.get_flag("accepted"),
     })
 }
 

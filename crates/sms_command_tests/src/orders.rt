@@ -11,33 +11,33 @@ use std::process::Abort;
 use std::test::Fail;
 
 /// A script after its phones, its parts expanded.
-fn script_of(alloc: Global, phones: &str, parts: &str) -> Result<String, Fail> {
+pub fn script_of(alloc: Global, phones: &str, parts: &str) -> Result<String, Fail> {
     let script = expanded(alloc, parts)?;
     let whole = [phones, &script].concat(alloc);
     drop(script);
     Ok(whole?)
 }
 
-/// The transcript of a script, and what is told of its order.
-fn transcript_of(alloc: Global, script: &str, order: &str) -> Result<String, Fail> {
+/// The transcript of a script, and what is told of its run.
+fn transcript_of(alloc: Global, script: &str, told: &str) -> Result<String, Fail> {
     let (_, transcript) = fed_with(alloc, &["sms", "play"], script)?;
-    let whole = [transcript.as_str(), order].concat(alloc);
+    let whole = [transcript.as_str(), told].concat(alloc);
     drop(transcript);
     Ok(whole?)
 }
 
-/// Whether the transcript of a script stands as it does else, and after it what is told of its
-/// order.
-fn is_told(alloc: Global, script: &str, order: &str) -> Result<bool, Fail> {
-    let wanted = transcript_of(alloc, script, order)?;
-    let (status, output) = fed_with(alloc, &["sms", "play", "--orderly"], script)?;
+/// Whether with these words the transcript of a script stands as it does else, and after it what is
+/// told of its run.
+pub fn is_told(alloc: Global, words: &[&str], script: &str, told: &str) -> Result<bool, Fail> {
+    let wanted = transcript_of(alloc, script, told)?;
+    let (status, output) = fed_with(alloc, words, script)?;
     Ok(status == 0 && output == wanted)
 }
 
 /// Whether a row's order is told.
 fn is_row_told(alloc: Global, row: &Ordered) -> Result<bool, Fail> {
     let script = script_of(alloc, PHONES, row.script)?;
-    let told = is_told(alloc, &script, row.order);
+    let told = is_told(alloc, &["sms", "play", "--orderly"], &script, row.order);
     drop(script);
     told
 }
@@ -61,17 +61,17 @@ fn tells_the_first_event_out_of_order(rt: HostRuntime) -> Result<(), Fail> {
     are_told(&rt, rt.alloc(), BROKEN.as_slice())
 }
 
-/// Whether the output of a script ends so.
-fn ends_with(alloc: Global, script: &str, ends: &str) -> Result<bool, Fail> {
+/// Whether with these words the output of a script ends so.
+pub fn ends_with(alloc: Global, words: &[&str], script: &str, ends: &str) -> Result<bool, Fail> {
     let wanted = expanded(alloc, ends)?;
-    let (status, output) = fed_with(alloc, &["sms", "play", "--orderly"], script)?;
+    let (status, output) = fed_with(alloc, words, script)?;
     Ok(status == 0 && output.ends_with(wanted.as_str()))
 }
 
 /// Whether a row goes wrong so.
 fn goes_wrong(alloc: Global, row: &Wrong) -> Result<bool, Fail> {
     let script = script_of(alloc, TWO_PHONES, row.script)?;
-    let ends = ends_with(alloc, &script, row.ends);
+    let ends = ends_with(alloc, &["sms", "play", "--orderly"], &script, row.ends);
     drop(script);
     ends
 }

@@ -569,8 +569,8 @@ centre_receives_told one m f limit phone (Data true tag Unreadable) origin putti
 
 -- the whole machine
 
-record TellsTrue (one : ℕ) (m : Machine) : Type 0 where
-  sound : SendersSound m.senders
+pub record TellsTrue (one : ℕ) (m : Machine) : Type 0 where
+  pub sound : SendersSound m.senders
   told : AllTold one m.centre.accepted m.senders
   sent : AllByRecursion (SentTold one m.centre.accepted m.senders.sender) m.sent
 
@@ -704,7 +704,7 @@ acts_true one m e act told put n is may h (inr s) = subst (TellsTrue one) s.3 h
 
 -- ---- from the three conditions to the test of the induction
 
-same_tag_is : (t u : Tag) → same_tag t u ≡ true → t ≡ u
+pub same_tag_is : (t u : Tag) → same_tag t u ≡ true → t ≡ u
 same_tag_is t u h =
     let p = and_parts (eqb t.value u.value) (eqb t.reference u.reference) h in
     let x : t.value ≡ u.value = eqb-true _ _ p.0 in
@@ -712,7 +712,7 @@ same_tag_is t u h =
     λ i. record { value = x i; reference = y i }
 
 -- the address that is the phone's of this number
-phone_address : (phones : List AddressValue) (target : AddressValue) (n : ℕ) → phone_at phones target ≡ Some n → get_or phones n (address_of [] 0) ≡ target
+pub phone_address : (phones : List AddressValue) (target : AddressValue) (n : ℕ) → phone_at phones target ≡ Some n → get_or phones n (address_of [] 0) ≡ target
 unfolding same_address
 phone_address phones target n h =
     same_address_true _ _ (position-Some (λ a. same_address a target) phones n (address_of [] 0) h).1
@@ -808,7 +808,7 @@ unfolding start new_centre new_sender
 start_true one limits phones =
     record { sound = λ p. record { pending = tt; under_way = refl }; told = λ q same. record { so_far = tt; ended = tt }; sent = tt }
 
-run_true : (one : ℕ) (limits : Limits) (phones : List AddressValue) (past : List (Event × whole.Told)) (m : Machine)
+pub run_true : (one : ℕ) (limits : Limits) (phones : List AddressValue) (past : List (Event × whole.Told)) (m : Machine)
     → RunWith (IsHonestAt one) (start limits phones) past m → TellsTrue one m
 run_true one limits phones [] m h = subst (TellsTrue one) h (start_true one limits phones)
 run_true one limits phones (e ∷ past) m h =

@@ -131,7 +131,7 @@ module _ (v : WorldValue) (m : Machine) (h : StandsFor v m) (told : Told) where
   stays_fault why = (why, refl)
 
   -- it answers a fault, unless it is a tick
-  for_nobody : (event : Event) → way_at v event ≡ None → (put : List Sent) (n : Machine) → Step m event told put n
+  pub for_nobody : (event : Event) → way_at v event ≡ None → (put : List Sent) (n : Machine) → Step m event told put n
       → ((seconds : ℕ) → event ≡ Tick seconds → ⊥) → ((place : Place) (octets : List ℕ) → event ≡ Inject place octets → ⊥) → IsFault told
   unfolding next carries
   for_nobody (Compose phone target characters) e put n step t i =

@@ -36,7 +36,7 @@ use Rattle.sms_world.proofs.Stamped.{Fits}
 
 -- ---- a sender
 
-few_accepted : (m : Machine) → TextsFit m → (ns : List ℕ) (k : ℕ) → IsUnderWay m.senders.texts ns k → k ≤ 255
+pub few_accepted : (m : Machine) → TextsFit m → (ns : List ℕ) (k : ℕ) → IsUnderWay m.senders.texts ns k → k ≤ 255
 few_accepted m fit [] k u = omega (arith, u)
 few_accepted m fit (n ∷ later) k u = go (nth m.senders.texts n) refl u
   where

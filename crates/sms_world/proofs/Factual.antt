@@ -46,7 +46,7 @@ slice_get_there (x ∷ xs) (suc i) l = slice_get_there xs i (omega arith)
 
 -- ---- packets
 
-as_many : (packets : List PacketValue) (put : List Sent) → ArePacketsOf packets put → length packets ≡ length put
+pub as_many : (packets : List PacketValue) (put : List Sent) → ArePacketsOf packets put → length packets ≡ length put
 as_many [] [] h = refl
 as_many [] (x ∷ put) h = absurd h
 as_many (p ∷ packets) [] h = absurd h

@@ -58,9 +58,18 @@ no_breach (Some b) number disorder segment e = cc
 no_breach None number None segment e = (refl, refl)
 no_breach None number (Some d) segment e = cc
 
+-- an event that is told as in order comes in order
+pub in_order_now : (world : WorldValue) (l : Ledger) (number : ℕ) (breach after : Option Breach) (event : Event)
+    → after ≡ breach_after breach number (breach_at l world.limits.remembered world.clock event) (segment_at l event) → after ≡ None → ComesInOrder world l event
+in_order_now world l number breach after event is none = (no_breach breach number _ _ (sym is ∙ none)).1
+
+-- there is no memory for an event
+pub wanted : Below → (world : WorldValue) (event : Event) (way : Way) → IsOfText event → way_at world event ≡ Some way → Steps event world (Err (Party Memory)) world
+wanted law world event way text is = λ m s. ([], m, want_of_memory law world m s way event text is, s, [], sym (append-nil world.packets), tt)
+
 -- ---- the tables say what the notes do
 
-sender_row : (xs : List SenderNotes) (p : ℕ) → sender_in_row (slice_get (map sender_note xs) p) ≡ sender_at (slice_get xs p)
+pub sender_row : (xs : List SenderNotes) (p : ℕ) → sender_in_row (slice_get (map sender_note xs) p) ≡ sender_at (slice_get xs p)
 sender_row [] p = refl
 sender_row (x ∷ xs) zero = refl
 sender_row (x ∷ xs) (suc p) = sender_row xs p

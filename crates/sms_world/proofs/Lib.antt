@@ -65,9 +65,16 @@ pub mod Rejecting
 pub mod Rows
 pub mod Networks
 pub mod Transcribing
-pub mod WatchedPlayed
+pub mod WorldPlayed
 pub mod Judging
 pub mod Promises
 pub mod Nowhere
 pub mod Called
 pub mod PuttingsOut
+pub mod HeldTold
+pub mod Tracing
+pub mod TracesKept
+pub mod Doubting
+pub mod Trusting
+pub mod TraceBack
+pub mod TraceRead

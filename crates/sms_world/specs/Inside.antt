@@ -7,3 +7,5 @@ pub mod Parties
 pub mod Phones
 pub mod Rows
 pub mod Tables
+pub mod TraceValue
+pub mod TraceFollowed

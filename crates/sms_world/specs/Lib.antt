@@ -15,6 +15,11 @@ pub mod Noted
 pub mod Tables
 pub mod Breaches
 pub mod Watched
+pub mod Doubts
+pub mod Traces
+pub mod TraceTables
+pub mod Traced
+pub mod Trusted
 pub mod Accepted
 pub mod Understood
 pub mod Unread

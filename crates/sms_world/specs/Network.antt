@@ -11,6 +11,7 @@ use Rattle.sms_script.specs.Transcript.Lines.{EntryValue}
 use Rattle.sms_script.specs.declared.meaning.event.Event as given
 use Rattle.sms_script.specs.declared.script.limits.Limits.{Limits}
 use Rattle.sms_world.specs.Machine.{start}
+use Rattle.sms_world.specs.Machine.Event.{Event}
 use Rattle.sms_world.specs.Told.{Told}
 use Rattle.sms_world.specs.Words.{told_text, status_text}
 use Rattle.sms_world.specs.World.Standing.{StandsFor}
@@ -48,4 +49,19 @@ conduct =
       Steps = StepsInWords;
       put_out = λ world. world.packets;
       ends = ends_of;
+    }
+
+-- A network that has a world: an event is a step of its world, of which more is told, and the words
+-- for what was answered.
+abbrev pub conduct_with : {N : Type 0} → (N → WorldValue) → (Limits → List AddressValue → N → Type 0)
+    → (Event → N → Told → N → Type 0) → Conduct N
+conduct_with world_of BeginsWith GoesOnWith =
+    record {
+      Begins = BeginsWith;
+      Steps = λ old event words new.
+          (told : Told) × (words ≡ told_text told)
+          × Steps (event_of event) (world_of old) told (world_of new)
+          × GoesOnWith (event_of event) old told new;
+      put_out = λ n. (world_of n).packets;
+      ends = λ n. ends_of (world_of n);
     }

@@ -1,5 +1,6 @@
 -- Scripts played on the world, as runs of the machine.
 pub mod Order
+pub mod Trusted
 use Rattle.std.specs.Prelude.{◌≡◌, ℕ, ◌<◌, List, [], ◌∷◌, ◌++◌, length, map, reverse, Option, Some, None}
 use Rattle.std.specs.Io.KnownBytes.{Appends, Consumes, IsAtEnd}
 use Rattle.sms_field.specs.Address.Value.{AddressValue}

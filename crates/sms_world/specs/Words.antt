@@ -1,5 +1,6 @@
 -- The words of a transcript: what was answered to an event, and what became of a text.
 pub mod Order
+pub mod Doubts
 use Rattle.std.specs.Prelude.{ℕ, List, [], ◌∷◌, Option, Some, None, Ok, Err, codes, decimal}
 use Rattle.hex.specs.Hex.{encode_upper}
 use Rattle.sms_message.specs.declared.outcome.Outcome.{Outcome}

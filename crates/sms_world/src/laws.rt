@@ -16,6 +16,7 @@ ghost use Rattle.sms_world.specs.Headline.Stores.{StoresStand};
 ghost use Rattle.sms_world.specs.Noted.{NotesStayRight};
 ghost use Rattle.sms_world.specs.OrderTests.{OrderIsTested};
 ghost use Rattle.sms_world.specs.OrderTold.{OrderIsTold};
+ghost use Rattle.sms_world.specs.Traced.{TracesTell};
 ghost use Rattle.sms_world.specs.Understood.{IsOneAct};
 ghost use Rattle.sms_world.specs.World.Asked.{FactsAreTold};
 ghost use Rattle.sms_world.specs.World.Claims.{ClaimsHold};
@@ -90,6 +91,12 @@ pub fn watching_goes_on()
 {
     laws_below();
 }
+
+/// At each event of an honest run right notes of packets and acceptances tell whether it meets the
+/// conditions under which `accepted` means accepted; and where it does, they stay right.
+pub fn traces_tell()
+    ensures { TracesTell }
+{}
 
 /// What a world answers of its latest pushes and newest texts is so in each state that it stands
 /// for.

@@ -1,8 +1,10 @@
 //! The world as the network of a script, watched or not.
 
 ghost use Rattle.sms_world.specs.Network.{conduct};
+ghost use Rattle.sms_world.specs.Trusted.Network.{trusted_conduct};
 ghost use Rattle.sms_world.specs.Watched.Network.{watched_conduct};
 
+use crate::trusted::TrustedWorld;
 use crate::watched::WatchedWorld;
 use crate::words::{status_text, told_text};
 use crate::world::World;
@@ -61,6 +63,43 @@ impl Network for WatchedWorld {
 
     fn step(&mut self, alloc: Global, event: &Event) -> Result<String, AllocError> {
         let told = WatchedWorld::step(self, event);
+        told_text(alloc, &told)
+    }
+
+    fn packet_count(&self) -> usize {
+        self.world().packet_count()
+    }
+
+    fn packet(&self, number: usize) -> Option<Packet<'_>> {
+        self.world().packet_on_way(number)
+    }
+
+    fn typed(&self, phone: usize) -> usize {
+        self.world().typed(phone)
+    }
+
+    fn status(&self, phone: usize, text: usize) -> Option<&str> {
+        Network::status(self.world(), phone, text)
+    }
+
+    fn stored(&self, phone: usize) -> usize {
+        self.world().store(phone).len()
+    }
+
+    fn entry(&self, phone: usize, place: usize) -> Option<Entry<'_>> {
+        Network::entry(self.world(), phone, place)
+    }
+}
+
+impl Network for TrustedWorld {
+    ghost conduct = { trusted_conduct };
+
+    fn begin(alloc: Global, limits: Limits, phones: &[Address]) -> Result<Self, AllocError> {
+        TrustedWorld::new(alloc, limits, phones)
+    }
+
+    fn step(&mut self, alloc: Global, event: &Event) -> Result<String, AllocError> {
+        let told = TrustedWorld::step(self, event);
         told_text(alloc, &told)
     }
 

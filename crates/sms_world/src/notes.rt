@@ -221,7 +221,8 @@ impl Notes {
         ensures senders { length self.new.senders.items ≡ length self.old.senders.items }
         ensures receivers { length self.new.receivers.items ≡ length self.old.receivers.items }
         ensures marks { self.new.marks ≡ self.old.marks }
-        ensures noted { AreAlike (holds (ledger_in self.old) now (origin_of_part part) (Some recipient))
+        ensures noted { AreAlike
+            (holds (ledger_in self.old) now (origin_of_part part) (Some recipient))
             (ledger_in self.new) }
     {
         let receiver = &mut self.receivers[recipient];
@@ -452,7 +453,7 @@ impl Notes {
 }
 
 /// Nothing is noted of as many senders.
-fn new_senders(alloc: Global, count: usize) -> Result<Vec<SenderNotes>, AllocError>
+pub(crate) fn new_senders(alloc: Global, count: usize) -> Result<Vec<SenderNotes>, AllocError>
     ensures count { IfOk result (λ all. length all.items ≡ count) }
     ensures new { IfOk result
         (λ all. (p : ℕ) → sender_at (slice_get all.items p) ≡ sender_at None) }

@@ -1,5 +1,7 @@
 //! A script played on the world, watched or not.
 
+pub(crate) mod trusted;
+
 ghost use Rattle.std.specs.Prelude.{◌≡◌, ◌≢◌, Err, IfOk, true, false};
 ghost use Rattle.sms_script.specs.Play.{Plays};
 ghost use Rattle.sms_script.specs.declared.fault.PlayFault.TheVariants.{Read, Write};

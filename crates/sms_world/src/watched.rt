@@ -1,6 +1,8 @@
 //! A world that is watched: it tells whether all that has happened in it came in order.
 
-ghost use Rattle.std.specs.Prelude.{◌≡◌, ◌<◌, ◌-◌, true, Some, IfOk, OnErr, length};
+ghost use Rattle.std.specs.Prelude.{◌≡◌, ◌<◌, ◌-◌, true, Some, Err, IfOk, OnErr, length};
+ghost use Rattle.sms_message.specs.declared.outcome.Dropped.TheVariants.{Memory};
+ghost use Rattle.sms_world.specs.declared.fault.WorldFault.TheVariants.{Party};
 ghost use Rattle.std.specs.Option.{unwrap_or};
 ghost use Rattle.std.specs.Str.{chars};
 ghost use Rattle.sms_join.specs.UnitsOfText.{IsText};
@@ -114,6 +116,31 @@ impl WatchedWorld {
         ensures { result.now ≡ self.now.world }
     {
         &self.world
+    }
+
+    /// How many events there were; no more than 2^64 - 1 are counted.
+    pub(crate) fn events(&self) -> u64
+        ensures { result ≡ self.now.events }
+    {
+        self.events
+    }
+
+    /// There is no memory for what is to be noted of an event beside this world: it is answered as
+    /// one for which there is none, and nothing has changed but the number of events.
+    pub(crate) fn want_memory(&mut self, way: Way, event: &Event)
+        requires { way_at self.old.world (event_of event.now) ≡ Some way }
+        ensures steps { Steps (event_of event.now) self.old.world (Err (Party Memory))
+            self.new.world }
+        ensures goes { GoesOnWatched (event_of event.now) self.old (Err (Party Memory)) self.new }
+        ensures world { self.new.world ≡ self.old.world }
+    {
+        laws_below();
+        watching_goes_on();
+        typed_texts_are_text(event);
+        let number = self.events.saturating_add(1);
+        let breach = breach_after(&self.world, &self.notes, self.breach, number, event);
+        self.events = number;
+        self.breach = breach;
     }
 
     /// The first event that came out of order, if one did.

@@ -1,5 +1,6 @@
 //! The words of a transcript.
 
+pub(crate) mod doubts;
 pub(crate) mod order;
 
 ghost use Rattle.std.specs.Prelude.{◌≡◌, IfOk, Result, codes, decimal};

@@ -15,7 +15,7 @@ use std::test::Fail;
 
 /// What happens.
 #[derive(Clone, Copy, Debug)]
-enum Then {
+pub(crate) enum Then {
     /// A text of one segment is typed at this phone, to the second one.
     Short(usize),
     /// A text of two segments.
@@ -46,7 +46,7 @@ pub(crate) fn typing(alloc: Global, phone: usize, text: &str) -> Result<Event, A
 }
 
 /// The event, in a world with so many packets.
-fn event_of(alloc: Global, then: Then, packets: usize) -> Result<Event, AllocError> {
+pub(crate) fn event_of(alloc: Global, then: Then, packets: usize) -> Result<Event, AllocError> {
     match then {
         Then::Short(phone) => typing(alloc, phone, "hi"),
         Then::Long(phone) => typing(alloc, phone, LONG),
@@ -97,7 +97,7 @@ fn told(alloc: Global, remembered: u64, script: &[Then]) -> Result<Option<Breach
 }
 
 /// A text of two segments comes late, twice and out of order.
-static LOSSY: [Then; 16] = [
+pub(crate) static LOSSY: [Then; 16] = [
     Then::Long(0),
     Then::Carry(1),
     Then::Carry(3),
@@ -130,7 +130,7 @@ static AFTER_THE_END: [Then; 6] = [
 static NO_REJECTION: [Then; 3] = [Then::Short(0), Then::Carry(1), Then::Carry(1)];
 
 /// Octets come that nobody put out.
-static INJECTED: [Then; 3] = [Then::Tick(1), Then::Inject, Then::Inject];
+pub(crate) static INJECTED: [Then; 3] = [Then::Tick(1), Then::Inject, Then::Inject];
 
 /// Three texts come, each whole, and the first one's segment comes again.
 static LATE: [Then; 19] = [

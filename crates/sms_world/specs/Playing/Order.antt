@@ -48,32 +48,45 @@ pub record IsJudged (script : ScriptValue) (text : List ℕ) (breach : Option Br
       → store_at (ends_of world) phone ≡ map entry_of (reverse (stands run.last phone))
 
 -- A source that had old left was read to its end, its script is without fault and has set this, what
--- the sink took is the script's transcript, and this is told of the order of its run.
-abbrev pub Judges : (old new before now : Option (List ℕ)) → SettingsValue → Option Breach → Type 0
-Judges old new before now s breach =
+-- the sink took is the script's transcript, and this is told of its run.
+abbrev pub JudgesBy : {A : Type 0} → (ScriptValue → List ℕ → A → Type 0)
+    → (old new before now : Option (List ℕ)) → SettingsValue → A → Type 0
+JudgesBy IsSo old new before now s answer =
     (read text : List ℕ) × Consumes old new read × IsAtEnd new
     × ((script_of (lines read)).fault ≡ None) × (s ≡ (script_of (lines read)).settings)
-    × IsJudged (script_of (lines read)) text breach × Appends before now text
+    × IsSo (script_of (lines read)) text answer × Appends before now text
 
--- So it is; and after the transcript the line that tells of the order was put, of which this result
--- says how much.
-pub record TellsOrder (old new before now : Option (List ℕ)) (result : Result (Unit {0}) PlayFault)
-    : Type 0 where
+abbrev pub Judges : (old new before now : Option (List ℕ)) → SettingsValue → Option Breach → Type 0
+Judges = JudgesBy IsJudged
+
+-- So it is; and after the transcript the words that tell it were put, of which this result says how
+-- much.
+pub record TellsBy {A : Type 0} (IsSo : ScriptValue → List ℕ → A → Type 0)
+    (words : SettingsValue → A → List ℕ) (old new before now : Option (List ℕ))
+    (result : Result (Unit {0}) PlayFault) : Type 0 where
   pub read : List ℕ
   pub taken : Consumes old new read
   pub ended : IsAtEnd new
   pub faultless : (script_of (lines read)).fault ≡ None
   pub text : List ℕ
-  pub breach : Option Breach
-  pub judged : IsJudged (script_of (lines read)) text breach
+  pub answer : A
+  pub judged : IsSo (script_of (lines read)) text answer
   pub front : List ℕ
-  pub line_is : IsPutOf (order_line (script_of (lines read)).settings breach) front result
+  pub words_are : IsPutOf (words (script_of (lines read)).settings answer) front result
   pub wrote : Appends before now (text ++ front)
 
--- All was played, and its order was told; or else playing ended as it does on a world that is not
--- watched, or within the line that tells of the order.
+-- All was played, and that was told of its run; or else playing ended as it does on a world that is
+-- not watched, or within the words that tell it.
+abbrev pub PlaysAndTells : {A : Type 0} → (ScriptValue → List ℕ → A → Type 0)
+    → (SettingsValue → A → List ℕ) → (old new before now : Option (List ℕ))
+    → Result (Unit {0}) PlayFault → Type 0
+PlaysAndTells IsSo words old new before now (Ok done) =
+    TellsBy IsSo words old new before now (Ok done)
+PlaysAndTells IsSo words old new before now (Err fault) =
+    Plays conduct old new before now (Err fault)
+    ⊎ TellsBy IsSo words old new before now (Err fault)
+
+-- so of the order of its run, in the line that tells it
 abbrev pub PlaysWithOrder : (old new before now : Option (List ℕ)) → Result (Unit {0}) PlayFault
     → Type 0
-PlaysWithOrder old new before now (Ok done) = TellsOrder old new before now (Ok done)
-PlaysWithOrder old new before now (Err fault) =
-    Plays conduct old new before now (Err fault) ⊎ TellsOrder old new before now (Err fault)
+PlaysWithOrder = PlaysAndTells IsJudged order_line

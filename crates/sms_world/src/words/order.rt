@@ -33,7 +33,7 @@ pub fn number_told(script: &Script, number: u64) -> u64
 }
 
 /// A segment of a text in words, after a space: the name of its phone, and the two numbers.
-fn segment_text(
+pub(crate) fn segment_text(
     alloc: Global,
     script: &Script,
     segment: Option<TextSegment>,

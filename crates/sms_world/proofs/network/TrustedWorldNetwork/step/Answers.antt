@@ -1,0 +1,8 @@
+use Rattle.std.proofs.Common.{refl}
+use Rattle.sms_world.specs.Words.{told_text}
+use Rattle.sms_world.proofs.Networks.{words_of}
+use Rattle.sms_world.proofs.network.TrustedWorldNetwork.step.Goals as goal
+
+pub returns-clause-steps : goal.returns-clause-steps
+returns-clause-steps c =
+    (told_text c.step-told.result, (c.step-told.result, refl, c.step-told.ensures.steps, c.step-told.ensures.goes), words_of c.told_text.result _ c.told_text.ensures)
