@@ -78,3 +78,5 @@ pub mod Doubting
 pub mod Trusting
 pub mod TraceBack
 pub mod TraceRead
+pub mod TraceNoted
+pub mod TraceSeen

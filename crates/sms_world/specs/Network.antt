@@ -53,8 +53,8 @@ conduct =
 
 -- A network that has a world: an event is a step of its world, of which more is told, and the words
 -- for what was answered.
-abbrev pub conduct_with : {N : Type 0} → (N → WorldValue) → (Limits → List AddressValue → N → Type 0)
-    → (Event → N → Told → N → Type 0) → Conduct N
+abbrev pub conduct_with : {N : Type 0} → (N → WorldValue)
+    → (Limits → List AddressValue → N → Type 0) → (Event → N → Told → N → Type 0) → Conduct N
 conduct_with world_of BeginsWith GoesOnWith =
     record {
       Begins = BeginsWith;

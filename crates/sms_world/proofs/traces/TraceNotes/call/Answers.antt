@@ -46,19 +46,19 @@ returns-clause-noted c counted =
     ∙ sym (ap (λ (o : Option SenderNotes). called (length c.args.self.now.numbers.items) (sender_at o) (Ok c.args.told)) there)) in
     let few : c.call.new.self.accepted < 2 ^ 64 - 1
     = subst (λ k. k < 2 ^ 64 - 1) (sym (ap (λ (x : SenderNote). x.accepted) (c.call.ensures m.0) ∙ accepted_alike c.len-count.result (sender_note s) c.args.told)) m.1 in
-    let marks : called_with c.put_out.result.0 c.put_out.result.1
+    let marks : called_with c.put_out-neither.result.0 c.put_out-neither.result.1
     ≡ called_marks (called (length c.args.self.now.numbers.items) (sender_at (slice_get c.args.self.now.senders.items c.args.phone)) (Ok c.args.told)) c.args.reject (Ok c.args.told)
-    = c.put_out.ensures few ∙ ap (λ (x : SenderNote). called_marks x c.args.reject (Ok c.args.told)) note in
+    = c.put_out-neither.ensures few ∙ ap (λ (x : SenderNote). called_marks x c.args.reject (Ok c.args.told)) note in
     let outs_is : n ≡ out_at (slice_get c.args.self.now.outs.items c.args.phone) = sym (ap out_at out) in
-    let after : called_outs n (called_with c.put_out.result.0 c.put_out.result.1)
+    let after : called_outs n (called_with c.put_out-neither.result.0 c.put_out-neither.result.1)
     ≡ called_outs (out_at (slice_get c.args.self.now.outs.items c.args.phone))
     (called_marks (called (length c.args.self.now.numbers.items) (sender_at (slice_get c.args.self.now.senders.items c.args.phone)) (Ok c.args.told)) c.args.reject (Ok c.args.told))
-    = ap (λ k. called_outs k (called_with c.put_out.result.0 c.put_out.result.1)) outs_is
+    = ap (λ k. called_outs k (called_with c.put_out-neither.result.0 c.put_out-neither.result.1)) outs_is
     ∙ ap (called_outs (out_at (slice_get c.args.self.now.outs.items c.args.phone))) marks in
     let fits = subst (λ k. k ≤ 2 ^ 64 - 1) (changed_here (λ p. out_at (slice_get c.args.self.now.outs.items p)) c.args.phone _ ∙ sym after) counted.1 in
     record {
       sent = c.put_called.ensures.sent
-          ∙ (ap (λ k. entered (called_traces k (called_with c.put_out.result.0 c.put_out.result.1)) c.args.self.now.sent.items) outs_is
+          ∙ (ap (λ k. entered (called_traces k (called_with c.put_out-neither.result.0 c.put_out-neither.result.1)) c.args.self.now.sent.items) outs_is
           ∙ ap (λ l. entered (called_traces (out_at (slice_get c.args.self.now.outs.items c.args.phone)) l) c.args.self.now.sent.items) marks);
       numbers = c.put_number.ensures;
       sender = sender_in_place c.args.self.now.senders.items c.args.phone c.call.new.self
