@@ -24,8 +24,8 @@ pub use laws::{
     facts_are_told, few_answers_are_told_apart, few_puttings_out_are_honest,
     finished_texts_are_whole, keys_are_of_finished_texts, notes_stay_right,
     open_sets_are_open_texts, order_is_tested, order_is_told, runs_are_determined,
-    segments_are_accepted_once, stores_stand, submissions_reject_duplicates,
-    traces_tell, unread_octets_change_nothing, unread_units_change_no_party, watching_goes_on,
+    segments_are_accepted_once, stores_stand, submissions_reject_duplicates, traces_tell,
+    unread_octets_change_nothing, unread_units_change_no_party, watching_goes_on,
 };
 pub use order::{Breach, Disorder, TextSegment};
 pub use playing::{play, play_watched, play_with_order, told_stores_stand};
