@@ -104,7 +104,13 @@ impl TrustedWorld {
         let now = self.watched.world().clock();
         let doubt = doubt_after(&self.notes, self.doubt, number, now, event, brought);
         let is_honest = doubt.is_none();
-        let told = happen(&mut self.watched, &mut self.notes, is_honest, event, brought);
+        let told = happen(
+            &mut self.watched,
+            &mut self.notes,
+            is_honest,
+            event,
+            brought,
+        );
         self.doubt = doubt;
         told
     }
@@ -156,10 +162,7 @@ fn doubt_after(
         return Some(doubt);
     }
     let why = notes.ground_at(now, event, brought)?;
-    Some(Doubt {
-        event: number,
-        why,
-    })
+    Some(Doubt { event: number, why })
 }
 
 /// What happens at an event: it is noted where it breaks no condition.

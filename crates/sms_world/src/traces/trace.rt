@@ -38,7 +38,9 @@ pub(crate) enum Seen {
         ends: Option<u64>,
     },
     /// An answer to what a phone has sent.
-    Answers { tag: Tag },
+    Answers {
+        tag: Tag,
+    },
     /// Neither.
     Other,
 }

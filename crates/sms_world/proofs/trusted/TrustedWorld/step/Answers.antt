@@ -27,7 +27,7 @@ returns-clause-goes c =
     (goes_trusted c.traces_tell.ensures c.runs_are_determined.ensures c.self.inside.watched c.happen-told.new.watched c.self.inside.notes c.happen-told.new.notes
     c.self.inside.doubt c.doubt_after-doubt.result (event_of c.args.event.now) c.happen-told.result c.brought_by-brought.result
     c.happen-told.ensures.steps c.happen-told.ensures.goes
-      (subst (λ (w : WorldValue). IsBroughtBy w (event_of c.args.event.now) c.brought_by-brought.result) c.world.ensures c.brought_by-brought.ensures)
+    (subst (λ (w : WorldValue). IsBroughtBy w (event_of c.args.event.now) c.brought_by-brought.result) c.world.ensures c.brought_by-brought.ensures)
     c.saturating_add-number.result (let d = c.saturating_add-number.ensures in omega (arith, d)) (c.doubt_after-doubt.ensures ∙ ap (λ now. doubt_after c.self.inside.doubt c.saturating_add-number.result (ground_at (traces_in c.self.inside.notes) now (event_of c.args.event.now) c.brought_by-brought.result))
-      (c.clock-now.ensures.clock ∙ ap (λ (w : WorldValue). w.clock) c.world-2.ensures))
+    (c.clock-now.ensures.clock ∙ ap (λ (w : WorldValue). w.clock) c.world-2.ensures))
     (λ none. c.happen-told.ensures.follows (honest_of c.doubt_after-doubt.result c.is_none-is_honest.result c.is_none-is_honest.ensures none)))
