@@ -1,6 +1,7 @@
 #!/bin/sh
 # Times calls of the library for C, which stands below PREFIX, beside the library's own, which run.sh has built; beside
-# oFono's where run.sh was given its source, and beside libosmogsm's where pkg-config knows it.
+# oFono's where run.sh was given its source, and beside libosmogsm's where pkg-config knows it (Debian's
+# libosmocore-dev).
 set -eu
 here=$(cd "$(dirname "$0")" && pwd)
 prefix=${PREFIX:-/usr/local}

@@ -1,7 +1,8 @@
 #!/bin/sh
-# Times `sms show deliver --lines --json` and `sms join` over 1,000,000 units (or as many as the first word says), which
-# units.awk prints, on one processor, beside tshark and python-gammu where they are installed, on the first 100,000 of
-# them. It needs crates/sms/out/sms, which `rt run` in crates/sms leaves there; PROGRAM names another one.
+# Times `sms show deliver --lines` and `sms join`, both with --json too, over 1,000,000 units of 10,000 origins (or as many
+# as the first word says), which units.awk prints, on one processor, and tells the most memory that each took; beside tshark
+# and python-gammu where they are installed (Debian's tshark and python3-gammu), on the first 100,000. It needs
+# crates/sms/out/sms, which `rt run` in crates/sms leaves there; PROGRAM names another one.
 set -eu
 here=$(cd "$(dirname "$0")" && pwd)
 room=${BENCH_ROOM:-${TMPDIR:-/tmp}/sms-bench}

@@ -18,7 +18,7 @@ for crate in $crates; do
 	done
 	grep "^$crate:" "$here/../crates.txt" >> "$room/crates.txt"
 done
-echo "sms_bench staticlib: $crates" >> "$room/crates.txt"
+echo "sms_bench staticlib: $crates simdutf8" >> "$room/crates.txt"
 cp "$here/../HANDLES" "$room/"
 cp "$here/library/lib.rt.in" "$room/crates/sms_bench/src/lib.rt"
 (cd "$room/crates/sms_bench" && rt lib > "$room/library.log") || { tail "$room/library.log"; exit 1; }

@@ -14,12 +14,9 @@ ghost use Rattle.sms_c.specs.declared.status.Failure.TheVariants.{NoRoom};
 use crate::out::{hand_out, text_of};
 use crate::status::{Failure, status_of};
 use sms_field::RpAddress;
-use sms_relay::{CpBody, CpMessage, RpBody, RpMessage, Side};
+use sms_relay::{CP_USER_DATA_MAX, CpBody, CpMessage, RpBody, RpMessage, Side, USER_DATA_MAX};
 use sms_tpdu::{Octets, Unit};
 use std::alloc::Global;
-
-/// The most octets of a unit in a packet.
-const UNIT_MAX: usize = 233;
 
 /// The transaction of a packet, and the reference of its message.
 #[repr(C)]
@@ -82,7 +79,7 @@ fn relayed(alloc: Global, message: RpMessage) -> Result<Octets, Failure>
     ensures room { IfErr result IsNotRoom }
 {
     let octets = message.write(alloc)?;
-    if octets.len() > 255 {
+    if octets.len() > CP_USER_DATA_MAX {
         return Err(Failure::TooLong);
     }
     Ok(Octets::from_slice(alloc, &octets)?)
@@ -125,7 +122,7 @@ fn unit_of(alloc: Global, unit: &[u8]) -> Result<Octets, Failure>
     ensures fits { IfOk result IsUserData }
     ensures room { IfErr result IsNotRoom }
 {
-    if unit.len() > UNIT_MAX {
+    if unit.len() > usize::from(USER_DATA_MAX) {
         return Err(Failure::TooLong);
     }
     Ok(Octets::from_slice(alloc, unit)?)

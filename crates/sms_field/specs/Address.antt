@@ -16,6 +16,7 @@ use Rattle.sms_field.specs.Address.NameOctets.{name, name_octets, name_length}
 use Rattle.sms_field.specs.Address.Value.{AddressValue, alphanumeric}
 use Rattle.sms_field.specs.declared.symbols.Symbols.{Symbols}
 use Rattle.sms_field.specs.declared.symbols.Symbols.TheVariants.{Digits, Name}
+use Rattle.sms_field.specs.declared.digits.TheConstants.{DIGITS_MAX}
 use Rattle.sms_field.specs.declared.fault.FieldFault.{FieldFault}
 use Rattle.sms_field.specs.declared.fault.FieldFault.TheVariants.{Short}
 use Rattle.sms_field.specs.Address.Faults.{too_long}
@@ -37,7 +38,7 @@ symbols_of kind count = symbols_by (kind == alphanumeric) count
 unfoldable pub address : Field AddressValue FieldFault
 address = do
   -- Address-Length, the number of semi-octets of Address-Value; above 20: too_long
-  count ← octet_by Short (up_to 20 too_long)
+  count ← octet_by Short (up_to DIGITS_MAX too_long)
   -- Type-of-Address: bits 6 to 4 Type-of-number, bits 3 to 0 Numbering-plan-identification
   address_type ← octet Short
   -- Address-Value

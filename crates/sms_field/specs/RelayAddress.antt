@@ -5,6 +5,7 @@ use Rattle.std.specs.Prelude.{ℕ, zero, suc, ◌+◌, ◌-◌, ◌*◌, ◌/◌
 use Rattle.sms_field.specs.Field.{Field, ◌>>=◌, always, octet, octet_by, up_to}
 use Rattle.sms_field.specs.Address.DigitOctets.{both_digits, digit_octets}
 use Rattle.sms_field.specs.RelayAddress.Value.{RelayAddressValue}
+use Rattle.sms_field.specs.declared.relay_address_view.TheConstants.{RP_LENGTH_MAX}
 use Rattle.sms_field.specs.declared.fault.FieldFault.{FieldFault}
 use Rattle.sms_field.specs.declared.fault.FieldFault.TheVariants.{Short}
 use Rattle.sms_field.specs.Address.Faults.{too_long, bad_digit}
@@ -44,7 +45,7 @@ relay_part false count = do
 unfoldable pub relay_address : Field (Option RelayAddressValue) FieldFault
 relay_address = do
   -- Length, the number of octets that follow; 0 is no address; above 11: too_long
-  count ← octet_by Short (up_to 11 too_long)
+  count ← octet_by Short (up_to RP_LENGTH_MAX too_long)
   relay_part (count == 0) (count - 1)
 
 -- how an address is written: the Length, the type of number and the plan with bit 7 set, the Number

@@ -48,8 +48,9 @@ impl Model for Address {
     }) };
 }
 
-/// The most octets of an address.
-pub(crate) const OCTETS_MAX: usize = 12;
+/// The most octets of an address, with its length octet (3GPP TS 23.040, 9.1.2.5; 3GPP TS 24.011,
+/// 8.2.5.1 and 8.2.5.2).
+pub const ADDRESS_MAX: usize = 12;
 
 /// The type of number of names.
 pub(crate) const ALPHANUMERIC: u8 = 5;
@@ -59,7 +60,7 @@ pub(crate) const ALPHANUMERIC: u8 = 5;
 #[tactic(auto, using(crate::proofs::AddressRules::address_rules))]
 pub fn address_laws()
     ensures self_contained { IsSelfContained address }
-    ensures few { AreAtMost 12 HasSpelling address_octets }
+    ensures few { AreAtMost ADDRESS_MAX HasSpelling address_octets }
     ensures octets { AreOctetsOf HasSpelling address_octets }
     ensures lawful { IsLawful Short address }
     ensures read_back { AreReadBack address HasSpelling address_octets }
@@ -92,7 +93,7 @@ impl Address {
     pub fn write(&self, alloc: Global) -> Result<Vec<u8>, AllocError>
         ensures { IfOk result (λ octets. octets.items ≡ address_octets self.now) }
     {
-        let mut octets = Vec::with_capacity(alloc, OCTETS_MAX)?;
+        let mut octets = Vec::with_capacity(alloc, ADDRESS_MAX)?;
         self.write_to(&mut octets)?;
         Ok(octets)
     }

@@ -11,7 +11,7 @@ ghost use Rattle.sms_field.specs.Address.Faults.{Gives};
 use crate::address::{ALPHANUMERIC, Address};
 use crate::digits::{Digits, digits_of, push_digits};
 use crate::fault::{AddressFault, TextFault};
-use crate::name::{Name, SEPTETS_MAX};
+use crate::name::{NAME_MAX, Name};
 use crate::symbols::Symbols;
 use sms_text::{gsm_of, text_of_gsm};
 use std::alloc::{AllocError, Global};
@@ -79,7 +79,7 @@ fn name(alloc: Global, text: &str) -> Result<Address, TextFault>
     let Some(septets) = gsm_of(alloc, text)? else {
         return Err(TextFault::Address(AddressFault::BadDigit));
     };
-    if septets.len() > SEPTETS_MAX {
+    if septets.len() > NAME_MAX {
         return Err(TextFault::Address(AddressFault::AddressTooLong));
     }
     Ok(Address {

@@ -26,7 +26,7 @@ use std::marker::Model;
 pub struct AddressView<'a> {
     type_of_number: u8,
     plan: u8,
-    /// The semi-octets that the symbols take, at most 20.
+    /// The semi-octets that the symbols take, at most `DIGITS_MAX`.
     count: u8,
     octets: &'a [u8],
 }
@@ -67,7 +67,7 @@ fn symbols_seen_at<'a>(
     type_of_number: u8,
     count: u8,
 ) -> Result<&'a [u8], Fault<FieldFault>>
-    requires { count ≤ 20 }
+    requires { count ≤ DIGITS_MAX }
     ensures read { SeesAs (λ octets. symbols_seen type_of_number count octets.now)
         (symbols_of type_of_number count) input.old result input.new }
     ensures whole { IfOk result (λ octets. length octets.now ≡ (count + 1) / 2) }

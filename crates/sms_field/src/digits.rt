@@ -20,8 +20,8 @@ use std::alloc::{AllocError, Global};
 use std::hash::{Hash, Hasher};
 use std::marker::Model;
 
-/// The most digits of an address.
-pub(crate) const DIGITS_MAX: usize = 20;
+/// The most digits of an address (3GPP TS 23.040, 9.1.2.5).
+pub const DIGITS_MAX: usize = 20;
 
 /// Up to 20 digits, each 0 to 14. They lie in the value itself.
 #[derive(Debug, Drop)]
@@ -88,7 +88,7 @@ impl Digits {
     /// The digits, each 0 to 14.
     pub fn as_slice(&self) -> &[u8]
         ensures value { result.now ≡ self.now }
-        ensures few { length result.now ≤ 20 }
+        ensures few { length result.now ≤ DIGITS_MAX }
         ensures each { All (λ digit. digit < 15) result.now }
     {
         self.values.as_slice()
@@ -179,6 +179,10 @@ fn place_of(c: char) -> Option<usize>
 fn digit_of(c: char) -> Option<u8>
     ensures { result ≡ digit_of_character c }
 {
+    // most are of these, which stand in order
+    if let '0'..='9' = c {
+        return Some((c as u32 - 48) as u8);
+    }
     let place = place_of(c)?;
     Some(place as u8)
 }

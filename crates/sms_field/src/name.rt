@@ -15,13 +15,13 @@ use std::alloc::{AllocError, Global};
 use std::hash::{Hash, Hasher};
 use std::marker::Model;
 
-/// The most septets of a name.
-pub(crate) const SEPTETS_MAX: usize = 11;
+/// The most septets of a name (3GPP TS 23.040, 9.1.2.5).
+pub const NAME_MAX: usize = 11;
 
 /// A name: up to 11 septets of the 7-bit default alphabet. They lie in the value itself.
 #[derive(Debug, Drop)]
 pub struct Name {
-    septets: ArrayVec<u8, SEPTETS_MAX>,
+    septets: ArrayVec<u8, NAME_MAX>,
 }
 
 impl Model for Name {
@@ -73,7 +73,7 @@ impl Name {
     }
 
     /// The name of the septets that lie in this room.
-    pub(crate) fn of(septets: ArrayVec<u8, SEPTETS_MAX>) -> Name
+    pub(crate) fn of(septets: ArrayVec<u8, NAME_MAX>) -> Name
         requires { IsName septets.items }
         ensures { result ≡ septets.items }
     {
@@ -83,7 +83,7 @@ impl Name {
     /// The septets, each below 128.
     pub fn as_slice(&self) -> &[u8]
         ensures value { result.now ≡ self.now }
-        ensures few { length result.now ≤ 11 }
+        ensures few { length result.now ≤ NAME_MAX }
         ensures each { AreSeptets result.now }
     {
         self.septets.as_slice()

@@ -21,7 +21,7 @@ ghost use Rattle.std.specs.Hash as fed;
 ghost use Rattle.std.proofs.Common.{rules};
 ghost use Rattle.sms_field.specs.Reading.Answer.{Takes};
 
-use crate::address::OCTETS_MAX;
+use crate::address::ADDRESS_MAX;
 use crate::address_text::{digits_of_telephone, international, text_of_telephone};
 use crate::cursor::Cursor;
 use crate::digits::{Digits, put_telephone};
@@ -107,7 +107,7 @@ fn telephone(alloc: Global, type_of_number: u8, text: &str) -> Result<RpAddress,
 #[tactic(auto, using(crate::proofs::AddressRules::relay_address_rules))]
 pub fn relay_address_laws()
     ensures self_contained { IsSelfContained relay_address }
-    ensures few { AreAtMost 12 HasOptionalSpelling optional_address_octets }
+    ensures few { AreAtMost ADDRESS_MAX HasOptionalSpelling optional_address_octets }
     ensures octets { AreOctetsOf HasOptionalSpelling optional_address_octets }
     ensures lawful { IsLawful Short relay_address }
     ensures read_back { AreReadBack relay_address HasOptionalSpelling optional_address_octets }
@@ -151,7 +151,7 @@ impl RpAddress {
     pub fn write(&self, alloc: Global) -> Result<Vec<u8>, AllocError>
         ensures { IfOk result (λ octets. octets.items ≡ relay_address_octets self.now) }
     {
-        let mut octets = Vec::with_capacity(alloc, OCTETS_MAX)?;
+        let mut octets = Vec::with_capacity(alloc, ADDRESS_MAX)?;
         self.write_to(&mut octets)?;
         Ok(octets)
     }

@@ -1,6 +1,6 @@
 //! Addresses of the relay layer, seen in a message's octets (3GPP TS 24.011, 8.2.5.1 and 8.2.5.2).
 
-ghost use Rattle.std.specs.Prelude.{◌≡◌, ◌≤◌, ◌/◌, ◌%◌, length, MatchResult, IsOk, IfOk, IfErr, None};
+ghost use Rattle.std.specs.Prelude.{◌≡◌, ◌≤◌, ◌*◌, ◌/◌, ◌%◌, length, MatchResult, IsOk, IfOk, IfErr, None};
 ghost use Rattle.sms_field.specs.Field.{octet_by};
 ghost use Rattle.sms_field.specs.Reading.Answer.{Sees, SeesAs};
 ghost use Rattle.sms_field.specs.Reading.{Reads};
@@ -12,7 +12,7 @@ ghost use Rattle.sms_field.specs.Inside.RelayAddressSeen.{last_digits_in, relay_
 ghost use Rattle.sms_field.specs.declared.fault.FieldFault.TheVariants.{Short};
 
 use crate::cursor::Cursor;
-use crate::digits::both_digits_of;
+use crate::digits::{DIGITS_MAX, both_digits_of};
 use crate::fault::{AddressFault, FieldFault};
 use crate::refusal::Fault;
 use crate::relay_address::RpAddress;
@@ -20,13 +20,17 @@ use crate::symbols_view::DigitsView;
 use std::alloc::{AllocError, Global};
 use std::marker::Model;
 
+/// The greatest Length of an address of the relay layer: as many octets follow it at most (3GPP TS
+/// 24.011, 8.2.5.1 and 8.2.5.2).
+pub const RP_LENGTH_MAX: u8 = 11;
+
 /// An address of the relay layer that lies in the octets of a message. Contracts see it as the
 /// address.
 #[derive(Drop)]
 pub struct RpAddressView<'a> {
     type_of_number: u8,
     plan: u8,
-    /// The digits, at most 20.
+    /// The digits, at most `DIGITS_MAX`.
     count: u8,
     octets: &'a [u8],
 }
@@ -82,7 +86,7 @@ fn relay_digits_seen_at<'a>(
 
 /// How many digits are in octets.
 fn digit_count(octets: &[u8]) -> u8
-    requires { length octets.now ≤ 10 }
+    requires { 2 * length octets.now ≤ DIGITS_MAX }
     ensures { result ≡ relay_count octets.now }
 {
     let most = 2 * octets.len() as u8;
@@ -95,7 +99,7 @@ fn digit_count(octets: &[u8]) -> u8
 
 /// The address of a type octet and of digits.
 fn address_seen<'a>(address_type: u8, octets: &'a [u8]) -> RpAddressView<'a>
-    requires few { length octets.now ≤ 10 }
+    requires few { 2 * length octets.now ≤ DIGITS_MAX }
     requires digits { AreDigits (relay_digits_in octets.now) }
     ensures { result ≡ relay_address_in (address_type / 16 % 8) (address_type % 16)
         (relay_count octets.now) octets.now }
@@ -137,7 +141,10 @@ impl<'a> RpAddressView<'a> {
     pub fn read_at(input: &mut Cursor<'a>) -> Result<Option<RpAddressView<'a>>, Fault<FieldFault>>
         ensures { Sees relay_address input.old result input.new }
     {
-        let count = input.take_octet_up_to(11, FieldFault::Address(AddressFault::AddressTooLong))?;
+        let count = input.take_octet_up_to(
+            RP_LENGTH_MAX,
+            FieldFault::Address(AddressFault::AddressTooLong),
+        )?;
         if count == 0 {
             return Ok(None);
         }

@@ -7,7 +7,7 @@ ghost use Rattle.sms_field.specs.Inside.AddressSeen.{digits_in};
 ghost use Rattle.sms_field.specs.Address.Seen.{seen_symbols};
 
 use crate::digits::{DIGITS_MAX, Digits};
-use crate::name::{Name, SEPTETS_MAX};
+use crate::name::{NAME_MAX, Name};
 use crate::symbols::Symbols;
 use arrayvec::ArrayVec;
 use sms_text::septet_at;
@@ -17,7 +17,7 @@ use std::marker::Model;
 /// list of the digits.
 #[derive(Drop)]
 pub struct DigitsView<'a> {
-    /// At most 20.
+    /// At most `DIGITS_MAX`.
     count: u8,
     octets: &'a [u8],
 }
@@ -60,7 +60,7 @@ impl<'a> DigitsView<'a> {
     /// How many digits there are.
     pub fn count(&self) -> u8
         ensures is { result ≡ length self.now }
-        ensures few { result ≤ 20 }
+        ensures few { result ≤ DIGITS_MAX }
     {
         self.count
     }
@@ -87,7 +87,7 @@ impl<'a> DigitsView<'a> {
 /// the list of the septets.
 #[derive(Drop)]
 pub struct NameView<'a> {
-    /// At most 11.
+    /// At most `NAME_MAX`.
     count: u8,
     octets: &'a [u8],
 }
@@ -107,7 +107,7 @@ impl<'a> Model for NameView<'a> {
 impl<'a> NameView<'a> {
     /// The septets in these octets, as many as are counted.
     pub(crate) fn new(count: u8, octets: &'a [u8]) -> NameView<'a>
-        requires few { count ≤ 11 }
+        requires few { count ≤ NAME_MAX }
         requires enough { 7 * count ≤ 8 * length octets.now }
         ensures { result ≡ unpacked 0 count octets.now }
     {
@@ -118,7 +118,7 @@ impl<'a> NameView<'a> {
     pub fn to_value(&self) -> Name
         ensures { result ≡ self.now }
     {
-        let mut septets: ArrayVec<u8, SEPTETS_MAX> = ArrayVec::new();
+        let mut septets: ArrayVec<u8, NAME_MAX> = ArrayVec::new();
         for place in 0..self.count {
             match septet_at(self.octets, 0, place) {
                 Some(septet) => septets.push(septet),
@@ -131,7 +131,7 @@ impl<'a> NameView<'a> {
     /// How many septets there are.
     pub fn count(&self) -> u8
         ensures is { result ≡ length self.now }
-        ensures few { result ≤ 11 }
+        ensures few { result ≤ NAME_MAX }
     {
         self.count
     }

@@ -14,7 +14,7 @@ use Rattle.sms_join.proofs.CutPlaces.{PartedUpTo, IsEnd, end_after, one_piece_mo
 
 -- ---- the loop
 
-rise-push : (start all end : ℕ) (ends : List ℕ) → RiseTo start ends all → all ≤ end → RiseTo start (ends ++ end ∷ []) end
+pub rise-push : (start all end : ℕ) (ends : List ℕ) → RiseTo start ends all → all ≤ end → RiseTo start (ends ++ end ∷ []) end
 rise-push start all end [] e le = (omega (arith, e, le), refl)
 rise-push start all end (x ∷ ends) rise le = (rise.0, rise-push x all end ends rise.1 le)
 
@@ -98,14 +98,15 @@ no_segment_at [] index le = refl
 no_segment_at (x ∷ xs) zero le = absurd (omega (arith, le))
 no_segment_at (x ∷ xs) (suc index) le = no_segment_at xs index (omega (arith, le))
 
+-- no end stands behind that of all
+pub end_inside : (start all : ℕ) (ends : List ℕ) → RiseTo start ends all → start ≤ all
+end_inside start all [] e = omega (arith, e)
+end_inside start all (end ∷ ends) rise = omega (arith, rise.0, end_inside end all ends rise.1)
+
 -- a piece lies in the units
 pub piece_inside : (start all index : ℕ) (ends : List ℕ) → RiseTo start ends all → index < length ends → (start_at start ends index ≤ get_or ends index 0) × (get_or ends index 0 ≤ all)
 piece_inside start all index [] rise inside = absurd (omega (arith, inside))
 piece_inside start all zero (end ∷ ends) rise inside = (rise.0, end_inside end all ends rise.1)
-  where
-    end_inside : (start all : ℕ) (ends : List ℕ) → RiseTo start ends all → start ≤ all
-    end_inside start all [] e = omega (arith, e)
-    end_inside start all (end ∷ ends) rise = omega (arith, rise.0, end_inside end all ends rise.1)
 piece_inside start all (suc index) (end ∷ ends) rise inside = piece_inside end all index ends rise.1 (omega (arith, inside))
 
 -- where it starts: at the end of the one before it
@@ -117,6 +118,28 @@ start_after start (suc index) (end ∷ ends) inside = start_after end index ends
 pub start_is_end : (index : ℕ) (ends : List ℕ) → 0 < index → index < length ends → get_or ends (index - 1) 0 ≡ start_at 0 ends index
 start_is_end zero ends some inside = absurd (omega (arith, some))
 start_is_end (suc index) ends some inside = ap (λ k. get_or ends k 0) (omega arith) ∙ start_after 0 index ends inside
+
+-- ---- one segment after another
+
+-- the first segments and the next one
+pub take_next : (xs : List Segment) (n : ℕ) (x : Segment) → slice_get xs n ≡ Some x → take (n + 1) xs ≡ take n xs ++ x ∷ []
+take_next xs n x e = let on : n + 1 ≡ suc n = omega arith in ap (λ (k : ℕ). take k xs) on ∙ go xs n e
+  where
+    go : (xs : List Segment) (n : ℕ) → slice_get xs n ≡ Some x → take (suc n) xs ≡ take n xs ++ x ∷ []
+    go [] n e = absurd cc
+    go (y ∷ xs) zero e = let same : y ≡ x = cc in ap (λ z. z ∷ []) same
+    go (y ∷ xs) (suc n) e = ap (λ l. y ∷ l) (go xs n e)
+
+pub all_taken : (xs : List Segment) (n : ℕ) → length xs ≤ n → take n xs ≡ xs
+all_taken [] zero e = refl
+all_taken [] (suc n) e = refl
+all_taken (x ∷ xs) zero e = absurd (omega arith)
+all_taken (x ∷ xs) (suc n) e = ap (λ l. x ∷ l) (all_taken xs n (omega (arith, e)))
+
+pub is_there : (xs : List Segment) (n : ℕ) → n < length xs → slice_get xs n ≡ None → ⊥
+is_there [] n lt e = absurd (omega arith)
+is_there (x ∷ xs) zero lt e = absurd cc
+is_there (x ∷ xs) (suc n) lt e = is_there xs n (omega (arith, lt)) e
 
 -- ---- septets that are a part of septets
 

@@ -25,6 +25,7 @@ pub mod OneCut
 pub mod ReadingLaws
 pub mod CutPlaces
 pub mod Ends
+pub mod WrittenParts
 pub mod TextUnits
 pub mod SegmentTexts
 pub mod Sendable

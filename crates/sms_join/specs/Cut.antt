@@ -1,6 +1,7 @@
 -- How a text is cut into the segments of a message (3GPP TS 23.040, 9.2.3.24.1 and 9.2.3.24.8).
-use Rattle.std.specs.Prelude.{◌≡◌, ℕ, ◌+◌, ◌<◌, ◌≤◌, List, [], ◌∷◌, ◌++◌, length, map}
+use Rattle.std.specs.Prelude.{◌≡◌, ℕ, ◌+◌, ◌/◌, ◌<◌, ◌≤◌, List, [], ◌∷◌, ◌++◌, length, map}
 use Rattle.std.specs.List.{concat, flat_map, AllByRecursion}
+use Rattle.sms_tpdu.specs.declared.user_data.lengths.TheConstants.{OCTETS_MAX, SEPTETS_MAX}
 use Rattle.sms_tpdu.specs.declared.user_data.concat.Width.{Width}
 use Rattle.sms_tpdu.specs.declared.user_data.concat.Width.TheVariants.{Eight, Sixteen}
 use Rattle.sms_join.specs.declared.units.Units.{Units}
@@ -8,8 +9,8 @@ use Rattle.sms_join.specs.UnitsOfText.{IsText, Alphabet, Default, Wide, alphabet
 
 -- how many units a message has room for
 abbrev pub room_alone : Alphabet → ℕ
-room_alone Default = 160
-room_alone Wide = 70
+room_alone Default = SEPTETS_MAX
+room_alone Wide = OCTETS_MAX / 2
 
 -- how many units a segment has room for beside its header
 abbrev pub room_beside : Width → Alphabet → ℕ

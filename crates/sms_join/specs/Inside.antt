@@ -2,4 +2,5 @@
 pub mod LastKeys
 pub mod OpenSet
 pub mod SegmentsAt
+pub mod WrittenAt
 pub mod Slots

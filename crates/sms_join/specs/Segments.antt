@@ -1,6 +1,7 @@
 -- The segments of a text (3GPP TS 23.040, 9.2.3.24.1).
 pub mod User
 pub mod Value
+pub mod Written
 use Rattle.std.specs.Prelude.{◌≡◌, ℕ, List, length, map}
 use Rattle.std.specs.List.{AllByRecursion, range_with_len}
 use Rattle.sms_tpdu.specs.declared.user_data.concat.Width.{Width}

@@ -13,6 +13,7 @@ mod segment;
 mod segments;
 mod slot;
 mod units;
+mod written;
 
 pub use cut::{SEGMENTS_MAX, SplitFault, cut_text, split};
 pub use joiner::Joiner;
@@ -23,3 +24,4 @@ pub use reading::read_units;
 pub use segment::{Segment, SegmentView, segment_user};
 pub use segments::Segments;
 pub use units::{Ucs2Units, Units};
+pub use written::Written;

@@ -1,6 +1,6 @@
 //! One segment of a message.
 
-ghost use Rattle.std.specs.Prelude.{◌≡◌, ◌<◌, ◌≤◌, None, Some, IfOk, IfSome, MatchOption};
+ghost use Rattle.std.specs.Prelude.{◌≡◌, ◌<◌, ◌≤◌, ◌++◌, ℕ, List, None, Some, IfOk, OnOk, IfSome, MatchOption};
 ghost use Rattle.sms_tpdu.specs.declared.user_data.concat.Width.TheVariants.{Eight};
 ghost use Rattle.sms_text.specs.Octets.{IsOctets};
 ghost use Rattle.sms_text.specs.Utf16.{octets_high_first};
@@ -16,7 +16,8 @@ ghost use Rattle.sms_join.specs.Segments.Value.{seen_units, AreLent};
 use crate::units::Units;
 use sms_text::octets_of_units;
 use sms_tpdu::{
-    Body, Concat, Header, Octets, Septets, SubmitFront, UnitsView, UserData, Width, write_units,
+    Body, Concat, Header, Octets, Septets, SubmitFront, UnitsView, UserData, Width, put_lent,
+    write_units,
 };
 use std::alloc::{AllocError, Global};
 use std::marker::Model;
@@ -234,6 +235,22 @@ impl<'a> SegmentView<'a> {
             SpellsUserData (user_of width reference self.now) octets.items) }
     {
         write_units(alloc, self.place(width, reference), self.units)
+    }
+
+    /// Adds the octets of the user data of the segment.
+    pub(crate) fn put_user(
+        &self,
+        out: &mut Vec<u8>,
+        width: Width,
+        reference: u16,
+    ) -> Result<(), AllocError>
+        requires sendable { IsSendable width self.now }
+        requires reference { width ≡ Eight → reference < 256 }
+        ensures { OnOk result ((written : List ℕ)
+            × SpellsUserData (user_of width reference self.now) written
+            × (out.new.items ≡ out.old.items ++ written)) }
+    {
+        put_lent(out, self.place(width, reference), self.units)
     }
 
     /// The octets of the SMS-SUBMIT with these fields that carries the segment, written straight

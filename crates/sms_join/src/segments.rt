@@ -1,11 +1,16 @@
 //! The segments of a text.
 
-ghost use Rattle.std.specs.Prelude.{◌≡◌, ◌<◌, ◌≤◌, ◌↔◌, [], IfOk, IfSome, IsTrue, length, slice_get, slice_index_or};
+ghost use Rattle.std.specs.Prelude.{◌≡◌, ◌<◌, ◌≤◌, ◌↔◌, [], All, IfOk, IfSome, IsTrue, length, slice_get, slice_index_or};
+ghost use Rattle.sms_tpdu.specs.declared.user_data.concat.Width.TheVariants.{Eight};
+ghost use Rattle.sms_join.specs.Segments.User.{IsSendable};
+ghost use Rattle.sms_join.specs.Segments.Written.{AreUsersOf};
 ghost use Rattle.sms_join.specs.Inside.SegmentsAt.{AreEnds, segments_at, start_at};
 
 use crate::cut::SEGMENTS_MAX;
 use crate::segment::{Segment, SegmentView};
 use crate::units::Units;
+use crate::written::Written;
+use sms_tpdu::{OCTETS_MAX, Width};
 use std::alloc::{AllocError, Global};
 use std::marker::Model;
 
@@ -30,8 +35,12 @@ impl Model for Segments {
     ghost invariant = { λ s. AreEnds s.units s.ends.items };
 }
 
+/// The most octets of user data, TP-UDL before them, and one more, which packing writes and takes
+/// back.
+const ROOM: usize = OCTETS_MAX + 2;
+
 /// Where the piece of an index starts.
-fn start_of(ends: &[usize], index: usize) -> usize
+pub(crate) fn start_of(ends: &[usize], index: usize) -> usize
     requires { index < length ends.now }
     ensures { result ≡ start_at 0 ends.now index }
 {
@@ -88,5 +97,30 @@ impl Segments {
             }
         }
         Ok(segments)
+    }
+
+    /// The octets of the user data of all segments, as `SegmentView::write_user` writes those of
+    /// each, one after another in one block.
+    ///
+    /// The segments have one reference, which is below 256 with `Width::Eight`.
+    pub fn write_users(
+        &self,
+        alloc: Global,
+        width: Width,
+        reference: u16,
+    ) -> Result<Written, AllocError>
+        requires sendable { All (IsSendable width) self.now }
+        requires reference { width ≡ Eight → reference < 256 }
+        ensures { IfOk result (AreUsersOf width reference self.now) }
+    {
+        let mut octets = Vec::with_capacity(alloc, ROOM * self.len())?;
+        let mut ends = Vec::with_capacity(alloc, self.len())?;
+        for index in 0..self.len() {
+            if let Some(segment) = self.get(index) {
+                segment.put_user(&mut octets, width, reference)?;
+                ends.push(octets.len())?;
+            }
+        }
+        Ok(Written::new(octets, ends))
     }
 }

@@ -6,7 +6,7 @@ ghost use Rattle.sms_join.specs.Segments.User.{IsSendable};
 
 use crate::cut::{CUTS, repeated};
 use crate::found::{holds, same};
-use sms_join::{SegmentView, Segments, cut_text, segment_user, split};
+use sms_join::{SegmentView, Segments, Written, cut_text, segment_user, split};
 use sms_tpdu::{Body, UserData, Width};
 use std::alloc::{AllocError, Global};
 use std::process::Abort;
@@ -173,10 +173,42 @@ fn all_are_written(alloc: Global, segments: &Segments, width: Width) -> Result<b
     Ok(true)
 }
 
-/// Whether all segments of a text are written as their user data are.
+/// Whether a part of a block is what a segment is written as.
+fn is_part(
+    alloc: Global,
+    block: &Written,
+    segments: &Segments,
+    place: usize,
+    width: Width,
+) -> Result<bool, Fail>
+    requires sendable { All (IsSendable width) segments.now }
+{
+    let segment = segments.get(place).ok_or("no segment")?;
+    let octets = segment.write_user(alloc, width, 200)?;
+    let part = block.get(place).ok_or("no part")?;
+    Ok(part == octets.as_slice())
+}
+
+/// Whether one block has the parts that the segments are written as, and no other.
+fn block_is_written(alloc: Global, segments: &Segments, width: Width) -> Result<bool, Fail>
+    requires sendable { All (IsSendable width) segments.now }
+{
+    let block = segments.write_users(alloc, width, 200)?;
+    for place in 0..segments.len() {
+        if !is_part(alloc, &block, segments, place, width)? {
+            return Ok(false);
+        }
+    }
+    Ok(block.len() == segments.len() && block.get(segments.len()).is_none())
+}
+
+/// Whether all segments of a text are written as their user data are, each by itself and all in one
+/// block.
 fn are_written(alloc: Global, text: &str, width: Width) -> Result<bool, Fail> {
     let segments = cut_text(alloc, text, width)?;
-    all_are_written(alloc, &segments, width)
+    let each = all_are_written(alloc, &segments, width)?;
+    let block = block_is_written(alloc, &segments, width)?;
+    Ok(each && block)
 }
 
 /// The segments of a text are written as their user data are.

@@ -8,7 +8,7 @@ use Rattle.sms_tpdu.specs.Inside.SubmitLaws.{submit_laws}
 use Rattle.sms_tpdu.specs.Deliver.{deliver}
 use Rattle.sms_tpdu.specs.Inside.DeliverLaws.{deliver_laws}
 use Rattle.sms_tpdu.specs.Report.{submit_ack, submit_error, deliver_ack, deliver_error}
-use Rattle.sms_tpdu.specs.Report.Laws.{submit_ack_laws, submit_error_laws, deliver_ack_laws, deliver_error_laws}
+use Rattle.sms_tpdu.specs.Inside.ReportLaws.{submit_ack_laws, submit_error_laws, deliver_ack_laws, deliver_error_laws}
 use Rattle.sms_relay.specs.Rp.Value.{RpValue}
 use Rattle.sms_text.specs.Octets.{IsOctets}
 use Rattle.sms_relay.specs.Rp.{SpellsRp}

@@ -9,7 +9,7 @@ use Rattle.sms_tpdu.specs.Deliver.{deliver}
 use Rattle.sms_tpdu.specs.Deliver.Flags.{deliver_flags}
 use Rattle.sms_tpdu.specs.Inside.DeliverLaws.{deliver_lawful}
 use Rattle.sms_tpdu.specs.Report.{submit_ack, submit_error, deliver_ack, deliver_error}
-use Rattle.sms_tpdu.specs.Report.Laws.{submit_ack_lawful, submit_error_lawful, deliver_ack_lawful, deliver_error_lawful}
+use Rattle.sms_tpdu.specs.Inside.ReportLaws.{submit_ack_lawful, submit_error_lawful, deliver_ack_lawful, deliver_error_lawful}
 use Rattle.sms_tpdu.specs.declared.fault.UnitFault.{UnitFault}
 use Rattle.sms_tpdu.specs.declared.fault.UnitFault.TheVariants as unit
 use Rattle.sms_relay.specs.Cp.{cp_message}

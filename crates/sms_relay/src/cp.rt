@@ -15,6 +15,9 @@ use sms_tpdu::{Octets, Unit, View};
 use std::alloc::{AllocError, Global};
 use std::marker::Model;
 
+/// The most octets of CP-User Data: what their length octet can say (3GPP TS 24.011, 8.1.4.1).
+pub const CP_USER_DATA_MAX: usize = 255;
+
 /// What a CP message holds.
 #[derive(Drop)]
 pub enum CpBody {

@@ -17,7 +17,7 @@ mod user;
 mod wrap;
 
 pub use cp::view::{CpBodyView, CpView};
-pub use cp::{CpBody, CpMessage};
+pub use cp::{CP_USER_DATA_MAX, CpBody, CpMessage};
 pub use cp_kind::CpKind;
 pub use fault::{RelayFault, WrapFault};
 pub use inner::{Inner, InnerView};

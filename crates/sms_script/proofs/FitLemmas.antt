@@ -8,7 +8,8 @@ use Rattle.sms_field.specs.Address.Value.{AddressValue}
 use Rattle.sms_field.specs.Address.Same.{same_address}
 use Rattle.sms_script.specs.Meaning.{phone, new_name, new_address, limit, new_phone, said, event_number, one_phone, said_by_words, last_second, Fits}
 use Rattle.sms_script.specs.Meaning.Commands.{command, is_setting}
-use Rattle.sms_script.specs.Meaning.Known.{KnownValue, phone_limit}
+use Rattle.sms_script.specs.Meaning.Known.{KnownValue}
+use Rattle.sms_script.specs.declared.meaning.known.TheConstants.{PHONE_LIMIT}
 use Rattle.sms_script.specs.Meaning.Limits.{greatest}
 use Rattle.sms_script.specs.Reasons.{◌>>=◌, ◌>>◌, demand, some_or, Gives}
 use Rattle.sms_script.specs.declared.fault.MeaningFault.{MeaningFault}
@@ -91,7 +92,7 @@ phone_fits known rest st e =
     bound (Fits known) (two_words rest) _ (λ both s o k.
     bound (Fits known) (new_name known both.0) _ (λ name t n l.
     bound (Fits known) (new_address known both.1) _ (λ a u x m.
-    demanded (Fits known) (nat_lt (length known.addresses) phone_limit) TooManyPhones _ (λ v few w.
+    demanded (Fits known) (nat_lt (length known.addresses) PHONE_LIMIT) TooManyPhones _ (λ v few w.
     free known (statements.Phone (record { name = name; address = a })) v
     (name_fits known both.0 name n, address_fits known both.1 a x, ltb-true _ _ few) w) u m) t l) s k) st e
 

@@ -14,6 +14,7 @@ use Rattle.sms_script.specs.declared.meaning.command.Command.{Command}
 use Rattle.sms_script.specs.declared.meaning.command.Command.TheVariants as commands
 use Rattle.sms_script.specs.declared.meaning.event.Event.{Event}
 use Rattle.sms_script.specs.declared.meaning.event.Event.TheVariants.{Compose, Carry, Timeout, Push, Tick, Inject}
+use Rattle.sms_script.specs.declared.meaning.known.TheConstants.{PHONE_LIMIT}
 use Rattle.sms_script.specs.declared.meaning.statement.Limit.{Limit}
 use Rattle.sms_script.specs.declared.meaning.statement.Limit.TheVariants as limits
 use Rattle.sms_script.specs.declared.meaning.statement.Statement.{Statement}
@@ -25,7 +26,7 @@ use Rattle.sms_script.specs.Words.Names.{is_name}
 use Rattle.sms_script.specs.Words.Addresses.{address, can_be_phone}
 use Rattle.sms_script.specs.Words.Hexadecimal.{hexadecimal}
 use Rattle.sms_script.specs.Meaning.Commands.{command, is_setting}
-use Rattle.sms_script.specs.Meaning.Known.{KnownValue, phone_limit, IsNew}
+use Rattle.sms_script.specs.Meaning.Known.{KnownValue, IsNew}
 use Rattle.sms_script.specs.Meaning.Limits.{greatest}
 
 -- the greatest number of ten digits
@@ -83,7 +84,7 @@ new_phone known rest = do
   both ← two_words rest
   name ← new_name known both.0
   a ← new_address known both.1
-  demand (nat_lt (length known.addresses) phone_limit) TooManyPhones
+  demand (nat_lt (length known.addresses) PHONE_LIMIT) TooManyPhones
   Ok (statements.Phone (record { name = name; address = a }))
 
 -- `type`: a phone, an address and a text

@@ -11,10 +11,10 @@ mod script;
 mod transcript;
 mod words;
 
-pub use devices::{DeviceFailed, Sink, Source, Watched, next_octet, write_whole};
-pub use fault::{MeaningFault, PlayFault, ScriptFault};
-pub use lines::{LINE_LIMIT, LineEnd, LineFault, read_line};
-pub use meaning::{Command, Event, Known, Limit, PHONE_LIMIT, Phone, Statement, Text, meaning_of};
+pub use devices::{DeviceFailed, Sink, Source, Watched, write_whole};
+pub use fault::{PlayFault, ScriptFault};
+pub use lines::{LineEnd, LineFault, read_line};
+pub use meaning::{Event, Limit, Text};
 pub use playing::{Network, Next, play, play_on};
 pub use script::{Limits, Script};
 pub use sms_field::Octets;

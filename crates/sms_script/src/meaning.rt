@@ -12,13 +12,14 @@ ghost use Rattle.sms_script.specs.Meaning.{phone, new_name, new_address, limit, 
 
 use crate::fault::{MeaningFault, ScriptFault};
 use crate::meaning::command::command_of;
+use crate::meaning::known::PHONE_LIMIT;
 use crate::words::{
     address_of, can_be_phone, is_name, no_word, number_in, octets_of, one_word, two_words,
     two_words_and_text,
 };
 pub use command::Command;
 pub use event::{Event, Text};
-pub use known::{Known, PHONE_LIMIT};
+pub use known::Known;
 use sms_field::{Address, END_OF_2099};
 pub use statement::{Limit, Phone, Statement};
 use std::alloc::Global;

@@ -143,3 +143,17 @@ pub euro_is : (c : ℕ) → 128 ≤ c → code_of ((101, 8364) ∷ []) c ≡ cod
 euro_is c big =
     sym (passed_over (10, 12) _ c (omega arith) big ∙ passed_over (20, 94) _ c (omega arith) big ∙ passed_over (40, 123) _ c (omega arith) big ∙ passed_over (41, 125) _ c (omega arith) big ∙ passed_over (47, 92) _ c (omega arith) big
     ∙ passed_over (60, 91) _ c (omega arith) big ∙ passed_over (61, 126) _ c (omega arith) big ∙ passed_over (62, 93) _ c (omega arith) big ∙ passed_over (64, 124) _ c (omega arith) big)
+
+below_greater : (entry : ℕ × ℕ) (others : List (ℕ × ℕ)) (c : ℕ) → entry.1 < c → code_of (entry ∷ others) c ≡ code_of others c
+unfolding code_of
+below_greater entry others c low = rw (ne_eqb entry.1 c (λ same_one. omega (arith, low, same_one))) refl
+
+no_code : (c : ℕ) → code_of [] c ≡ None
+unfolding code_of
+no_code c = refl
+
+-- no character of the main table is beyond U+03A9
+pub none_beyond : (c : ℕ) → 937 < c → None ≡ code_of main c
+none_beyond c big =
+    sym (sym (greek_is c (omega arith)) ∙ below_greater (16, 916) _ c (omega arith) ∙ below_greater (18, 934) _ c (omega arith) ∙ below_greater (19, 915) _ c (omega arith) ∙ below_greater (20, 923) _ c (omega arith) ∙ below_greater (21, 937) _ c (omega arith)
+    ∙ below_greater (22, 928) _ c (omega arith) ∙ below_greater (23, 936) _ c (omega arith) ∙ below_greater (24, 931) _ c (omega arith) ∙ below_greater (25, 920) _ c (omega arith) ∙ below_greater (26, 926) _ c (omega arith) ∙ no_code c)

@@ -9,8 +9,9 @@ ghost use Rattle.sms_text.specs.Inside.Words.{low_octets};
 ghost use Rattle.sms_text.specs.Inside.Spelled.{StartsText};
 ghost use Rattle.sms_text.specs.TextOfSeptets.{text_of_septets};
 
-use crate::alphabet::{all_same, are_same};
+use crate::alphabet::all_same;
 use crate::packing::unpack;
+use crate::same::same_sixteen;
 use crate::spelled::{escaped_word, plain_word};
 use crate::tables::ESCAPE;
 use std::alloc::{AllocError, Global};
@@ -55,20 +56,6 @@ fn first_word(septets: &[u8]) -> Option<(u32, &[u8])>
         [_] => Some((SPACE, &[])),
         [_, code, others @ ..] => Some((escaped_word(*code), others)),
     }
-}
-
-/// Sixteen octets at the front that are the codes of their own characters, and the octets after
-/// them.
-#[inline(always)]
-fn same_sixteen(octets: &[u8]) -> Option<(&[u8], &[u8])>
-    ensures { IfSome result (λ parts. (octets.now ≡ parts.0.now ++ parts.1.now)
-        × AreSame parts.0.now × (length parts.0.now ≡ 16)) }
-{
-    if octets.len() < 16 {
-        return None;
-    }
-    let (block, rest) = octets.split_at(16);
-    are_same(block).then_some((block, rest))
 }
 
 /// Writes the text of septets from a place on, a character at a time, and stops where at most so

@@ -1,15 +1,22 @@
 -- What a reader may pass by: no public contract cites it.
+pub mod AnnouncedPartsLaws
 pub mod CommandLaws
 pub mod DataSpansLaws
 pub mod DeliverLaws
 pub mod FaultLaws
 pub mod HeaderLaws
 pub mod IfMoreLaws
+pub mod IndicatedLaws
+pub mod ParameterIndicatorLaws
 pub mod RefusalLaws
+pub mod ReportKindLaws
+pub mod ReportLaws
+pub mod ReportOctetLaws
 pub mod SizeLaws
 pub mod SpansLaws
 pub mod SpellingLaws
 pub mod StatusReportLaws
 pub mod SubmitLaws
 pub mod UserDataLaws
+pub mod UserDataSeen
 pub mod ValidityPeriodLaws

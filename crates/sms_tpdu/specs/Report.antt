@@ -1,16 +1,11 @@
 -- A report (3GPP TS 23.040, 9.2.2.1a and 9.2.2.2a): SMS-DELIVER-REPORT and SMS-SUBMIT-REPORT, each
 -- under an acknowledgement and under an error of the relay.
 pub mod Octet
-pub mod OctetLaws
 pub mod ParameterIndicator
-pub mod ParameterIndicatorLaws
 pub mod AnnouncedParts
-pub mod AnnouncedPartsLaws
 pub mod Kind
-pub mod KindLaws
-pub mod Laws
 pub mod Indicated
-pub mod IndicatedLaws
+pub mod Text
 use Rattle.std.specs.Prelude.{ℕ, Bool, List, ◌∷◌, ◌++◌, Option}
 use Rattle.sms_field.specs.Field.{Field, ◌>>=◌, always, octet_by}
 use Rattle.sms_tpdu.specs.UnitLaws.{IsSpelling}

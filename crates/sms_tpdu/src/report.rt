@@ -6,6 +6,7 @@ pub mod kind;
 pub mod octet;
 pub mod optional;
 pub mod parts;
+pub mod text;
 pub mod view;
 pub mod writing;
 
@@ -80,7 +81,7 @@ impl<C: ReportPart, S: ReportStamp> Model for Report<C, S> {
 /// Another type is `UnitFault::WrongType`, and data above 159 octets are `UnitFault::DataTooLong`.
 impl<C: ReportPart, S: ReportStamp> Unit for Report<C, S> {
     ghost use Rattle.sms_tpdu.specs.Report.{report, SpellsReport};
-    ghost use Rattle.sms_tpdu.specs.Report.Laws.{report_laws};
+    ghost use Rattle.sms_tpdu.specs.Inside.ReportLaws.{report_laws};
 
     type Why = UnitFault;
 

@@ -18,6 +18,8 @@ mod header;
 #[cfg(test)]
 mod report;
 #[cfg(test)]
+mod report_text;
+#[cfg(test)]
 mod status_report;
 #[cfg(test)]
 mod submit;

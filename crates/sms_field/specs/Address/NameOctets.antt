@@ -3,12 +3,13 @@
 use Rattle.std.specs.Prelude.{ℕ, zero, suc, ◌+◌, ◌*◌, ◌/◌, ◌≤◌, List, [], ◌∷◌, ◌++◌, length, take, drop, replicate}
 use Rattle.sms_text.specs.Bits.{AreSeptets, from_bits, septet_bits, unpacked}
 use Rattle.sms_field.specs.Field.{Field, ◌>>=◌, always, octets_of}
+use Rattle.sms_field.specs.declared.name.TheConstants.{NAME_MAX}
 use Rattle.sms_field.specs.declared.fault.FieldFault.{FieldFault}
 use Rattle.sms_field.specs.declared.fault.FieldFault.TheVariants.{Short}
 
 -- up to 11 septets
 pub record IsName (septets : List ℕ) : Type 0 where
-  pub few : length septets ≤ 11
+  pub few : length septets ≤ NAME_MAX
   pub each : AreSeptets septets
 
 -- The length of an address counts semi-octets, four bits each: the septets that lie in them whole

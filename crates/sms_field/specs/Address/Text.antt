@@ -7,6 +7,8 @@ use Rattle.sms_field.specs.Address.Value.{AddressValue, alphanumeric}
 use Rattle.sms_field.specs.Address.DigitText.{text_of_digits, digits_of_text}
 use Rattle.sms_field.specs.declared.symbols.Symbols.{Symbols}
 use Rattle.sms_field.specs.declared.symbols.Symbols.TheVariants.{Digits, Name}
+use Rattle.sms_field.specs.declared.digits.TheConstants.{DIGITS_MAX}
+use Rattle.sms_field.specs.declared.name.TheConstants.{NAME_MAX}
 use Rattle.sms_field.specs.declared.fault.AddressFault.{AddressFault}
 use Rattle.sms_field.specs.declared.fault.AddressFault.TheVariants.{BadDigit, AddressTooLong}
 
@@ -28,7 +30,8 @@ address_text address = symbols_text address.kind address.symbols
 -- up to 20 digits, and each character one
 abbrev pub few_digits : Option (List ℕ) → Result (List ℕ) AddressFault
 few_digits None = Err BadDigit
-few_digits (Some digits) = if nat_le (length digits) 20 then Ok digits else Err AddressTooLong
+few_digits (Some digits) =
+    if nat_le (length digits) DIGITS_MAX then Ok digits else Err AddressTooLong
 
 -- digits of this type of number, in plan 1, that of telephone numbers
 abbrev pub telephone : ℕ → List ℕ → AddressValue
@@ -42,7 +45,7 @@ telephone_of kind (Err why) = Err why
 abbrev pub name_of : Option (List ℕ) → Result AddressValue AddressFault
 name_of None = Err BadDigit
 name_of (Some septets) =
-    if nat_le (length septets) 11
+    if nat_le (length septets) NAME_MAX
     then Ok (record { kind = alphanumeric; plan = 0; symbols = Name septets })
     else Err AddressTooLong
 

@@ -5,6 +5,8 @@ use Rattle.std.specs.Prelude.{◌≡◌, ℕ, zero, suc, ◌+◌, ◌*◌, ◌/�
 use Rattle.sms_text.specs.Bits.{unpacked}
 use Rattle.sms_field.specs.Address.DigitValues.{AreDigits}
 use Rattle.sms_field.specs.Address.Value.{AddressValue, HasSpelling, alphanumeric}
+use Rattle.sms_field.specs.declared.digits.TheConstants.{DIGITS_MAX}
+use Rattle.sms_field.specs.declared.name.TheConstants.{NAME_MAX}
 use Rattle.sms_field.specs.declared.symbols.Symbols.{Symbols}
 use Rattle.sms_field.specs.declared.symbols.Symbols.TheVariants.{Digits, Name}
 
@@ -39,10 +41,10 @@ pub record AreDigitsIn (count : ℕ) (octets : List ℕ) : Type 0 where
 
 -- up to 11 septets, in octets that have room for them
 pub record IsNameIn (count : ℕ) (octets : List ℕ) : Type 0 where
-  pub few : count ≤ 11
+  pub few : count ≤ NAME_MAX
   pub enough : 7 * count ≤ 8 * length octets
 
 pub record IsAddressIn (kind plan count : ℕ) (octets : List ℕ) : Type 0 where
-  pub few : count ≤ 20
+  pub few : count ≤ DIGITS_MAX
   pub whole : length octets ≡ (count + 1) / 2
   pub spelled : HasSpelling (address_in kind plan count octets)

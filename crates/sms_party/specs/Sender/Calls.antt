@@ -1,6 +1,7 @@
 -- A text is typed, or an answer does not come in time.
 use Rattle.std.specs.Prelude.{ℕ, Bool, true, false, if◌then◌else◌, ◌==◌, nat_lt, nat_le, List, [], ◌∷◌, ◌++◌, length, Ok}
 use Rattle.sms_field.specs.Address.Value.{AddressValue}
+use Rattle.sms_join.specs.declared.cut.TheConstants.{SEGMENTS_MAX}
 use Rattle.sms_join.specs.declared.units.Units.{Units}
 use Rattle.sms_message.specs.declared.outcome.Outcome.TheVariants.{Typed, Repeated, GaveUp, Idle}
 use Rattle.sms_message.specs.declared.outcome.Dropped.TheVariants.{Busy, TooManySegments}
@@ -32,7 +33,7 @@ typed x phone t =
 unfoldable pub composes : SenderState → ℕ → AddressValue → List ℕ → List Units → Sends SenderState
 composes x phone target characters pieces =
     if nat_le PENDING_MAX (length (x.sender phone).pending) then sender_drops x Busy
-    else (if nat_lt 255 (length pieces) then sender_drops x TooManySegments
+    else (if nat_lt SEGMENTS_MAX (length pieces) then sender_drops x TooManySegments
     else typed x phone (new_text x.wide x.texts phone target characters pieces))
 
 -- the first text has ended

@@ -5,6 +5,7 @@ use Rattle.std.specs.Str.{bytes_eq}
 use Rattle.std.specs.String.{string_bytes}
 use Rattle.sms_field.specs.Address.Value.{AddressValue}
 use Rattle.sms_field.specs.Address.Same.{same_address}
+use Rattle.sms_script.specs.declared.meaning.known.TheConstants.{PHONE_LIMIT}
 use Rattle.sms_script.specs.declared.meaning.statement.Phone.{Phone}
 
 -- the names and the addresses of the phones, in their order, and whether an event came
@@ -12,10 +13,6 @@ pub record KnownValue : Type 0 where
   pub names : List (List ℕ)
   pub addresses : List AddressValue
   pub is_running : Bool
-
--- how many phones there may be
-abbrev pub phone_limit : ℕ
-phone_limit = 100
 
 -- the name of a phone
 abbrev pub name_of : List (List ℕ) → ℕ → List ℕ
@@ -42,7 +39,7 @@ abbrev pub IsNew : KnownValue → Phone → Type 0
 IsNew known phone =
     (list_any (bytes_eq phone.name) known.names ≡ false)
     × (list_any (λ a. same_address a phone.address) known.addresses ≡ false)
-    × (length known.addresses < phone_limit)
+    × (length known.addresses < PHONE_LIMIT)
 
 -- no two of the addresses are the same
 abbrev pub AreDistinct : List AddressValue → Type 0
@@ -52,7 +49,7 @@ AreDistinct (address ∷ others) =
 
 -- the addresses of different phones, as many as there may be
 abbrev pub ArePhones : List AddressValue → Type 0
-ArePhones addresses = AreDistinct addresses × (length addresses ≤ phone_limit)
+ArePhones addresses = AreDistinct addresses × (length addresses ≤ PHONE_LIMIT)
 
 -- each of the phones has a name
 abbrev pub AreNamed : {A : Type 0} → List A → List AddressValue → Type 0

@@ -105,8 +105,8 @@ impl Known {
         self.running = true;
     }
 
-    /// One more phone. Its name and address are new, and fewer than 100 are known. If memory runs
-    /// out, nothing has changed.
+    /// One more phone. Its name and address are new, and fewer than `PHONE_LIMIT` are known. If
+    /// memory runs out, nothing has changed.
     pub fn add(&mut self, phone: Phone) -> Result<(), AllocError>
         requires { IsNew self.old phone }
         ensures ok { OnOk result (self.new ≡ with_phone self.old phone) }

@@ -6,6 +6,18 @@ ghost use Rattle.sms_script.specs.Meaning.Limits.{greatest};
 use crate::meaning::event::{Event, Text};
 use sms_field::Address;
 
+/// How many messages the centre holds.
+pub const HELD_LIMIT: u64 = 1_000;
+
+/// How many sets of a phone are open.
+pub const OPEN_LIMIT: u64 = 16;
+
+/// How many keys a phone remembers.
+pub const REMEMBERED_LIMIT: u64 = 32;
+
+/// How many texts the store of a phone holds.
+pub const STORE_LIMIT: u64 = 500;
+
 /// A limit that a script may make smaller.
 #[derive(Clone, Copy, Debug, PartialEq, Eq)]
 pub enum Limit {
@@ -25,10 +37,10 @@ impl Limit {
         ensures { result ≡ greatest self }
     {
         match self {
-            Limit::Held => 1000,
-            Limit::Open => 16,
-            Limit::Remembered => 32,
-            Limit::Store => 500,
+            Limit::Held => HELD_LIMIT,
+            Limit::Open => OPEN_LIMIT,
+            Limit::Remembered => REMEMBERED_LIMIT,
+            Limit::Store => STORE_LIMIT,
         }
     }
 }

@@ -12,7 +12,7 @@ use Rattle.sms_field.specs.Reading.Lies.{octets_at}
 use Rattle.sms_field.specs.declared.span.Span.{Span}
 use Rattle.sms_tpdu.specs.UserData.Lengths.{octets_of_length, length_of_header, fill_bits}
 use Rattle.sms_tpdu.specs.UserData.{header_octets, body_of, header_length, user_data}
-use Rattle.sms_tpdu.specs.UserData.Seen.{user_data_in}
+use Rattle.sms_tpdu.specs.Inside.UserDataSeen.{user_data_in}
 use Rattle.sms_tpdu.specs.declared.user_data.spans.UserSpans.{UserSpans}
 use Rattle.sms_tpdu.specs.declared.fault.UnitFault.TheVariants.{HeaderTooLong}
 use Rattle.sms_tpdu.specs.declared.user_data.UserData.{UserData}

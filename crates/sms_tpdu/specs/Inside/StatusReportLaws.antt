@@ -19,7 +19,7 @@ use Rattle.sms_tpdu.specs.Fault.{unit_fault}
 use Rattle.sms_tpdu.specs.Inside.FaultLaws.{fault_apart}
 use Rattle.sms_tpdu.specs.Inside.DeliverLaws.{twice}
 use Rattle.sms_tpdu.specs.Report.Indicated.{optional_parts, optional_parts_octets}
-use Rattle.sms_tpdu.specs.Report.IndicatedLaws.{optional_parts_lawful, optional_parts_again, optional_parts_are_octets}
+use Rattle.sms_tpdu.specs.Inside.IndicatedLaws.{optional_parts_lawful, optional_parts_again, optional_parts_are_octets}
 use Rattle.sms_tpdu.specs.StatusReport.Flags.{status_report_flags, status_report_octet}
 use Rattle.sms_tpdu.specs.StatusReport.{StatusReportValue, IsStatusReport, status_report, flags_in, parts_in, status_report_octets, SpellsStatusReport, MayFollow}
 use Rattle.sms_tpdu.specs.declared.status_report.flags.StatusReportFlags.{StatusReportFlags}

@@ -7,6 +7,7 @@ use Rattle.sms_field.specs.Coding.{alphabet_at}
 use Rattle.sms_field.specs.declared.coding.Alphabet.{Alphabet}
 use Rattle.sms_field.specs.declared.coding.Alphabet.TheVariants.{Gsm7}
 use Rattle.sms_tpdu.specs.declared.report.indicator.Indicator.{Indicator}
+use Rattle.sms_tpdu.specs.declared.report.parts.TheConstants.{REPORT_DATA_MAX}
 use Rattle.sms_tpdu.specs.declared.report.parts.ReportData.{ReportData}
 use Rattle.sms_tpdu.specs.declared.fault.UnitFault.{UnitFault}
 use Rattle.sms_tpdu.specs.declared.fault.UnitFault.TheVariants.{Short, DataTooLong}
@@ -16,7 +17,7 @@ use Rattle.sms_tpdu.specs.UserData.Lengths.{octets_of_length}
 -- a length of at most 159 octets
 abbrev pub report_length : Alphabet → ℕ → Result ℕ UnitFault
 report_length alphabet count =
-    if nat_le (octets_of_length alphabet count) 159 then Ok count else Err DataTooLong
+    if nat_le (octets_of_length alphabet count) REPORT_DATA_MAX then Ok count else Err DataTooLong
 
 unfoldable pub report_data : Alphabet → Field ReportData UnitFault
 report_data alphabet = do
@@ -30,7 +31,7 @@ report_data alphabet = do
 pub record IsReportData (alphabet : Alphabet) (user : ReportData) : Type 0 where
   pub small : user.length < 256
   pub counted : length user.octets ≡ octets_of_length alphabet user.length
-  pub few : length user.octets ≤ 159
+  pub few : length user.octets ≤ REPORT_DATA_MAX
   pub octets : IsOctets user.octets
 
 abbrev pub data_in : ℕ → List ℕ → ReportData

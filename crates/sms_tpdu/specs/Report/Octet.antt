@@ -1,9 +1,10 @@
 -- The first octet of a report (3GPP TS 23.040, 9.2.2.1a and 9.2.2.2a): its type, and whether the
 -- data begin with a header.
-use Rattle.std.specs.Prelude.{ℕ, ◌+◌, ◌||◌, Bool, true, not, Result, Ok, Err, if◌then◌else◌}
+use Rattle.std.specs.Prelude.{◌≡◌, ℕ, ◌+◌, ◌<◌, ◌||◌, Bool, true, not, Result, Ok, Err, if◌then◌else◌}
 use Rattle.sms_field.specs.Bit.{bit, weight}
+use Rattle.sms_field.specs.Field.{octet_by, IsLawful}
 use Rattle.sms_tpdu.specs.declared.fault.UnitFault.{UnitFault}
-use Rattle.sms_tpdu.specs.declared.fault.UnitFault.TheVariants.{WrongType}
+use Rattle.sms_tpdu.specs.declared.fault.UnitFault.TheVariants.{Short, WrongType}
 
 -- of a report on a submission bits 1 and 0, TP-MTI, are 01; bit 6 TP-UDHI; the others are free
 abbrev pub submit_report : ℕ → Result Bool UnitFault
@@ -33,3 +34,14 @@ on_submission = record { meaning = submit_report; octet = submit_report_octet }
 
 abbrev pub on_delivery : FirstOctet
 on_delivery = record { meaning = deliver_report; octet = deliver_report_octet }
+
+-- ---- it is a lawful field, and what is written is read back
+
+pub record IsReportOctet (meaning : ℕ → Result Bool UnitFault) (header : Bool)
+    (octet : ℕ) : Type 0 where
+  pub again : meaning octet ≡ Ok header
+  pub small : octet < 256
+
+pub record AreFirstOctetLaws (first : FirstOctet) : Type 0 where
+  pub lawful : IsLawful Short (octet_by Short first.meaning)
+  pub again : (header : Bool) → IsReportOctet first.meaning header (first.octet header)

@@ -3,10 +3,11 @@
 use Rattle.std.specs.Prelude.{ℕ, ◌+◌, ◌-◌, ◌*◌, ◌/◌}
 use Rattle.sms_field.specs.declared.coding.Alphabet.{Alphabet}
 use Rattle.sms_field.specs.declared.coding.Alphabet.TheVariants.{Gsm7}
+use Rattle.sms_tpdu.specs.declared.user_data.lengths.TheConstants.{OCTETS_MAX, SEPTETS_MAX}
 
 abbrev pub greatest_length : Alphabet → ℕ
-greatest_length Gsm7 = 160
-greatest_length _ = 140
+greatest_length Gsm7 = SEPTETS_MAX
+greatest_length _ = OCTETS_MAX
 
 -- how many octets hold the septets, or octets, that TP-UDL counts
 abbrev pub octets_of_length : Alphabet → ℕ → ℕ

@@ -11,6 +11,7 @@ use Rattle.sms_tpdu.specs.declared.user_data.concat.Concat.{Concat}
 use Rattle.sms_tpdu.specs.declared.user_data.concat.Width.TheVariants.{Eight}
 use Rattle.sms_tpdu.specs.declared.user_data.body.Body.{Body}
 use Rattle.sms_tpdu.specs.declared.user_data.body.Body.TheVariants as body
+use Rattle.sms_tpdu.specs.declared.user_data.lengths.TheConstants.{OCTETS_MAX, SEPTETS_MAX}
 use Rattle.sms_tpdu.specs.declared.user_data.lent.UnitsView.{UnitsView}
 use Rattle.sms_tpdu.specs.declared.user_data.lent.UnitsView.TheVariants.{Gsm, Ucs2}
 use Rattle.sms_tpdu.specs.declared.user_data.UserData.{UserData}
@@ -36,10 +37,10 @@ user_after place units = record { header = place_header place; body = units }
 -- there is room for the units after the octets of a header
 abbrev pub SeptetsHaveRoom : ℕ → List ℕ → Type 0
 SeptetsHaveRoom taken septets =
-    (length_of_header Gsm7 taken + length septets ≤ 160) × AreSeptets septets
+    (length_of_header Gsm7 taken + length septets ≤ SEPTETS_MAX) × AreSeptets septets
 
 abbrev pub Ucs2HaveRoom : ℕ → List ℕ → Type 0
-Ucs2HaveRoom taken units = taken + 2 * length units ≤ 140
+Ucs2HaveRoom taken units = taken + 2 * length units ≤ OCTETS_MAX
 
 abbrev pub HasRoom : ℕ → UnitsView → Type 0
 HasRoom taken (Gsm septets) = SeptetsHaveRoom taken septets.now

@@ -4,9 +4,9 @@
 ghost use Rattle.std.specs.Prelude.{◌≡◌, ◌++◌, IfOk, OnOk};
 ghost use Rattle.sms_field.specs.Reading.Answer.{Sees};
 ghost use Rattle.sms_tpdu.specs.Report.Kind.{KindPart, AreKindPartLaws, no_part, failure_cause, centre_stamp};
-ghost use Rattle.sms_tpdu.specs.Report.KindLaws.{no_part_laws, failure_cause_laws, centre_stamp_laws};
-ghost use Rattle.sms_tpdu.specs.Report.Octet.{FirstOctet, on_submission, on_delivery};
-ghost use Rattle.sms_tpdu.specs.Report.OctetLaws.{AreFirstOctetLaws, on_submission_laws, on_delivery_laws};
+ghost use Rattle.sms_tpdu.specs.Report.Octet.{FirstOctet, AreFirstOctetLaws, on_submission, on_delivery};
+ghost use Rattle.sms_tpdu.specs.Inside.ReportKindLaws.{no_part_laws, failure_cause_laws, centre_stamp_laws};
+ghost use Rattle.sms_tpdu.specs.Inside.ReportOctetLaws.{on_submission_laws, on_delivery_laws};
 
 use crate::fault::UnitFault;
 use crate::report::octet::{

@@ -14,8 +14,8 @@ use sms_field::{Alphabet, Cursor, Fault, Octets, alphabet_of};
 use std::alloc::{AllocError, Global};
 use std::marker::Model;
 
-/// The most octets of a report's data.
-const DATA_MAX: usize = 159;
+/// The most octets of a report's data (3GPP TS 23.040, 9.2.2.1a and 9.2.2.2a).
+pub const REPORT_DATA_MAX: usize = 159;
 
 /// The data of a report: their length as the data coding scheme counts it, and their octets.
 #[derive(Drop)]
@@ -63,7 +63,7 @@ impl<'a> Model for PartsView<'a> {
 }
 
 /// The alphabet by which a report's data are counted.
-fn report_alphabet(dcs: Option<u8>) -> Alphabet
+pub fn report_alphabet(dcs: Option<u8>) -> Alphabet
     ensures { result ≡ formats.report_alphabet dcs }
 {
     match dcs {
@@ -74,10 +74,10 @@ fn report_alphabet(dcs: Option<u8>) -> Alphabet
 
 /// The length of a report's data, where they are not too long.
 fn report_length(alphabet: Alphabet, count: u8) -> Result<u8, UnitFault>
-    ensures few { IfOk result (λ count. lengths.octets_of_length alphabet count ≤ 159) }
+    ensures few { IfOk result (λ count. lengths.octets_of_length alphabet count ≤ REPORT_DATA_MAX) }
     ensures is { result ≡ formats.report_length alphabet count }
 {
-    if octets_of_length(alphabet, count) > DATA_MAX {
+    if octets_of_length(alphabet, count) > REPORT_DATA_MAX {
         return Err(UnitFault::DataTooLong);
     }
     Ok(count)
@@ -86,7 +86,7 @@ fn report_length(alphabet: Alphabet, count: u8) -> Result<u8, UnitFault>
 /// The data of a length and octets.
 fn data_seen<'a>(alphabet: Alphabet, count: u8, octets: &'a [u8]) -> ReportDataView<'a>
     requires counted { length octets.now ≡ lengths.octets_of_length alphabet count }
-    requires few { length octets.now ≤ 159 }
+    requires few { length octets.now ≤ REPORT_DATA_MAX }
     ensures is { result ≡ formats.data_in count octets.now }
     ensures fits { IsReportData alphabet result }
 {

@@ -1,10 +1,13 @@
 //! A report, seen in its octets.
 
-ghost use Rattle.std.specs.Prelude.{ℕ, List, IfOk, IfErr};
+ghost use Rattle.std.specs.Prelude.{◌≡◌, ℕ, List, None, Some, IfOk, IfErr, MatchOption};
+ghost use Rattle.std.specs.Str.{chars};
+ghost use Rattle.std.specs.String.{string_bytes};
 ghost use Rattle.sms_field.specs.Reading.{Reads};
 ghost use Rattle.sms_field.specs.Reading.WholeAnswer.{IsFaultOf, SeesExactly};
 ghost use Rattle.sms_tpdu.specs.DataSpans.{DataLieIf};
 ghost use Rattle.sms_tpdu.specs.Report.{report};
+ghost use Rattle.sms_tpdu.specs.Report.Text.{text_of_report};
 ghost use Rattle.sms_tpdu.specs.declared.fault.UnitFault.TheVariants.{Short};
 
 use crate::data_spans::{DataSpans, report_data_spans};
@@ -13,6 +16,7 @@ use crate::report::Report;
 use crate::report::indicator::indicator_at;
 use crate::report::kind::{ReportPart, ReportStamp};
 use crate::report::parts::{PartsView, ReportDataView, data_of};
+use crate::report::text::text_of_report;
 use crate::view::{View, see};
 use sms_field::{Cursor, Fault, Stamp};
 use std::alloc::{AllocError, Global};
@@ -114,6 +118,18 @@ impl<'a, C: ReportPart + 'a, S: ReportStamp + 'a> ReportView<'a, C, S> {
         ensures exact { SeesExactly (λ view. view) (report S.first C.part S.part) input.now result }
     {
         see(input)
+    }
+
+    /// The text that the data carry, after their header, made straight from the octets; none where
+    /// there are no data, they end within the header, or their data coding scheme tells another
+    /// alphabet than the default one and UCS-2. Without a scheme they are in the default alphabet.
+    pub fn text(&self, alloc: Global) -> Result<Option<String>, AllocError>
+        ensures { IfOk result (λ found. MatchOption found
+            (text_of_report self.now.has_header self.now.dcs self.now.user ≡ None)
+            (λ text. text_of_report self.now.has_header self.now.dcs self.now.user
+            ≡ Some (chars (string_bytes text)))) }
+    {
+        text_of_report(alloc, &self.user, self.has_header, self.dcs)
     }
 
     /// Where the data lie in the octets at whose front this report was read, `used` of them.

@@ -17,7 +17,7 @@ use sms_field::{Cursor, Refusal};
 use std::alloc::{AllocError, Global};
 use std::marker::Model;
 
-/// The most octets of a header, its length octet apart.
+/// The most octets of a header, its length octet apart (3GPP TS 23.040, 9.2.3.24).
 pub const HEADER_MAX: u8 = 139;
 
 /// A user data header, UDH: the octets after its length octet, at most 139 (3GPP TS 23.040,
@@ -43,7 +43,7 @@ impl Model for Header {
 impl Header {
     /// The header of these octets, which are those after the length octet.
     pub fn new(octets: Vec<u8>) -> Header
-        requires { length octets.items ≤ 139 }
+        requires { length octets.items ≤ HEADER_MAX }
         ensures { result ≡ octets.items }
     {
         Header { octets }
@@ -65,7 +65,7 @@ impl Header {
     /// The octets after the length octet.
     pub fn as_slice(&self) -> &[u8]
         ensures value { result.now ≡ self.now }
-        ensures few { length result.now ≤ 139 }
+        ensures few { length result.now ≤ HEADER_MAX }
     {
         self.octets.as_slice()
     }
@@ -100,7 +100,7 @@ impl Header {
 }
 
 /// Adds the element that tells the place of a segment.
-pub(crate) fn put_element(out: &mut Vec<u8>, concat: Concat) -> Result<(), AllocError>
+fn put_element(out: &mut Vec<u8>, concat: Concat) -> Result<(), AllocError>
     requires { concat.width ≡ Eight → concat.reference < 256 }
     ensures { OnOk result
         (out.new.items ≡ out.old.items ++ element_octets (concat_element concat)) }

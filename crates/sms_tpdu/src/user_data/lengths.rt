@@ -5,13 +5,19 @@ ghost use Rattle.sms_tpdu.specs.UserData.Lengths as lengths;
 
 use sms_field::Alphabet;
 
+/// The most septets of user data, those that a header takes among them (3GPP TS 23.040, 9.2.3.24).
+pub const SEPTETS_MAX: usize = 160;
+
+/// The most octets of user data, those of a header among them (3GPP TS 23.040, 9.2.3.24).
+pub const OCTETS_MAX: usize = 140;
+
 /// The greatest user data length under an alphabet: septets for Gsm7, else octets.
 pub fn greatest_length(alphabet: Alphabet) -> usize
     ensures { result ≡ lengths.greatest_length alphabet }
 {
     match alphabet {
-        Alphabet::Gsm7 => 160,
-        _ => 140,
+        Alphabet::Gsm7 => SEPTETS_MAX,
+        _ => OCTETS_MAX,
     }
 }
 

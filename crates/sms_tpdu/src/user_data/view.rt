@@ -6,7 +6,7 @@ ghost use Rattle.sms_tpdu.specs.UserData as formats;
 ghost use Rattle.sms_tpdu.specs.UserData.{FitsAlphabet, header_octets, body_of, user_data, length_in};
 ghost use Rattle.sms_tpdu.specs.UserData.Lengths as lengths;
 ghost use Rattle.sms_tpdu.specs.UserData.ConcatenationFound.{IsPlace, concat_of_header};
-ghost use Rattle.sms_tpdu.specs.UserData.Seen.{user_data_in};
+ghost use Rattle.sms_tpdu.specs.Inside.UserDataSeen.{user_data_in};
 ghost use Rattle.sms_tpdu.specs.UserData.Spans.{body_count, fill_of, span_of, spans_before};
 
 pub mod body;
@@ -41,7 +41,7 @@ pub struct UserDataView<'a> {
 
 impl<'a> Model for UserDataView<'a> {
     ghost use Rattle.sms_tpdu.specs.declared.user_data.UserData.{UserData};
-    ghost use Rattle.sms_tpdu.specs.UserData.Seen.{user_data_in, IsUserDataIn};
+    ghost use Rattle.sms_tpdu.specs.Inside.UserDataSeen.{user_data_in, IsUserDataIn};
 
     ghost Value = { UserData };
 

@@ -1,6 +1,6 @@
 //! User data written into a unit: their length, a header, and a body.
 
-ghost use Rattle.std.specs.Prelude.{◌≡◌, ◌≤◌, ◌+◌, ◌++◌, ◌^◌, List, ℕ, length, IfOk, IfSome, OnOk};
+ghost use Rattle.std.specs.Prelude.{◌≡◌, ◌≤◌, ◌+◌, ◌++◌, ◌∷◌, ◌^◌, Some, List, ℕ, length, IfOk, IfSome, OnOk};
 ghost use Rattle.sms_field.specs.declared.coding.Alphabet.{Alphabet};
 ghost use Rattle.sms_field.specs.declared.coding.Alphabet.TheVariants.{Gsm7};
 ghost use Rattle.sms_tpdu.specs.UserData.{header_octets, FitsAlphabet, SpellsBody, SpellsUserData};
@@ -12,9 +12,9 @@ ghost use Rattle.sms_text.specs.Utf16.{octets_high_first};
 
 use crate::user_data::UserData;
 use crate::user_data::body::Body;
-use crate::user_data::concat::Concat;
-use crate::user_data::header::{Header, put_element};
-use crate::user_data::lengths::{fill_bits, length_of_header};
+use crate::user_data::concat::{Concat, Width};
+use crate::user_data::header::Header;
+use crate::user_data::lengths::{OCTETS_MAX, SEPTETS_MAX, fill_bits, length_of_header};
 use crate::user_data::lent::UnitsView;
 use sms_field::Alphabet;
 use sms_text::{pack_into, put_units, room_for_septets};
@@ -23,7 +23,7 @@ use std::alloc::{AllocError, Global};
 /// How many octets a header has, with its length octet; 0 where there is none.
 fn octets_taken(header: &Option<Header>) -> usize
     ensures is { result ≡ length (header_octets header.now) }
-    ensures few { result ≤ 140 }
+    ensures few { result ≤ OCTETS_MAX }
 {
     match header {
         Some(header) => header.as_slice().len() + 1,
@@ -52,7 +52,7 @@ pub fn room_for_user_data(user: &UserData) -> usize
 
 /// The length of user data with septets after the octets of a header.
 fn length_of_septets(taken: usize, septets: &[u8]) -> u8
-    requires { lengths.length_of_header Gsm7 taken + length septets.now ≤ 160 }
+    requires { lengths.length_of_header Gsm7 taken + length septets.now ≤ SEPTETS_MAX }
     ensures { result ≡ lengths.length_of_header Gsm7 taken + length septets.now }
 {
     (length_of_header(Alphabet::Gsm7, taken) + septets.len()) as u8
@@ -114,16 +114,43 @@ fn octets_of_place(place: Option<Concat>) -> usize
     }
 }
 
-/// Adds the header of a place, with its length octet, where a place is given.
-fn put_place(out: &mut Vec<u8>, place: Option<Concat>) -> Result<(), AllocError>
-    requires { IfSome place IsReferenceInRange }
-    ensures { OnOk result (out.new.items ≡ out.old.items ++ header_octets (place_header place)) }
+/// Adds the length of user data and the header of a place, with its length octet.
+fn put_count_and_place(out: &mut Vec<u8>, count: u8, place: Concat) -> Result<(), AllocError>
+    requires { IsReferenceInRange place }
+    ensures { OnOk result
+        (out.new.items ≡ out.old.items ++ count ∷ header_octets (place_header (Some place))) }
 {
-    if let Some(place) = place {
-        out.push((place.width.header_octets() - 1) as u8)?;
-        put_element(out, place)?;
+    let (reference, maximum, sequence) = (place.reference, place.maximum, place.sequence);
+    match place.width {
+        Width::Eight => {
+            out.extend_from_slice(&[count, 5, 0, 3, reference as u8, maximum, sequence])
+        }
+        Width::Sixteen => out.extend_from_slice(&[
+            count,
+            6,
+            8,
+            4,
+            (reference / 256) as u8,
+            (reference % 256) as u8,
+            maximum,
+            sequence,
+        ]),
     }
-    Ok(())
+}
+
+/// Adds the length of user data, and the header of a place, where a place is given.
+fn put_count(out: &mut Vec<u8>, count: u8, place: Option<Concat>) -> Result<(), AllocError>
+    requires { IfSome place IsReferenceInRange }
+    ensures { OnOk result
+        (out.new.items ≡ out.old.items ++ count ∷ header_octets (place_header place)) }
+{
+    match place {
+        Some(place) => put_count_and_place(out, count, place),
+        None => {
+            out.push(count)?;
+            Ok(())
+        }
+    }
 }
 
 /// Room for user data whose units are lent, with their length before them.
@@ -151,8 +178,7 @@ fn put_lent_septets(
         × (out.new.items ≡ out.old.items ++ written)) }
 {
     let taken = octets_of_place(place);
-    out.push(length_of_septets(taken, septets))?;
-    put_place(out, place)?;
+    put_count(out, length_of_septets(taken, septets), place)?;
     put_septets(out, taken, septets)
 }
 
@@ -165,8 +191,7 @@ fn put_lent_ucs2(out: &mut Vec<u8>, place: Option<Concat>, units: &[u16]) -> Res
         × (out.new.items ≡ out.old.items ++ written)) }
 {
     let count = octets_of_place(place) + 2 * units.len();
-    out.push(count as u8)?;
-    put_place(out, place)?;
+    put_count(out, count as u8, place)?;
     put_units(out, units)?;
     Ok(())
 }

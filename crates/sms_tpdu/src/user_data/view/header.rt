@@ -39,7 +39,7 @@ impl<'a> HeaderView<'a> {
     /// The header of these octets, which are those after the length octet.
     #[tactic(auto, using(sms_field::specs::Inside::OctetLists::octets_are))]
     pub fn new(octets: &'a [u8]) -> HeaderView<'a>
-        requires { length octets.now ≤ 139 }
+        requires { length octets.now ≤ HEADER_MAX }
         ensures { result ≡ octets.now }
     {
         HeaderView { octets }
@@ -48,7 +48,7 @@ impl<'a> HeaderView<'a> {
     /// The octets after the length octet.
     pub fn as_slice(&self) -> &'a [u8]
         ensures value { result.now ≡ self.now }
-        ensures few { length result.now ≤ 139 }
+        ensures few { length result.now ≤ HEADER_MAX }
     {
         self.octets
     }

@@ -1,11 +1,11 @@
-use Rattle.std.proofs.Common.{◌≡◌, ◌+◌, ◌*◌, ◌++◌, ◌∷◌, [], ℕ, List, length, refl, ap, ◌∙◌, append_assoc, arith}
+use Rattle.std.proofs.Common.{◌≡◌, ◌+◌, ◌*◌, ◌++◌, ◌∷◌, ℕ, List, length, refl, ap, ◌∙◌, append_assoc, arith}
 use Rattle.sms_text.specs.Utf16.{octets_high_first}
 use Rattle.sms_text.specs.Inside.Utf16Laws.{length-octets_high_first}
 use Rattle.sms_tpdu.specs.UserData.{header_octets}
 use Rattle.sms_tpdu.specs.UserData.Lent.{place_header}
 use Rattle.sms_tpdu.proofs.user_data.writing.put_lent_ucs2.Goals as goal
 
-appended : (old header octets : List ℕ) (count : ℕ) → ((old ++ (count ∷ [])) ++ header) ++ octets ≡ old ++ (count ∷ (header ++ octets))
+appended : (old header octets : List ℕ) (count : ℕ) → (old ++ (count ∷ header)) ++ octets ≡ old ++ (count ∷ (header ++ octets))
 appended old header octets count = simp append_assoc
 
 pub returns : goal.returns
@@ -20,5 +20,5 @@ returns c =
         spells_body = refl;
         parts = ap (λ (n : ℕ). n ∷ (header ++ octets)) is;
       },
-      c.in_ok-put_units.ensures.ok ∙ ap (λ (l : List ℕ). l ++ octets) (c.in_ok-put_place.ensures ∙ ap (λ (l : List ℕ). l ++ header) c.in_ok-push.ensures.items) ∙ appended c.args.out.now.items header octets count,
+      c.in_ok-put_units.ensures.ok ∙ ap (λ (l : List ℕ). l ++ octets) c.in_ok-put_count.ensures ∙ appended c.args.out.now.items header octets count,
     )

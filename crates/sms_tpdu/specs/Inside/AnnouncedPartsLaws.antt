@@ -1,3 +1,5 @@
+-- A reader may pass this by: lemmas, for the proofs of this crate and of those above it.
+--
 -- The parts of a report are a lawful field, and what is written is read back.
 use Rattle.std.proofs.Common.{◌≡◌, ℕ, ◌<◌, ◌≤◌, leb, List, [], ◌∷◌, Option, Some, None, is_some, Ok, refl, lit<}
 use Rattle.std.specs.Prelude.{IfSome}

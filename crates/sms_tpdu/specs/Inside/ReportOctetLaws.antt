@@ -1,9 +1,10 @@
+-- A reader may pass this by: lemmas, for the proofs of this crate and of those above it.
+--
 -- The first octet of a report is a lawful field, and what is written is read back.
-use Rattle.std.proofs.Common.{◌≡◌, ℕ, ◌<◌, Bool, true, false, Result, Ok, refl, lit<}
+use Rattle.std.proofs.Common.{Bool, true, false, refl, lit<}
 use Rattle.sms_field.specs.Field.{octet_by, IsLawful}
 use Rattle.sms_field.specs.Inside.SingleLaws.{octet_by_lawful, apart_then}
-use Rattle.sms_tpdu.specs.Report.Octet.{submit_report, deliver_report, submit_report_octet, deliver_report_octet, FirstOctet, on_submission, on_delivery}
-use Rattle.sms_tpdu.specs.declared.fault.UnitFault.{UnitFault}
+use Rattle.sms_tpdu.specs.Report.Octet.{submit_report, deliver_report, submit_report_octet, deliver_report_octet, on_submission, on_delivery, IsReportOctet, AreFirstOctetLaws}
 use Rattle.sms_tpdu.specs.declared.fault.UnitFault.TheVariants.{Short, WrongType}
 
 pub submit_report_lawful : IsLawful Short (octet_by Short submit_report)
@@ -14,10 +15,6 @@ deliver_report_lawful = octet_by_lawful Short deliver_report (0, lit< tt, _, ref
 
 -- ---- what is written
 
-pub record IsReportOctet (meaning : ℕ → Result Bool UnitFault) (header : Bool) (octet : ℕ) : Type 0 where
-  pub again : meaning octet ≡ Ok header
-  pub small : octet < 256
-
 pub submit_report_again : (header : Bool) → IsReportOctet submit_report header (submit_report_octet header)
 submit_report_again true = record { again = refl; small = lit< tt }
 submit_report_again false = record { again = refl; small = lit< tt }
@@ -27,10 +24,6 @@ deliver_report_again true = record { again = refl; small = lit< tt }
 deliver_report_again false = record { again = refl; small = lit< tt }
 
 -- ---- by what the report is on
-
-pub record AreFirstOctetLaws (first : FirstOctet) : Type 0 where
-  pub lawful : IsLawful Short (octet_by Short first.meaning)
-  pub again : (header : Bool) → IsReportOctet first.meaning header (first.octet header)
 
 pub on_submission_laws : AreFirstOctetLaws on_submission
 on_submission_laws = record { lawful = submit_report_lawful; again = submit_report_again }

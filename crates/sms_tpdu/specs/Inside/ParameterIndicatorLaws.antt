@@ -1,3 +1,5 @@
+-- A reader may pass this by: lemmas, for the proofs of this crate and of those above it.
+--
 -- An indicator is a lawful field, and what is written is read back.
 use Rattle.std.proofs.Common.{◌≡◌, ℕ, ◌+◌, ◌<◌, Bool, true, false, List, [], ◌∷◌, ◌++◌, refl, sym, ap, subst, ◌∙◌, arith, inl, inr, lit<}
 use Rattle.sms_text.specs.Octets.{IsOctets}

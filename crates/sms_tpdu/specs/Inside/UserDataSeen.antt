@@ -1,3 +1,5 @@
+-- A reader may pass this by: contracts of private functions, and proofs, alone cite it.
+--
 -- User data seen in a unit's octets (3GPP TS 23.040, 9.2.3.24).
 use Rattle.std.specs.Prelude.{◌≡◌, ℕ, ◌+◌, ◌-◌, ◌*◌, ◌≤◌, ◌<◌, List, length, Option}
 use Rattle.sms_text.specs.Octets.{IsOctets}

@@ -1,3 +1,5 @@
+-- A reader may pass this by: lemmas, for the proofs of this crate and of those above it.
+--
 -- The parts that stand in some reports are lawful fields, and what is written is read back.
 use Rattle.std.proofs.Common.{refl}
 use Rattle.sms_field.specs.Inside.SingleLaws.{always_self, always_lawful, octet_self, octet_lawful, octets_of_self, octets_of_lawful}

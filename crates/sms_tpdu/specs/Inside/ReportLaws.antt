@@ -1,3 +1,5 @@
+-- A reader may pass this by: lemmas, for the proofs of this crate and of those above it.
+--
 -- A report is a lawful field, and what is written is read back.
 use Rattle.std.proofs.Common.{ℕ, List, [], ◌∷◌, refl}
 use Rattle.sms_text.specs.Octets.{IsOctets}
@@ -7,14 +9,14 @@ use Rattle.sms_field.specs.Inside.ChainReading.{chained, ended}
 use Rattle.sms_field.specs.Inside.OctetLists.{octets-append}
 use Rattle.sms_field.specs.Inside.SingleLaws.{always_lawful, octet_by_self}
 use Rattle.sms_tpdu.specs.UnitLaws.{AreUnitLaws, laws_by}
-use Rattle.sms_tpdu.specs.Report.Octet.{FirstOctet, on_submission, on_delivery}
-use Rattle.sms_tpdu.specs.Report.OctetLaws.{AreFirstOctetLaws, on_submission_laws, on_delivery_laws}
+use Rattle.sms_tpdu.specs.Report.Octet.{FirstOctet, on_submission, on_delivery, AreFirstOctetLaws}
+use Rattle.sms_tpdu.specs.Inside.ReportOctetLaws.{on_submission_laws, on_delivery_laws}
 use Rattle.sms_tpdu.specs.Report.ParameterIndicator.{indicator_octet}
-use Rattle.sms_tpdu.specs.Report.ParameterIndicatorLaws.{indicator_self, indicator_lawful, indicator_is, indicator_again}
+use Rattle.sms_tpdu.specs.Inside.ParameterIndicatorLaws.{indicator_self, indicator_lawful, indicator_is, indicator_again}
 use Rattle.sms_tpdu.specs.Report.AnnouncedParts.{indicator_of, parts_octets}
-use Rattle.sms_tpdu.specs.Report.AnnouncedPartsLaws.{parts_self, parts_lawful, parts_again, parts_are_octets}
+use Rattle.sms_tpdu.specs.Inside.AnnouncedPartsLaws.{parts_self, parts_lawful, parts_again, parts_are_octets}
 use Rattle.sms_tpdu.specs.Report.Kind.{KindPart, AreKindPartLaws, no_part, failure_cause, centre_stamp}
-use Rattle.sms_tpdu.specs.Report.KindLaws.{no_part_laws, failure_cause_laws, centre_stamp_laws}
+use Rattle.sms_tpdu.specs.Inside.ReportKindLaws.{no_part_laws, failure_cause_laws, centre_stamp_laws}
 use Rattle.sms_tpdu.specs.Report.{ReportValue, parts_in, IsReport, report, report_octets, SpellsReport, deliver_ack, deliver_error, submit_ack, submit_error, SpellsDeliverAck, SpellsDeliverError, SpellsSubmitAck, SpellsSubmitError}
 use Rattle.sms_tpdu.specs.declared.fault.UnitFault.TheVariants.{Short}
 

@@ -1,3 +1,5 @@
+-- A reader may pass this by: lemmas, for the proofs of this crate and of those above it.
+--
 -- The parts of a report after their indicator, or none, are a lawful field, and what is written is
 -- read back.
 use Rattle.std.proofs.Common.{◌≡◌, inl, inr, ℕ, ◌||◌, Bool, true, false, cond, List, [], ◌∷◌, ◌++◌, Option, Some, None, is_some, refl, ap, subst, ◌∙◌}
@@ -7,9 +9,9 @@ use Rattle.sms_field.specs.Inside.ChainLaws.{chain_lawful}
 use Rattle.sms_field.specs.Inside.ChainReading.{chained}
 use Rattle.sms_tpdu.specs.Inside.IfMoreLaws.{if_more_lawful}
 use Rattle.sms_tpdu.specs.Report.ParameterIndicator.{indicator, indicator_octet}
-use Rattle.sms_tpdu.specs.Report.ParameterIndicatorLaws.{indicator_self, indicator_lawful, indicator_is, indicator_again}
+use Rattle.sms_tpdu.specs.Inside.ParameterIndicatorLaws.{indicator_self, indicator_lawful, indicator_is, indicator_again}
 use Rattle.sms_tpdu.specs.Report.AnnouncedParts.{Parts, indicator_of, AreParts, parts_octets}
-use Rattle.sms_tpdu.specs.Report.AnnouncedPartsLaws.{parts_lawful, parts_again, parts_are_octets}
+use Rattle.sms_tpdu.specs.Inside.AnnouncedPartsLaws.{parts_lawful, parts_again, parts_are_octets}
 use Rattle.sms_tpdu.specs.Report.Indicated.{indicated_parts, no_parts, optional_parts, is_any, optional_parts_octets, MayFollowParts}
 use Rattle.sms_tpdu.specs.declared.report.parts.ReportData.{ReportData}
 use Rattle.sms_tpdu.specs.declared.fault.UnitFault.TheVariants.{Short}
