@@ -23,6 +23,7 @@ fn play_event<N: Network, K: Sink>(
     network: &mut Option<N>,
     events: &mut u64,
     event: &Event,
+    page: &mut Vec<u8>,
     sink: &mut K,
 ) -> Result<(), PlayFault>
     requires works { K.has_failed sink.old ≡ false }
@@ -39,7 +40,7 @@ fn play_event<N: Network, K: Sink>(
 {
     let mut current = started(alloc, script, network.take())?;
     *events += 1;
-    take_event(alloc, script, &mut current, *events, event, sink)?;
+    take_event(alloc, script, &mut current, *events, event, page, sink)?;
     *network = Some(current);
     Ok(())
 }
@@ -51,6 +52,7 @@ pub fn play_line<N: Network, K: Sink>(
     network: &mut Option<N>,
     events: &mut u64,
     line: &[u8],
+    page: &mut Vec<u8>,
     sink: &mut K,
 ) -> Result<(), PlayFault>
     requires works { K.has_failed sink.old ≡ false }
@@ -66,7 +68,7 @@ pub fn play_line<N: Network, K: Sink>(
     ensures works { result ≢ Err Write → K.has_failed sink.new ≡ false }
 {
     match script.take(alloc, line)? {
-        Some(event) => play_event(alloc, script, network, events, &event, sink),
+        Some(event) => play_event(alloc, script, network, events, &event, page, sink),
         None => Ok(()),
     }
 }
