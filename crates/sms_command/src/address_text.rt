@@ -1,12 +1,14 @@
 //! The texts of addresses.
 
 use arrayvec::ArrayString;
-use sms_field::{Address, AddressView, DigitsView, RpAddressView, Symbols, SymbolsView};
+use sms_field::{
+    Address, AddressView, DIGITS_MAX, DigitsView, RpAddressView, Symbols, SymbolsView,
+};
 use sms_text::{text_of_gsm, text_of_packed};
 use std::alloc::{AllocError, Global};
 
-/// The most characters of a telephone number: a `+` and 20 digits.
-const CHARACTERS_MAX: usize = 21;
+/// The most characters of a telephone number: a `+` and its digits.
+const CHARACTERS_MAX: usize = 1 + DIGITS_MAX;
 
 /// The characters of the digits 0 to 14.
 const CHARACTERS: [char; 15] = [

@@ -15,10 +15,9 @@ use crate::printed::{Escaped, Moment, Number, Numbering, Party, bits_of, put_esc
 use crate::show::centre_fault;
 use crate::shown::Done;
 use crate::words::Joined;
-use sms_field::{Address, Alphabet, RpAddressView, Stamp, alphabet_of};
-use sms_join::{Joiner, Offer, OfferFault, Ucs2Units, Units};
-use sms_text::{units_of_octets, unpack};
-use sms_tpdu::{BodyView, Concat, DeliverView, HeaderView, Septets, SeptetsView};
+use sms_field::{Address, RpAddressView, Stamp, alphabet_of};
+use sms_join::{Joiner, Offer, OfferFault, Units};
+use sms_tpdu::{Concat, DeliverView, HeaderView};
 use std::alloc::{AllocError, Global};
 use std::io::{Read, Write};
 
@@ -44,31 +43,6 @@ fn concat_of(header: &Option<HeaderView<'_>>) -> Option<Concat>
     }
 }
 
-/// The septets that lie packed in a unit.
-fn septets_of(alloc: Global, septets: &SeptetsView<'_>) -> Result<Units, AllocError> {
-    let (octets, fill) = septets.packed();
-    match unpack(alloc, octets, fill, usize::from(septets.count()))? {
-        Some(septets) => Ok(Units::Gsm(Septets::new(septets))),
-        None => unreachable!(),
-    }
-}
-
-/// The units of a text in this alphabet; none where the alphabet is no text's.
-fn units_of(
-    alloc: Global,
-    alphabet: Alphabet,
-    body: &BodyView<'_>,
-) -> Result<Option<Units>, AllocError> {
-    match body {
-        BodyView::Septets(septets) => Ok(Some(septets_of(alloc, septets)?)),
-        BodyView::Octets(octets) if alphabet == Alphabet::Ucs2 => {
-            let units = units_of_octets(alloc, octets)?;
-            Ok(Some(Units::Ucs2(Ucs2Units::new(units))))
-        }
-        BodyView::Octets(_) => Ok(None),
-    }
-}
-
 /// The piece that an SMS-DELIVER has.
 fn piece_of(alloc: Global, octets: &[u8]) -> Result<Piece, Fault>
     ensures { IfOk result (λ piece. IsPlace piece.concat) }
@@ -76,7 +50,7 @@ fn piece_of(alloc: Global, octets: &[u8]) -> Result<Piece, Fault>
     let (deliver, _) = DeliverView::read(octets)?;
     let concat = concat_of(deliver.user.header());
     let alphabet = alphabet_of(deliver.dcs);
-    let Some(units) = units_of(alloc, alphabet, &deliver.user.body())? else {
+    let Some(units) = Units::of_body_view(alloc, alphabet, &deliver.user.body())? else {
         return Err(Fault::NoText);
     };
     Ok(Piece {

@@ -4,7 +4,7 @@ ghost use Rattle.std.specs.Prelude.{◌≡◌, false};
 
 use crate::fault::Fault;
 use crate::shown::Done;
-use crate::talk::{Ear, Mouth};
+use crate::talk::{Ear, Mouth, Outlet, write_page};
 use crate::words::Played;
 use sms_world::{PlayFault, Sink, Source};
 use std::alloc::Global;
@@ -46,14 +46,14 @@ pub fn play_script<R: Read, W: Write>(
     input: &mut R,
     output: &mut W,
 ) -> Result<Done, Fault> {
-    let output = RefCell::new(output);
-    let mut ear = Ear::new(alloc, input, &output)?;
-    let mut mouth = Mouth::new(&output, asked.is_checked);
+    let outlet = RefCell::new(Outlet::new(alloc, output)?);
+    let mut ear = Ear::new(alloc, input, &outlet)?;
+    let mut mouth = Mouth::new(&outlet, asked.is_checked);
     let played = play_from(alloc, asked, &mut ear, &mut mouth);
     let is_mute = ear.is_mute();
     let has_fault = mouth.has_found_fault();
     drop(ear);
-    if is_mute {
+    if is_mute || !write_page(&outlet) {
         return Err(Fault::Write);
     }
     played?;

@@ -1,7 +1,7 @@
 //! An input and an output that take turns: before more is read, which may take long, all that was
 //! written is flushed.
 
-ghost use Rattle.std.specs.Prelude.{◌≡◌, ◌≤◌, ◌<◌, length, false, None, IfOk, IfSome};
+ghost use Rattle.std.specs.Prelude.{◌≡◌, ◌≤◌, length, true, false, None, IfOk, IsErr, IsOk};
 
 use crate::feed::read_some;
 use sms_world::{DeviceFailed, Sink, Source};
@@ -11,6 +11,9 @@ use std::io::{Read, Write};
 
 /// How many octets are read at once.
 const ROOM: usize = 8_192;
+
+/// How many octets are collected before they are written.
+const ENOUGH: usize = 32_768;
 
 /// Where a transcript stands, as far as events that name nothing are looked for in it: the line of
 /// an event is its number, a blank, and its words.
@@ -74,10 +77,51 @@ impl Search {
     }
 }
 
+/// An output, and the octets that are collected before they are written into it.
+#[derive(Drop)]
+pub struct Outlet<'a, W: Write> {
+    output: &'a mut W,
+    page: Vec<u8>,
+}
+
+impl<'a, W: Write> Outlet<'a, W> {
+    /// One with an empty page.
+    pub fn new(alloc: Global, output: &'a mut W) -> Result<Outlet<'a, W>, AllocError> {
+        Ok(Outlet {
+            output,
+            page: Vec::with_capacity(alloc, ENOUGH)?,
+        })
+    }
+
+    /// Writes what was collected, and says whether it could be written.
+    pub fn write_page(&mut self) -> bool {
+        let written = self.output.write_all(&self.page);
+        self.page.clear();
+        written.is_ok()
+    }
+
+    /// Takes octets, and says whether what was collected could be written, where that was needed.
+    fn take(&mut self, octets: &[u8]) -> bool {
+        let is_full = self.page.len().saturating_add(octets.len()) > ENOUGH;
+        if is_full && !self.write_page() {
+            return false;
+        }
+        if octets.len() > ENOUGH {
+            return self.output.write_all(octets).is_ok();
+        }
+        self.page.extend_from_slice(octets).is_ok()
+    }
+
+    /// Writes what was collected, flushes the output, and says whether that could be done.
+    fn flush(&mut self) -> bool {
+        self.write_page() && self.output.flush().is_ok()
+    }
+}
+
 /// What octets are written into.
 #[derive(Drop)]
 pub struct Mouth<'a, 'b, W: Write> {
-    output: &'b RefCell<&'a mut W>,
+    outlet: &'b RefCell<Outlet<'a, W>>,
     /// Whether a call of it failed.
     pub failed: bool,
     /// What looks for events that name nothing, where that is asked for.
@@ -86,11 +130,11 @@ pub struct Mouth<'a, 'b, W: Write> {
 
 impl<'a, 'b, W: Write> Mouth<'a, 'b, W> {
     /// One that has not failed, and that looks for events that name nothing or not.
-    pub fn new(output: &'b RefCell<&'a mut W>, is_checked: bool) -> Mouth<'a, 'b, W>
+    pub fn new(outlet: &'b RefCell<Outlet<'a, W>>, is_checked: bool) -> Mouth<'a, 'b, W>
         ensures { result.failed ≡ false }
     {
         Mouth {
-            output,
+            outlet,
             failed: false,
             search: is_checked.then_some(Search::new()),
         }
@@ -105,26 +149,28 @@ impl<'a, 'b, W: Write> Mouth<'a, 'b, W> {
     }
 }
 
-/// Writes some octets, and says how many.
-fn write_some<W: Write>(output: &RefCell<&mut W>, octets: &[u8]) -> Option<usize>
-    ensures bound { IfSome result (λ n. n ≤ length octets.now) }
-    ensures some { IfSome result (λ n. 0 < length octets.now → 0 < n) }
-{
-    let Ok(mut output) = output.try_borrow_mut() else {
-        return None;
-    };
-    match output.write(octets) {
-        Ok(count) if count > 0 || octets.is_empty() => Some(count),
-        _ => None,
+/// Takes octets, and says whether they could be taken.
+fn take_all<W: Write>(outlet: &RefCell<Outlet<'_, W>>, octets: &[u8]) -> bool {
+    match outlet.try_borrow_mut() {
+        Ok(mut outlet) => outlet.take(octets),
+        Err(_) => false,
     }
 }
 
-/// Flushes an output, and says whether it could be flushed.
-fn flush<W: Write>(output: &RefCell<&mut W>) -> bool {
-    let Ok(mut output) = output.try_borrow_mut() else {
-        return false;
-    };
-    output.flush().is_ok()
+/// Writes what was collected, and says whether it could be written.
+pub fn write_page<W: Write>(outlet: &RefCell<Outlet<'_, W>>) -> bool {
+    match outlet.try_borrow_mut() {
+        Ok(mut outlet) => outlet.write_page(),
+        Err(_) => false,
+    }
+}
+
+/// Writes what was collected, flushes an output, and says whether that could be done.
+fn flush<W: Write>(outlet: &RefCell<Outlet<'_, W>>) -> bool {
+    match outlet.try_borrow_mut() {
+        Ok(mut outlet) => outlet.flush(),
+        Err(_) => false,
+    }
 }
 
 impl<W: Write> Sink for Mouth<'_, '_, W> {
@@ -133,18 +179,14 @@ impl<W: Write> Sink for Mouth<'_, '_, W> {
     ghost has_failed = { λ m. m.failed };
 
     fn write(&mut self, octets: &[u8]) -> Result<usize, DeviceFailed> {
-        match write_some(self.output, octets) {
-            Some(count) => {
-                if let Some(search) = &mut self.search {
-                    search.look_at(octets.get(..count).unwrap_or(&[]));
-                }
-                Ok(count)
-            }
-            None => {
-                self.failed = true;
-                Err(DeviceFailed)
-            }
+        if !take_all(self.outlet, octets) {
+            self.failed = true;
+            return Err(DeviceFailed);
         }
+        if let Some(search) = &mut self.search {
+            search.look_at(octets);
+        }
+        Ok(octets.len())
     }
 
     fn failed(&self) -> bool {
@@ -156,7 +198,7 @@ impl<W: Write> Sink for Mouth<'_, '_, W> {
 #[derive(Drop)]
 pub struct Ear<'a, 'b, 'c, R: Read, W: Write> {
     input: &'c mut R,
-    output: &'b RefCell<&'a mut W>,
+    outlet: &'b RefCell<Outlet<'a, W>>,
     room: Vec<u8>,
     /// Where the octets begin that were read and not given.
     start: usize,
@@ -175,14 +217,14 @@ impl<'a, 'b, 'c, R: Read, W: Write> Ear<'a, 'b, 'c, R, W> {
     pub fn new(
         alloc: Global,
         input: &'c mut R,
-        output: &'b RefCell<&'a mut W>,
+        outlet: &'b RefCell<Outlet<'a, W>>,
     ) -> Result<Ear<'a, 'b, 'c, R, W>, AllocError>
         ensures failed { IfOk result (λ ear. ear.failed ≡ false) }
         ensures ended { IfOk result (λ ear. ear.ended ≡ false) }
     {
         Ok(Ear {
             input,
-            output,
+            outlet,
             room: vec![in alloc; 0; ROOM]?,
             start: 0,
             end: 0,
@@ -210,10 +252,10 @@ enum Silence {
 /// Reads more, after the output is flushed, and says how many octets.
 fn fill<R: Read, W: Write>(
     input: &mut R,
-    output: &RefCell<&mut W>,
+    outlet: &RefCell<Outlet<'_, W>>,
     room: &mut Vec<u8>,
 ) -> Result<usize, Silence> {
-    if !flush(output) {
+    if !flush(outlet) {
         return Err(Silence::Mute);
     }
     match read_some(input, room.as_mut_slice()) {
@@ -226,25 +268,33 @@ fn fill<R: Read, W: Write>(
 fn copy_front(octets: &[u8], buffer: &mut [u8]) -> usize
     ensures { result ≤ length buffer.old }
 {
-    if let ([octet, ..], [place]) = (octets, &mut *buffer) {
-        *place = *octet;
-        return 1;
-    }
     let count = octets.len().min(buffer.len());
     buffer[..count].copy_from_slice(&octets[..count]);
     count
 }
 
-impl<R: Read, W: Write> Source for Ear<'_, '_, '_, R, W> {
-    ghost remaining = { λ _. None };
-
-    ghost has_failed = { λ e. e.failed };
-
-    ghost has_ended = { λ e. e.ended };
-
-    fn read(&mut self, buffer: &mut [u8]) -> Result<usize, DeviceFailed> {
+impl<R: Read, W: Write> Ear<'_, '_, '_, R, W> {
+    /// The next of the octets that were read and not given.
+    fn next_read(&mut self) -> Option<u8>
+        ensures failed { self.new.failed ≡ self.old.failed }
+    {
         if self.start >= self.end {
-            match fill(self.input, self.output, &mut self.room) {
+            return None;
+        }
+        let octet = self.room.get(self.start).copied();
+        self.start = self.start.saturating_add(1);
+        octet
+    }
+
+    /// Gives the front of the octets that were read, more of which are read where none are left.
+    #[inline(never)]
+    fn read_front(&mut self, buffer: &mut [u8]) -> Result<usize, DeviceFailed>
+        ensures bound { IfOk result (λ n. n ≤ length buffer.new) }
+        ensures fails { IsErr result → self.new.failed ≡ true }
+        ensures works { IsOk result → self.new.failed ≡ self.old.failed }
+    {
+        if self.start >= self.end {
+            match fill(self.input, self.outlet, &mut self.room) {
                 Ok(count) => {
                     self.start = 0;
                     self.end = count;
@@ -261,6 +311,26 @@ impl<R: Read, W: Write> Source for Ear<'_, '_, '_, R, W> {
             None => 0,
         };
         self.start = self.start.saturating_add(count);
+        Ok(count)
+    }
+}
+
+impl<R: Read, W: Write> Source for Ear<'_, '_, '_, R, W> {
+    ghost remaining = { λ _. None };
+
+    ghost has_failed = { λ e. e.failed };
+
+    ghost has_ended = { λ e. e.ended };
+
+    fn read(&mut self, buffer: &mut [u8]) -> Result<usize, DeviceFailed> {
+        if let [place] = &mut *buffer
+            && let Some(octet) = self.next_read()
+        {
+            *place = octet;
+            self.ended = false;
+            return Ok(1);
+        }
+        let count = self.read_front(buffer)?;
         self.ended = count == 0 && !buffer.is_empty();
         Ok(count)
     }

@@ -26,7 +26,8 @@ use Rattle.sms_party.specs.Sender.Calls.{typed, composes, repeats, times_out}
 use Rattle.sms_party.specs.Sender.Answers.{hears, matches, sender_receives, sender_takes}
 use Rattle.sms_party.specs.Receiver.{receiver_takes, receiver_opened, receiver_receives}
 use Rattle.sms_party.specs.Receiver.State.{ReceiverLimits, ReceiverState}
-use Rattle.sms_party.specs.Receiver.Pieces.{units_in, piece_in}
+use Rattle.sms_join.specs.BodyUnits.{units_of_body}
+use Rattle.sms_party.specs.Receiver.Pieces.{piece_in}
 use Rattle.sms_party.specs.Receiver.Offers.{settles, is_full_for, receiver_offers, offers_units}
 use Rattle.sms_party.specs.Drops.{SendsOrDrops, DropsPutNothingOut}
 use Rattle.sms_message.specs.Drops.{DoesOrDrops, not_dropped, either_drops}
@@ -111,7 +112,7 @@ units_none limits s now tag d origin (Some us) = offers_none limits s tag d.orig
 
 delivered_none : (limits : ReceiverLimits) (s : ReceiverState) (now : ℕ) (tag : Tag) (unit : TransferUnit) (origin : Option Origin) → DoesOrDrops (receiver_takes limits s now tag unit origin)
 unfolding receiver_takes
-delivered_none limits s now tag (Deliver d) origin = units_none limits s now tag d origin (units_in (alphabet_at d.dcs) d.user.body)
+delivered_none limits s now tag (Deliver d) origin = units_none limits s now tag d origin (units_of_body (alphabet_at d.dcs) d.user.body)
 delivered_none limits s now tag (Submit d) origin = λ why e. not_dropped _ why _ e
 delivered_none limits s now tag OtherUnit origin = λ why e. not_dropped _ why _ e
 delivered_none limits s now tag BadUnit origin = λ why e. not_dropped _ why _ e

@@ -24,7 +24,7 @@ use Rattle.sms_message.specs.Few.{PutsFew, few_either}
 use Rattle.sms_party.specs.Few.{AreFewTo, FewArePutOut}
 use Rattle.sms_party.specs.Receiver.{receiver_takes, receiver_opened, receiver_receives}
 use Rattle.sms_party.specs.Receiver.State.{ReceiverLimits, ReceiverState}
-use Rattle.sms_party.specs.Receiver.Pieces.{units_in}
+use Rattle.sms_join.specs.BodyUnits.{units_of_body}
 use Rattle.sms_party.specs.Receiver.Offers.{settles, is_full_for, receiver_offers, offers_units}
 use Rattle.sms_party.specs.Sender.Texts.{Text, Sender, SenderState}
 use Rattle.sms_party.specs.Sender.Putting.{Puts, puts_text, puts_first, puts, sender_drops, does}
@@ -157,7 +157,7 @@ units_offered limits s now tag d origin (Some us) = is_offered limits s tag d.or
 
 delivery_taken : (limits : ReceiverLimits) (s : ReceiverState) (now : ℕ) (tag : Tag) (unit : TransferUnit) (origin : Option Origin) → PutsFew (receiver_takes limits s now tag unit origin)
 unfolding receiver_takes
-delivery_taken limits s now tag (Deliver d) origin = units_offered limits s now tag d origin (units_in (alphabet_at d.dcs) d.user.body)
+delivery_taken limits s now tag (Deliver d) origin = units_offered limits s now tag d origin (units_of_body (alphabet_at d.dcs) d.user.body)
 delivery_taken limits s now tag (Submit u) origin = omega arith
 delivery_taken limits s now tag OtherUnit origin = omega arith
 delivery_taken limits s now tag BadUnit origin = omega arith

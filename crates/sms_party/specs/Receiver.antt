@@ -13,7 +13,7 @@ use Rattle.sms_message.specs.Message.{Origin}
 use Rattle.sms_message.specs.Message.Request.{unit_from, delivery_from}
 use Rattle.sms_message.specs.Does.{Does, drops, notes}
 use Rattle.sms_party.specs.Receiver.State.{ReceiverLimits, ReceiverState}
-use Rattle.sms_party.specs.Receiver.Pieces.{units_in}
+use Rattle.sms_join.specs.BodyUnits.{units_of_body}
 use Rattle.sms_party.specs.Receiver.Offers.{turned_away, offers_units}
 use Rattle.sms_message.specs.declared.message.TransferUnit.{TransferUnit}
 use Rattle.sms_message.specs.declared.message.Relay.{Relay}
@@ -26,7 +26,7 @@ use Rattle.sms_message.specs.declared.request.NotTaken.{NotTaken}
 abbrev pub delivered : ReceiverLimits → ReceiverState → ℕ → Tag → Option Origin
     → Result Delivery NotTaken → Does ReceiverState
 delivered limits s now tag origin (Ok d) =
-    offers_units limits s now tag d origin (units_in (alphabet_at d.dcs) d.user.body)
+    offers_units limits s now tag d origin (units_of_body (alphabet_at d.dcs) d.user.body)
 delivered limits s now tag origin (Err why) = turned_away s tag why
 
 -- The text of an SMS-DELIVER is offered. What is none is refused with RP-Cause 111, protocol error

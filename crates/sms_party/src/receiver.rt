@@ -13,7 +13,7 @@ ghost use Rattle.sms_message.specs.Message.Glance.{glance_of};
 ghost use Rattle.sms_message.specs.Message.Request.{HasCause};
 ghost use Rattle.sms_message.specs.Message.Reading.{HasTag};
 ghost use Rattle.sms_party.specs.Receiver.State.{limits_of};
-ghost use Rattle.sms_party.specs.Receiver.Pieces.{units_in};
+ghost use Rattle.sms_join.specs.BodyUnits.{units_of_body};
 ghost use Rattle.sms_party.specs.Receiver.Offers.{turned_away, offers_units, receiver_offers};
 ghost use Rattle.sms_party.specs.Receiver.{receiver_takes, receiver_opened, receiver_receives};
 ghost use Rattle.sms_party.specs.Receiver.Standing.{IsNew, AgesTo, Steps, ReceivesAs};
@@ -25,9 +25,9 @@ ghost use Rattle.sms_message.specs.declared.message.Message.{Message as MessageV
 mod replying;
 
 use crate::receiver::replying::{approval, no_room, refusal};
-use sms_field::{Address, Alphabet, Stamp, alphabet_of};
+use sms_field::{Address, Stamp, alphabet_of};
 use sms_join::laws::{agings_keep_same, answer_finishes, answers_alike, same_is_equivalence};
-use sms_join::{Joiner, Offer, OfferFault, Ucs2Units, Units};
+use sms_join::{Joiner, Offer, OfferFault, Units};
 use sms_message::packets::relay_refusal;
 use sms_message::{
     Dropped, Glance, Message, NotTaken, Outcome, Relay, RelayGlance, Step, Tag, TransferUnit,
@@ -35,8 +35,7 @@ use sms_message::{
     unit_from,
 };
 use sms_relay::Side;
-use sms_text::units_of_octets;
-use sms_tpdu::{Body, Concat, Deliver, Header};
+use sms_tpdu::{Concat, Deliver, Header};
 use std::alloc::{AllocError, Global};
 use std::marker::Model;
 
@@ -98,20 +97,6 @@ fn concat_of(header: &Option<Header>) -> Option<Concat>
     match header {
         None => None,
         Some(header) => header.concat(),
-    }
-}
-
-/// The units of a text in this alphabet; none where the alphabet is no text's.
-fn units_of(alloc: Global, alphabet: Alphabet, body: Body) -> Result<Option<Units>, AllocError>
-    ensures { IfOk result (λ units. units ≡ units_in alphabet body) }
-{
-    match (alphabet, body) {
-        (Alphabet::Gsm7, Body::Septets(septets)) => Ok(Some(Units::Gsm(septets))),
-        (Alphabet::Ucs2, Body::Octets(octets)) => {
-            let units = units_of_octets(alloc, octets.as_slice())?;
-            Ok(Some(Units::Ucs2(Ucs2Units::new(units))))
-        }
-        _ => Ok(None),
     }
 }
 
@@ -285,7 +270,7 @@ impl Receiver {
     fn take_delivery(&mut self, now: u64, tag: Tag, delivery: Deliver) -> Result<Step, Dropped>
         requires tag { tag.value < 7 }
         ensures steps { Steps (λ limits s origin. offers_units limits s now tag delivery origin
-            (units_in (alphabet_at delivery.dcs) delivery.user.body))
+            (units_of_body (alphabet_at delivery.dcs) delivery.user.body))
             self.old result self.new }
         ensures refused { OnErr result (self.new ≡ self.old) }
     {
@@ -294,7 +279,7 @@ impl Receiver {
         let origin = delivery.origin;
         let user = delivery.user;
         let concat = concat_of(&user.header);
-        match units_of(self.alloc, alphabet, user.body)? {
+        match Units::of_body(self.alloc, alphabet, user.body)? {
             None => refusal(
                 self.alloc,
                 tag,

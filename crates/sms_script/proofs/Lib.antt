@@ -8,6 +8,7 @@ pub mod TestLemmas
 pub mod KnownLemmas
 pub mod FitLemmas
 pub mod EscapeLemmas
+pub mod HexLemmas
 pub mod PacketLemmas
 pub mod PutLemmas
 pub mod RunLemmas

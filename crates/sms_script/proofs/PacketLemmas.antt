@@ -1,12 +1,13 @@
 -- The lines of packets, one by one.
-use Rattle.std.proofs.Common.{◌≡◌, ℕ, ◌+◌, ◌<◌, ◌≤◌, List, ◌∷◌, ◌++◌, length, drop, get_or, Bool, Some, None, sym, ap, ◌∙◌, append_assoc, append-nil, add-one, drop-cons, arith, suc, inl, inr, ◌⊎◌}
+use Rattle.std.proofs.Common.{◌≡◌, ℕ, ◌+◌, ◌<◌, ◌≤◌, List, [], ◌∷◌, ◌++◌, length, drop, get_or, codes, decimal, if◌then◌else◌, Bool, true, false, Some, None, sym, ap, ◌∙◌, append_assoc, append-nil, add-one, drop-cons, arith, rules, suc, inl, inr, ◌⊎◌}
 use Rattle.std.specs.List.{slice_get}
 use Rattle.std.proofs.lemmas.List.{drop_all}
 use Rattle.std.proofs.Math.Seq.{drop-append_seam}
 use Rattle.std.proofs.lemmas.Option.{slice_get_within, slice_get_cases, get_or_from_slice_get}
 use Rattle.sms_script.specs.Meaning.Known.{name_of}
 use Rattle.sms_script.specs.Transcript.{packet_lines}
-use Rattle.sms_script.specs.Transcript.Lines.{PacketValue, packet_line}
+use Rattle.sms_script.specs.Transcript.Appended.{◌⊕◌}
+use Rattle.sms_script.specs.Transcript.Lines.{PacketValue, packet_line, octets_text, line_end}
 
 -- the element that is there, and what follows it
 pub drop-there : {A : Type 0} (xs : List A) (i : ℕ) (x : A) → slice_get xs i ≡ Some x → drop i xs ≡ x ∷ drop (i + 1) xs
@@ -34,3 +35,14 @@ packet_lines-end brief names i packets out all h k = sym (append-nil out) ∙ (r
 -- the packets that were put out after those that were there
 pub packets_after : (old put all : List PacketValue) (n : ℕ) → all ≡ old ++ put → n ≡ length old → drop n all ≡ put
 packets_after old put all n e h = rw (e, h) (drop-append_seam old put)
+
+-- the parts of a packet's line, one after another
+pub packet_line-is : (brief : Bool) (number : ℕ) (name : List ℕ) (packet : PacketValue) (out : List ℕ)
+    → out ++ 35 ∷ [] ++ decimal number ++ 32 ∷ [] ++ (if packet.is_up then name ⊕ codes ">centre" else codes "centre>" ⊕ name) ++ 32 ∷ [] ++ octets_text brief packet.octets ++ line_end
+    ≡ out ++ packet_line brief number name packet
+packet_line-is brief number name packet out = by_way packet.is_up
+  where
+    by_way : (up : Bool) → out ++ 35 ∷ [] ++ decimal number ++ 32 ∷ [] ++ (if up then name ⊕ codes ">centre" else codes "centre>" ⊕ name) ++ 32 ∷ [] ++ octets_text brief packet.octets ++ line_end
+        ≡ out ++ (if up then codes "#" ⊕ decimal number ⊕ codes " " ⊕ name ⊕ codes ">centre " ⊕ octets_text brief packet.octets ⊕ line_end else codes "#" ⊕ decimal number ⊕ codes " centre>" ⊕ name ⊕ codes " " ⊕ octets_text brief packet.octets ⊕ line_end)
+    by_way true = search (rules, append_assoc)
+    by_way false = search (rules, append_assoc)

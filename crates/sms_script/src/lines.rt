@@ -64,6 +64,9 @@ fn is_longer(line: &[u8], octet: u8) -> bool
     length > LINE_LIMIT
 }
 
+/// The most octets of a line that are kept: those of a line, and a carriage return.
+const ROOM: usize = LINE_LIMIT + 1;
+
 /// Reads one line, without its line feed and the carriage return before it, from a source that must
 /// not have failed yet, nor told its end. Of a line that is too long no octet is read after the one
 /// that shows it.
@@ -77,6 +80,9 @@ pub fn read_line<S: Source>(source: &mut S, line: &mut Vec<u8>) -> Result<LineEn
     ensures goes_on { result ≡ Ok LineEnd.LineFeed → S.has_ended source.new ≡ false }
 {
     line.clear();
+    if line.reserve(ROOM).is_err() {
+        return Err(LineFault::Memory);
+    }
     loop {
         match next_octet(source) {
             Ok(Some(b'\n')) => {
@@ -87,7 +93,7 @@ pub fn read_line<S: Source>(source: &mut S, line: &mut Vec<u8>) -> Result<LineEn
                 if is_longer(line, octet) {
                     return Err(LineFault::TooLong);
                 }
-                line.push(octet)?;
+                line.push_reserved(octet);
             }
             Ok(None) => {
                 if line.len() > LINE_LIMIT {

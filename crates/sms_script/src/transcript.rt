@@ -1,8 +1,9 @@
 //! The lines of a transcript.
 
+mod digits;
 mod escapes;
 
-ghost use Rattle.std.specs.Prelude.{◌≡◌, ◌++◌, IfOk, OnOk, codes};
+ghost use Rattle.std.specs.Prelude.{◌≡◌, ◌++◌, IfOk, OnOk, codes, if◌then◌else◌};
 ghost use Rattle.std.specs.String.{string_bytes};
 ghost use Rattle.std.specs.Str.{encode_utf8_all};
 ghost use Rattle.sms_field.specs.Address.Text.{address_text};
@@ -11,6 +12,7 @@ ghost use Rattle.sms_script.specs.Transcript.Escapes.{escaped};
 ghost use Rattle.sms_script.specs.Transcript.Lines.{event_line, packet_line, sent_line, store_line, entry_line, octets_text, line_end};
 ghost use Rattle.sms_script.specs.Transcript.Shown.{shown, stored};
 
+use crate::transcript::digits::{push_decimal, push_hexadecimal};
 use crate::transcript::escapes::push_escaped;
 pub use escapes::Escape;
 use sms_field::Address;
@@ -34,44 +36,63 @@ pub struct Entry<'a> {
     pub text: &'a str,
 }
 
-/// The line of an event, from what it answered in words.
-pub fn event_line(alloc: Global, number: u64, words: &str) -> Result<String, AllocError>
-    ensures { IfOk result (λ s. string_bytes s ≡ event_line number words.now) }
+/// Adds the line of an event, from what it answered in words.
+pub fn push_event_line(out: &mut Vec<u8>, number: u64, words: &str) -> Result<(), AllocError>
+    ensures { OnOk result (out.new.items ≡ out.old.items ++ event_line number words.now) }
 {
-    format!(in alloc; "{number} {words}\n")
+    push_decimal(out, number)?;
+    out.push(b' ')?;
+    out.extend_from_slice(words.as_bytes())?;
+    out.extend_from_slice(b"\n")
 }
 
-/// The octets of a packet in hexadecimal, none as `-`, or how many they are.
-fn octets_text(alloc: Global, brief: bool, octets: &[u8]) -> Result<String, AllocError>
-    ensures { IfOk result (λ s. string_bytes s ≡ octets_text brief octets.now) }
+/// Adds the octets of a packet in hexadecimal, none as `-`, or how many they are.
+fn push_octets(out: &mut Vec<u8>, brief: bool, octets: &[u8]) -> Result<(), AllocError>
+    ensures { OnOk result (out.new.items ≡ out.old.items ++ octets_text brief octets.now) }
 {
     if brief {
-        return octets.len().to_string(alloc);
+        return push_decimal(out, octets.len() as u64);
     }
     if octets.is_empty() {
-        return "-".to_string(alloc);
+        return out.extend_from_slice(b"-");
     }
-    hex::encode_upper(alloc, octets)
+    push_hexadecimal(out, octets)
 }
 
-/// The line of the packet of this number, between the centre and the phone of this name.
-pub fn packet_line(
-    alloc: Global,
-    brief: bool,
-    number: usize,
-    name: &str,
-    packet: Packet<'_>,
-) -> Result<String, AllocError>
-    ensures { let text = packet_line brief number name.now (shown packet.entry) in
-        IfOk result (λ s. string_bytes s ≡ text) }
+/// Adds from whom a packet comes, and to whom it goes.
+fn push_way(out: &mut Vec<u8>, up: bool, name: &str) -> Result<(), AllocError>
+    ensures { let way = if up then name.now ⊕ codes ">centre" else codes "centre>" ⊕ name.now in
+        OnOk result (out.new.items ≡ out.old.items ++ way) }
 {
-    let octets = octets_text(alloc, brief, packet.octets)?;
-    let (from, to) = if packet.up {
+    let (from, to) = if up {
         (name, "centre")
     } else {
         ("centre", name)
     };
-    format!(in alloc; "#{number} {from}>{to} {octets}\n")
+    out.extend_from_slice(from.as_bytes())?;
+    out.push(b'>')?;
+    out.extend_from_slice(to.as_bytes())
+}
+
+/// Adds the line of the packet of this number, between the centre and the phone of this name.
+pub fn push_packet_line(
+    out: &mut Vec<u8>,
+    brief: bool,
+    number: usize,
+    name: &str,
+    packet: Packet<'_>,
+) -> Result<(), AllocError>
+    ensures { let text = packet_line brief number name.now (shown packet.entry) in
+        OnOk result (out.new.items ≡ out.old.items ++ text) }
+{
+    out.push(b'#')?;
+    push_decimal(out, number as u64)?;
+    out.push(b' ')?;
+    push_way(out, packet.up, name)?;
+    out.push(b' ')?;
+    push_octets(out, brief, packet.octets)?;
+    out.push(b'\n')?;
+    Ok(())
 }
 
 /// The line of a text that was typed, from what became of it in a word.

@@ -23,12 +23,13 @@ use Rattle.sms_message.specs.declared.outcome.Outcome.TheVariants as outcome
 use Rattle.sms_message.specs.declared.outcome.Dropped.TheVariants.{Unmatched}
 use Rattle.sms_party.specs.Receiver.{receiver_takes, receiver_opened}
 use Rattle.sms_party.specs.Receiver.State.{Entry, ReceiverLimits, ReceiverState}
-use Rattle.sms_party.specs.Receiver.Pieces.{units_in, piece_in}
+use Rattle.sms_join.specs.BodyUnits.{units_of_body}
+use Rattle.sms_party.specs.Receiver.Pieces.{piece_in}
 use Rattle.sms_party.specs.Receiver.Offers.{refuses, takes, settles, is_full_for, receiver_offers, offers_units}
 
 -- the units that a delivery brings
 unfoldable pub units_in_delivery : Delivery → Option Units
-units_in_delivery d = units_in (alphabet_at d.dcs) d.user.body
+units_in_delivery d = units_of_body (alphabet_at d.dcs) d.user.body
 
 unfoldable pub stored : List Entry → AddressValue → join.Answer → List Entry
 stored store origin (join.Finished units) = record { origin = origin; characters = text_of_segments units } ∷ store

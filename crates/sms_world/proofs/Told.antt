@@ -12,7 +12,7 @@ use Rattle.sms_join.specs.declared.units.Units.{Units}
 use Rattle.sms_join.specs.declared.units.Units.TheVariants.{Gsm, Ucs2}
 use Rattle.sms_join.specs.Segments.User.{dcs_of, body_of, header_of}
 use Rattle.sms_tpdu.specs.UserData.ConcatenationFound.{concat_of_header, in_order}
-use Rattle.sms_party.specs.Receiver.Pieces.{units_in}
+use Rattle.sms_join.specs.BodyUnits.{units_of_body}
 
 in_order_is : (c : Concat) → 0 < c.sequence → c.sequence ≤ c.maximum → in_order c ≡ Some c
 in_order_is c f l =
@@ -45,7 +45,7 @@ again_units (unit ∷ others) =
     let one : 256 * (unit / 256) + unit % 256 ≡ unit = omega arith in
     ap (λ (n : ℕ). n ∷ units_high_first (octets_high_first others)) one ∙ ap (λ (l : List ℕ). unit ∷ l) (again_units others)
 
-pub units_told : (u : Units) → units_in (alphabet_at (dcs_of u)) (body_of u) ≡ Some u
+pub units_told : (u : Units) → units_of_body (alphabet_at (dcs_of u)) (body_of u) ≡ Some u
 unfolding alphabet_at
 units_told (Gsm septets) = refl
 units_told (Ucs2 units) = ap (λ (l : List ℕ). Some (Ucs2 l)) (again_units units)

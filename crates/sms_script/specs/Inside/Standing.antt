@@ -110,3 +110,7 @@ abbrev pub OpensAt : {N : Type 0} → Conduct N → SettingsValue → Option N �
 OpensAt c s n m = MatchOption n
     (Starts c s m × (c.put_out m ≡ []) × (length (c.ends m) ≡ length s.known.addresses))
     (λ there. m ≡ there)
+
+-- there is such a network
+abbrev pub StartsAt : {N : Type 0} → Conduct N → SettingsValue → Option N → Option N → Type 0
+StartsAt {N} c s n now = (m : N) × (now ≡ Some m) × OpensAt c s n m

@@ -45,7 +45,7 @@ fn direction_of<'a>(line: Option<&'a str>) -> Result<(Command, Option<&'a str>),
     }
 }
 
-/// The command that a word is by itself.
+/// The command that a word is by itself. Those that most lines begin with are compared first.
 fn command_named(word: &str) -> Option<Command>
     ensures { (more : List (List ℕ)) → MatchOption result
         (command (word.now ∷ more)
@@ -53,6 +53,12 @@ fn command_named(word: &str) -> Option<Command>
         (λ c. command (word.now ∷ more) ≡ Ok (c, more)) }
 {
     match word {
+        "type" => Some(Command::Compose),
+        "carry" => Some(Command::Carry),
+        "push" => Some(Command::Push),
+        "timeout" => Some(Command::Timeout),
+        "tick" => Some(Command::Tick),
+        "phone" => Some(Command::Phone),
         "held" => Some(Command::Held),
         "open" => Some(Command::Open),
         "remembered" => Some(Command::Remembered),
@@ -61,12 +67,6 @@ fn command_named(word: &str) -> Option<Command>
         "brief" => Some(Command::Brief),
         "wide" => Some(Command::Wide),
         "reject" => Some(Command::Reject),
-        "phone" => Some(Command::Phone),
-        "type" => Some(Command::Compose),
-        "carry" => Some(Command::Carry),
-        "timeout" => Some(Command::Timeout),
-        "push" => Some(Command::Push),
-        "tick" => Some(Command::Tick),
         _ => None,
     }
 }

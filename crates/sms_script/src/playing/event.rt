@@ -1,6 +1,6 @@
 //! One event of a script, and its lines.
 
-ghost use Rattle.std.specs.Prelude.{◌≡◌, ◌+◌, ◌++◌, ◌≤◌, false, OnOk, IfOk, length, drop};
+ghost use Rattle.std.specs.Prelude.{◌≡◌, ◌+◌, ◌++◌, ◌≤◌, false, OnOk, length, drop};
 ghost use Rattle.sms_script.specs.Inside.Events.{event_text, new_packet_lines, TakesEvent};
 ghost use Rattle.sms_script.specs.Play.Puts.{HasFailed};
 
@@ -10,12 +10,11 @@ use crate::meaning::Event;
 use crate::playing::network::Network;
 use crate::playing::put::put;
 use crate::script::Script;
-use crate::transcript::{event_line, packet_line};
+use crate::transcript::{push_event_line, push_packet_line};
 use std::alloc::{AllocError, Global};
 
 /// Adds the lines of the packets that were put out after the first ones.
 fn push_packets<N: Network>(
-    alloc: Global,
     out: &mut Vec<u8>,
     script: &Script,
     network: &N,
@@ -30,39 +29,40 @@ fn push_packets<N: Network>(
             return Ok(());
         };
         let name = script.name(packet.phone);
-        let line = packet_line(alloc, script.is_brief(), place + 1, name, packet)?;
-        out.extend_from_slice(line.as_bytes())?;
+        push_packet_line(out, script.is_brief(), place + 1, name, packet)?;
     }
     Ok(())
 }
 
-/// The lines of an event: its own, and those of the packets that were put out after the first ones.
-fn event_text<N: Network>(
-    alloc: Global,
+/// Writes the lines of an event on the page in the place of what stands there: its own, and those
+/// of the packets that were put out after the first ones.
+fn write_event<N: Network>(
+    page: &mut Vec<u8>,
     script: &Script,
     network: &N,
     number: u64,
     words: &str,
     first: usize,
-) -> Result<Vec<u8>, AllocError>
+) -> Result<(), AllocError>
     requires { first ≤ length (N.conduct.put_out network.now) }
     ensures { let new = drop first (N.conduct.put_out network.now) in
         let lines = event_text script.now number words.now (first + 1) new in
-        IfOk result (λ text. text.items ≡ lines) }
+        OnOk result (page.new.items ≡ lines) }
 {
-    let line = event_line(alloc, number, words)?;
-    let mut text = line.into_bytes();
-    push_packets(alloc, &mut text, script, network, first)?;
-    Ok(text)
+    page.clear();
+    push_event_line(page, number, words)?;
+    push_packets(page, script, network, first)
 }
 
-/// Plays the event of this number, and puts its lines into the sink.
+/// Plays the event of this number, and puts its lines into the sink. They are written on the page
+/// first, which is kept.
 pub fn take_event<N: Network, K: Sink>(
     alloc: Global,
     script: &Script,
     network: &mut N,
     number: u64,
     event: &Event,
+    page: &mut Vec<u8>,
     sink: &mut K,
 ) -> Result<(), PlayFault>
     requires { K.has_failed sink.old ≡ false }
@@ -74,6 +74,6 @@ pub fn take_event<N: Network, K: Sink>(
 {
     let first = network.packet_count();
     let words = network.step(alloc, event)?;
-    let text = event_text(alloc, script, network, number, words.as_str(), first)?;
-    put(sink, &text)
+    write_event(page, script, network, number, words.as_str(), first)?;
+    put(sink, page)
 }

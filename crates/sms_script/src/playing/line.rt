@@ -12,7 +12,7 @@ use crate::fault::PlayFault;
 use crate::meaning::Event;
 use crate::playing::event::take_event;
 use crate::playing::network::Network;
-use crate::playing::start::started;
+use crate::playing::start::start;
 use crate::script::Script;
 use std::alloc::Global;
 
@@ -23,6 +23,7 @@ fn play_event<N: Network, K: Sink>(
     network: &mut Option<N>,
     events: &mut u64,
     event: &Event,
+    page: &mut Vec<u8>,
     sink: &mut K,
 ) -> Result<(), PlayFault>
     requires works { K.has_failed sink.old ≡ false }
@@ -37,11 +38,12 @@ fn play_event<N: Network, K: Sink>(
     ensures fails { result ≡ Err Write → K.has_failed sink.new ≡ true }
     ensures works { result ≢ Err Write → K.has_failed sink.new ≡ false }
 {
-    let mut current = started(alloc, script, network.take())?;
+    start(alloc, script, network)?;
     *events += 1;
-    take_event(alloc, script, &mut current, *events, event, sink)?;
-    *network = Some(current);
-    Ok(())
+    match network {
+        Some(current) => take_event(alloc, script, current, *events, event, page, sink),
+        None => unreachable!(),
+    }
 }
 
 /// Plays the next line of a script, and puts what it tells into the sink.
@@ -51,6 +53,7 @@ pub fn play_line<N: Network, K: Sink>(
     network: &mut Option<N>,
     events: &mut u64,
     line: &[u8],
+    page: &mut Vec<u8>,
     sink: &mut K,
 ) -> Result<(), PlayFault>
     requires works { K.has_failed sink.old ≡ false }
@@ -66,7 +69,7 @@ pub fn play_line<N: Network, K: Sink>(
     ensures works { result ≢ Err Write → K.has_failed sink.new ≡ false }
 {
     match script.take(alloc, line)? {
-        Some(event) => play_event(alloc, script, network, events, &event, sink),
+        Some(event) => play_event(alloc, script, network, events, &event, page, sink),
         None => Ok(()),
     }
 }

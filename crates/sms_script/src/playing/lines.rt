@@ -37,11 +37,16 @@ pub fn play_lines<N: Network, S: Source, K: Sink>(
     ensures write_works { result ≢ Err Write → K.has_failed sink.new ≡ false }
 {
     let mut events = 0u64;
+    let mut page = Vec::new(alloc);
     let mut line = Vec::new(alloc);
     loop {
         match next_line(source, &mut line, script.lines())? {
-            Next::Line => play_line(alloc, script, network, &mut events, &line, sink)?,
-            Next::Last => return play_line(alloc, script, network, &mut events, &line, sink),
+            Next::Line => {
+                play_line(alloc, script, network, &mut events, &line, &mut page, sink)?
+            }
+            Next::Last => {
+                return play_line(alloc, script, network, &mut events, &line, &mut page, sink);
+            }
             Next::End => return Ok(()),
         }
     }

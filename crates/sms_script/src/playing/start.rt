@@ -1,7 +1,7 @@
 //! The network of a script.
 
-ghost use Rattle.std.specs.Prelude.{◌≡◌, IfOk, IfErr, OnErr, None};
-ghost use Rattle.sms_script.specs.Inside.Standing.{OpensAt};
+ghost use Rattle.std.specs.Prelude.{◌≡◌, IfOk, IfErr, OnOk, OnErr, None};
+ghost use Rattle.sms_script.specs.Inside.Standing.{OpensAt, StartsAt};
 ghost use Rattle.sms_script.specs.declared.fault.PlayFault.TheVariants.{Memory};
 
 use crate::fault::PlayFault;
@@ -30,4 +30,19 @@ pub fn started<N: Network>(
             Ok(network)
         }
     }
+}
+
+/// Makes the network, where there is none: one that begins as the script has set.
+pub fn start<N: Network>(
+    alloc: Global,
+    script: &Script,
+    network: &mut Option<N>,
+) -> Result<(), PlayFault>
+    ensures there { OnOk result (StartsAt N.conduct script.now network.old network.new) }
+    ensures memory { IfErr result (λ e. e ≡ Memory) }
+{
+    if network.is_none() {
+        *network = Some(started(alloc, script, None)?);
+    }
+    Ok(())
 }

@@ -1,4 +1,4 @@
-use Rattle.std.proofs.Common.{◌≡◌, ◌≤◌, ◌-◌, length, vec_len, false}
+use Rattle.std.proofs.Common.{◌≡◌, ◌≤◌, ◌+◌, ◌-◌, length, vec_len, vec_capacity, false}
 use Rattle.std.specs.Io.KnownBytes.{Consumes}
 use Rattle.sms_script.specs.Lines.{line_limit, strip_carriage_return, HasNoLineFeed}
 use Rattle.sms_script.proofs.lines.read_line.Given as goal
@@ -9,6 +9,7 @@ invariant-loop-line g l = record {
   goes_on : g.S.Source.has_ended l.source ≡ false;
   no_feed : HasNoLineFeed l.line.items;
   few : length (strip_carriage_return l.line.items) ≤ line_limit;
+  room : line_limit + 1 ≤ vec_capacity l.line;
   taken : Consumes (g.S.Source.remaining l.initial.source) (g.S.Source.remaining l.source) l.line.items;
 }
 

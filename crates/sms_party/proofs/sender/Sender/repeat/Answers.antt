@@ -1,4 +1,4 @@
-use Rattle.std.proofs.Common.{true, ℕ, ◌+◌, List, [], None, Vec, map, length, ◌≡◌, sym, ap, ◌∙◌, subst, Ok}
+use Rattle.std.proofs.Common.{true, ℕ, ◌+◌, List, [], None, Vec, map, length, ◌≡◌, sym, ap, ◌∙◌, Ok}
 use Rattle.std.specs.Global.{Global}
 use Rattle.std.specs.Option.{option_to_list}
 use Rattle.std.specs.List.{slice_get}

@@ -10,7 +10,7 @@ loop-place-preserved g c =
     let is : c.loop-place.place + 1 - 1 ≡ c.loop-place.place = omega arith in
     let there = sym (rw is at c.in-Some.ensures) in
     packet_lines-more c.args.script.now.is_brief c.args.script.now.known.names c.loop-place.place all (shown c.in-Some.packet) _ _ _ there
-    (rw (c.in_ok-extend_from_slice.ensures.items, c.as_bytes.ensures.value, c.in_ok-line.ensures, c.is_brief.ensures, c.name-name.ensures) refl)
+    (rw (c.in_ok-push_packet_line.ensures, c.is_brief.ensures, c.name-name.ensures) refl)
     c.loop-place.invariant
 
 pub returns-in_default : goal.returns-in_default
