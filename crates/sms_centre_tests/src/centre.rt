@@ -12,6 +12,7 @@ use crate::centre::rows::{
 };
 use sms_centre::{Centre, HELD_MAX};
 use sms_field::{Address, Digits, Symbols};
+use sms_message::packets::no_packets;
 use sms_message::{Dropped, Outcome, Step};
 use std::alloc::{AllocError, Global};
 use std::process::Abort;
@@ -71,7 +72,7 @@ fn advanced(alloc: Global, fixture: &mut Fixture, now: u64) -> Step {
     fixture.centre.advance(now);
     Step {
         outcome: Outcome::Ticked,
-        packets: Vec::new(alloc),
+        packets: no_packets(alloc),
     }
 }
 

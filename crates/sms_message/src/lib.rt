@@ -17,6 +17,6 @@ pub use laws::{
     carried_messages_are_read, octets_are_read_as_a_message, octets_are_read_as_one_message,
 };
 pub use message::{Message, Relay, Report, Tag, TransferUnit};
-pub use outcome::{Dropped, Outcome, Step};
+pub use outcome::{Dropped, Outcome, Packets, Step};
 pub use reading::read_message;
 pub use request::{NotTaken, delivery_from, submission_from, unit_from};

@@ -4,8 +4,9 @@ ghost use Rattle.std.specs.Prelude.{◌≡◌};
 ghost use Rattle.sms_message.specs.declared.outcome.Dropped.TheVariants.{Memory};
 ghost use Rattle.sms_message.specs.Inside.Splitting.{dropped_of};
 
+use arrayvec::ArrayVec;
 use sms_join::SplitFault;
-use std::alloc::{AllocError, AllocFailed};
+use std::alloc::{AllocError, AllocFailed, Global};
 use thiserror::Error;
 
 /// What a party did. Texts of a sender are numbered from 1, and so are the segments of a text.
@@ -93,11 +94,14 @@ pub enum Dropped {
     TooManySegments,
 }
 
+/// The packets that a party puts out in a step, the first first. They lie in the value itself.
+pub type Packets = ArrayVec<Vec<u8>, 2, Global>;
+
 /// What a party did, and the packets that it put out, two at most.
 #[derive(Drop)]
 pub struct Step {
     pub outcome: Outcome,
-    pub packets: Vec<Vec<u8>>,
+    pub packets: Packets,
 }
 
 impl From<AllocError> for Dropped {

@@ -13,11 +13,12 @@ ghost use Rattle.sms_message.specs.declared.outcome.Dropped.TheVariants.{Memory}
 ghost use Rattle.sms_message.specs.declared.outcome.Outcome.TheVariants.{Refused};
 
 use crate::message::Tag;
-use crate::outcome::{Dropped, Outcome, Step};
+use crate::outcome::{Dropped, Outcome, Packets, Step};
+use arrayvec::ArrayVec;
 use sms_field::{Digits, RpAddress};
 use sms_relay::{Side, WrapFault, wrap_acknowledgement, wrap_answer};
 use sms_tpdu::SubmitError;
-use std::alloc::{AllocError, Global};
+use std::alloc::Global;
 
 /// A packet that was wrapped, where what was wrapped is not too long.
 pub fn wrapped(packet: Result<Vec<u8>, WrapFault>) -> Result<Vec<u8>, Dropped>
@@ -52,11 +53,27 @@ pub fn acknowledgement(alloc: Global, flag: bool, value: u8) -> Result<Vec<u8>, 
     Ok(wrap_acknowledgement(alloc, flag, value)?)
 }
 
-/// A packet alone.
-pub fn alone(alloc: Global, packet: Vec<u8>) -> Result<Vec<Vec<u8>>, AllocError>
-    ensures items { IfOk result (λ packets. packets.items ≡ packet ∷ []) }
+/// No packets.
+pub fn no_packets(alloc: Global) -> Packets
+    ensures { result.items ≡ [] }
 {
-    Ok(vec![in alloc; packet]?)
+    ArrayVec::new_in(alloc)
+}
+
+/// A packet alone.
+pub fn alone(alloc: Global, packet: Vec<u8>) -> Packets
+    ensures items { result.items ≡ packet ∷ [] }
+{
+    let mut packets = ArrayVec::new_in(alloc);
+    packets.push(packet);
+    packets
+}
+
+/// Two packets.
+pub fn both(alloc: Global, first: Vec<u8>, second: Vec<u8>) -> Packets
+    ensures items { result.items ≡ first ∷ second ∷ [] }
+{
+    ArrayVec::from_array_in(alloc, [first, second])
 }
 
 /// A CP-ACK, and the answer in this packet.
@@ -67,7 +84,7 @@ pub fn answered(alloc: Global, outcome: Outcome, tag: Tag, packet: Vec<u8>) -> R
         → Puts outcome (answers side tag cause report) result }
 {
     let note = acknowledgement(alloc, true, tag.value)?;
-    let packets = vec![in alloc; note, packet]?;
+    let packets = both(alloc, note, packet);
     Ok(Step { outcome, packets })
 }
 

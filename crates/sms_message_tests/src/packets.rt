@@ -4,7 +4,7 @@ ghost use Rattle.std.specs.Prelude.{◌<◌};
 
 use crate::found::holds;
 use sms_message::packets::{
-    acknowledgement, address_of_centre, alone, answered, relay_refusal, wrapped,
+    acknowledgement, address_of_centre, alone, answered, both, no_packets, relay_refusal, wrapped,
 };
 use sms_message::{Dropped, Outcome, Step, Tag};
 use sms_relay::{Side, WrapFault};
@@ -82,7 +82,7 @@ fn hands_on_what_was_wrapped(rt: HostRuntime) -> Result<(), Fail> {
 
 /// Whether a packet stands alone.
 fn is_alone(alloc: Global) -> Result<bool, AllocError> {
-    let packets = alone(alloc, answer(alloc)?)?;
+    let packets = alone(alloc, answer(alloc)?);
     Ok(packets.len() == 1 && packets[0].as_slice() == ANSWER)
 }
 
@@ -90,6 +90,21 @@ fn is_alone(alloc: Global) -> Result<bool, AllocError> {
 fn puts_out_a_packet_alone(rt: HostRuntime) -> Result<(), Fail> {
     let stands = is_alone(rt.alloc())?;
     holds(&rt, &"a packet", stands);
+    Ok(())
+}
+
+/// Whether two packets stand in their order.
+fn are_in_order(alloc: Global) -> Result<bool, AllocError> {
+    let packets = both(alloc, NOTE.to_vec(alloc)?, answer(alloc)?);
+    Ok(are_both(&packets, NOTE, ANSWER))
+}
+
+#[test]
+fn puts_out_two_packets(rt: HostRuntime) -> Result<(), Fail> {
+    let stand = are_in_order(rt.alloc())?;
+    holds(&rt, &"two packets", stand);
+    let none = no_packets(rt.alloc());
+    holds(&rt, &"no packets", none.is_empty());
     Ok(())
 }
 

@@ -28,7 +28,7 @@ use crate::receiver::replying::{approval, no_room, refusal};
 use sms_field::{Address, Stamp, alphabet_of};
 use sms_join::laws::{agings_keep_same, answer_finishes, answers_alike, same_is_equivalence};
 use sms_join::{Joiner, Offer, OfferFault, Units};
-use sms_message::packets::relay_refusal;
+use sms_message::packets::{no_packets, relay_refusal};
 use sms_message::{
     Dropped, Glance, Message, NotTaken, Outcome, Relay, RelayGlance, Step, Tag, TransferUnit,
     delivery_from, failure_cause, glance_at, octets_are_read_as_a_message, read_message, rp_cause,
@@ -116,7 +116,8 @@ fn takes_up(seen: Glance) -> bool
 /// Makes room in the store for a text, where one finishes.
 fn make_room(store: &mut Vec<Entry>, finishes: bool) -> Result<(), AllocError>
     ensures items { store.new.items ≡ store.old.items }
-    ensures room { IfOk result (λ _. finishes ≡ true → vec_len store.new < vec_capacity store.new) }
+    ensures room { IfOk result
+        (λ _. finishes ≡ true → vec_len store.new < vec_capacity store.new) }
 {
     if finishes { store.reserve(1) } else { Ok(()) }
 }
@@ -218,7 +219,7 @@ impl Receiver {
             Glance::NotCp => Err(Dropped::NotCp),
             Glance::Note { .. } => Ok(Step {
                 outcome: Outcome::Noted,
-                packets: Vec::new(self.alloc),
+                packets: no_packets(self.alloc),
             }),
             Glance::Tiny { .. } => Err(Dropped::Unmatched),
             Glance::Data { .. } => Err(Dropped::Unmatched),

@@ -105,7 +105,8 @@ fn is_finished_in_use(
     remembered: usize,
     text: usize,
 ) -> bool
-    ensures { result ≡ another_finished texts.now.items text (take remembered finished.now.items) }
+    ensures { result
+        ≡ another_finished texts.now.items text (take remembered finished.now.items) }
 {
     let here = text_of(texts, text);
     let last = remembered.min(finished.len());
@@ -483,7 +484,8 @@ fn new_receivers(alloc: Global, count: usize) -> Result<Vec<ReceiverNotes>, Allo
 fn put_marks(marks: &mut VecDeque<Mark>, neither: bool, next: Option<Mark>)
     requires { deque_len marks.old + 2 ≤ deque_capacity marks.old }
     ensures { marks.new.items
-        ≡ entered ((if neither then Neither ∷ [] else []) ++ option_to_list next) marks.old.items }
+        ≡ entered ((if neither then Neither ∷ [] else []) ++ option_to_list next)
+        marks.old.items }
 {
     if neither {
         marks.push_front_reserved(Mark::Neither);

@@ -44,7 +44,8 @@ fn let_happen_watched(
 ) -> Result<Vec<Result<Outcome, WorldFault>>, AllocError>
     ensures goes { IfOk result
         (λ answers. AllGoOnWatched events.now answers.items world.old world.new) }
-    ensures phones { length world.new.world.parties.phones ≡ length world.old.world.parties.phones }
+    ensures phones { length world.new.world.parties.phones
+        ≡ length world.old.world.parties.phones }
 {
     let mut answers = Vec::with_capacity(alloc, events.len())?;
     for event in events {

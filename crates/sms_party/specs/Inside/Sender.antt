@@ -2,6 +2,7 @@
 use Rattle.std.specs.Prelude.{◌≡◌, ℕ, ◌+◌, ◌%◌, Bool, true, false, if◌then◌else◌, ◌==◌, nat_lt, List, [], ◌∷◌, ◌++◌, length, map, drop, Option, option_to_list, Some, None, unwrap_or, Result, Ok, Err, slice_get}
 use Rattle.std.specs.Global.{Global}
 use Rattle.std.proofs.Common.{Vec}
+use Rattle.arrayvec.specs.ArrayVec.{ArrayVec}
 use Rattle.sms_field.specs.Address.Value.{AddressValue}
 use Rattle.sms_field.specs.declared.validity.Validity.TheVariants.{Absent}
 use Rattle.sms_tpdu.specs.Submit.{Submission}
@@ -87,7 +88,7 @@ abbrev pub CarriesOptional : Option (Vec ℕ Global) → List Message → Type 0
 CarriesOptional packet messages = CarriesEach (map (λ p. p.items) (option_to_list packet)) messages
 
 -- what a list of packets carries
-abbrev pub CarriesAll : Vec (Vec ℕ Global) Global → List Message → Type 0
+abbrev pub CarriesAll : ArrayVec (Vec ℕ Global) → List Message → Type 0
 CarriesAll packets messages = CarriesEach (map (λ p. p.items) packets.items) messages
 
 -- ---- calls

@@ -10,8 +10,8 @@ ghost use Rattle.sms_relay.specs.declared.side.Side.TheVariants.{FromPhone};
 ghost use Rattle.sms_message.specs.declared.outcome.Dropped.TheVariants.{Memory};
 ghost use Rattle.sms_message.specs.declared.outcome.Outcome.TheVariants.{Refused};
 
-use sms_message::packets::{acknowledgement, answered, wrapped};
-use sms_message::{Dropped, Outcome, Step, Tag, failure_cause, rp_cause};
+use sms_message::packets::{acknowledgement, answered, both, wrapped};
+use sms_message::{Dropped, Outcome, Packets, Step, Tag, failure_cause, rp_cause};
 use sms_relay::{Side, wrap_answer};
 use sms_tpdu::{DeliverAck, DeliverError};
 use std::alloc::Global;
@@ -100,7 +100,7 @@ pub(crate) fn no_room(alloc: Global, tag: Tag) -> Result<Step, Dropped>
 
 /// A CP-ACK, and an RP-ACK with a report: what a piece that is taken is answered, whatever becomes
 /// of it.
-pub(crate) fn approval(alloc: Global, tag: Tag) -> Result<Vec<Vec<u8>>, Dropped>
+pub(crate) fn approval(alloc: Global, tag: Tag) -> Result<Packets, Dropped>
     requires value { tag.value < 7 }
     ensures carries { IfOk result (λ ps. CarriesEach (map (λ packet. packet.items) ps.items)
         (answers FromPhone tag None (Some plain_ack))) }
@@ -108,5 +108,5 @@ pub(crate) fn approval(alloc: Global, tag: Tag) -> Result<Vec<Vec<u8>>, Dropped>
 {
     let packet = ack_packet(alloc, tag)?;
     let note = acknowledgement(alloc, true, tag.value)?;
-    Ok(vec![in alloc; note, packet]?)
+    Ok(both(alloc, note, packet))
 }

@@ -18,9 +18,9 @@ returns-in-NotCp-clause-steps c = λ limit phones s origin stands.
 pub returns-in-Note-clause-steps : goal.returns-in-Note-clause-steps
 unfolding centre_receives
 returns-in-Note-clause-steps c = λ limit phones s origin stands.
-    let step : Step = record { outcome = Noted; packets = c.new.result } in
+    let step : Step = record { outcome = Noted; packets = c.no_packets.result } in
     subst (λ (m : Message). CentreAnswers limit phones c.args.now s (centre_receives limit phones s c.args.now c.args.phone m origin) (Ok step) c.args.self.now) (sym c.in-Note.is)
-    (noted limit phones c.args.now c.args.self.now s step refl (rw c.new.ensures.items refl) stands)
+    (noted limit phones c.args.now c.args.self.now s step refl (rw c.no_packets.ensures refl) stands)
 
 pub returns-in-Tiny-clause-steps : goal.returns-in-Tiny-clause-steps
 unfolding centre_receives

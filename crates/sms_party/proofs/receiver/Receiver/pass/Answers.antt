@@ -10,8 +10,8 @@ returns-in-NotCp-clause-steps c = λ message e. not_cp_dropped c.args.now c.args
 
 pub returns-in-Note-clause-steps : goal.returns-in-Note-clause-steps
 returns-in-Note-clause-steps c = λ message e.
-    let step : Step = record { outcome = Noted; packets = c.new.result } in
-    note_noted c.args.now c.args.self.now message c.in-Note.flag c.in-Note.value (e ∙ c.in-Note.is) step refl (rw c.new.ensures.items refl)
+    let step : Step = record { outcome = Noted; packets = c.no_packets.result } in
+    note_noted c.args.now c.args.self.now message c.in-Note.flag c.in-Note.value (e ∙ c.in-Note.is) step refl (rw c.no_packets.ensures refl)
 
 pub returns-in-Tiny-clause-steps : goal.returns-in-Tiny-clause-steps
 returns-in-Tiny-clause-steps c = λ message e.

@@ -31,7 +31,7 @@ returns-clause-did c = λ out.
     } in (
       ap (λ n. Ok (outcome.Typed (n + length c.args.self.now.pending + 1))) (sym ended) ∙ ap (λ n. Ok (outcome.Typed (c.len.result + n + 1))) (sym pending),
       out,
-      c.count.ensures messages (are_out (λ (p : Vec ℕ Global). p.items) c.args.packets.items messages c.is_empty-is_out.result (c.is_empty-is_out.ensures ∙ ap (λ n. n == 0) c.args.packets.ok.0) out)
+      c.count.ensures messages (are_out (λ (p : Vec ℕ Global). p.items) c.args.packets.items messages c.is_empty-is_out.result c.is_empty-is_out.ensures out)
           ∙ (ap (λ (e : List Status). counted (w c.add.new.pending.items e ((c.self.inside.message_reference + c.len-size.result) % 256) c.next_set-self-inside.result) messages) kept
           ∙ (ap (λ (p : List TextValue). counted (w p c.self.inside.ended.items ((c.self.inside.message_reference + c.len-size.result) % 256) c.next_set-self-inside.result) messages) pushed
           ∙ (ap (λ (r : ℕ). counted (w (c.self.inside.pending.items ++ c.args.text ∷ []) c.self.inside.ended.items ((c.self.inside.message_reference + c.len-size.result) % 256) r) messages) next

@@ -30,7 +30,7 @@ returns-clause-did c = λ note sent.
       latest = c.self.inside.latest;
     } in (
       refl,
-      carried (λ (p : Vec ℕ Global). p.items) c.in_ok-packets.packets.items c.args.note c.in_ok-submission.submission note messages c.in_ok-packets.ensures.packets sent out,
+      carried (λ (p : Vec ℕ Global). p.items) c.packets_of-packets.result.items c.args.note c.in_ok-submission.submission note messages c.packets_of-packets.ensures sent out,
       c.count.ensures messages (c.is_some-is_out.ensures ∙ is_out (λ (p : Vec ℕ Global). p.items) c.in_ok-submission.submission messages out)
           ∙ (ap (λ (p : List TextValue). counted (w p c.push_reserved.new.self.items) messages) left
           ∙ (ap (λ (e : List Status). counted (w (drop 1 c.self.inside.pending.items) e) messages) more

@@ -16,6 +16,6 @@ returns-clause-did c = λ note sent.
     let number : length c.args.self.now.ended ≡ c.len-text.result = sym (ap (λ (v : SenderValue). length v.ended) c.self.view_is) ∙ (sym c.self.inside.ended.ok.0 ∙ sym c.len-text.ensures) in
     let out : CarriesEach (map (λ (p : Vec ℕ Global). p.items) (option_to_list c.in_ok-submission.submission)) messages = c.in_ok-submission.ensures.carries in (
       ap (λ n. Ok (outcome.Segment (n + 1) (c.args.self.now.accepted + 1))) number ∙ ap (λ (v : SenderValue). Ok (outcome.Segment (c.len-text.result + 1) (v.accepted + 1))) (sym c.self.view_is) ∙ ap (λ n. Ok (outcome.Segment (c.len-text.result + 1) n)) (sym c.from.ensures),
-      carried (λ (p : Vec ℕ Global). p.items) c.in_ok-packets.packets.items (Some c.args.note) c.in_ok-submission.submission note messages c.in_ok-packets.ensures.packets sent out,
+      carried (λ (p : Vec ℕ Global). p.items) c.packets_of-packets.result.items (Some c.args.note) c.in_ok-submission.submission note messages c.packets_of-packets.ensures sent out,
       c.count.ensures messages (c.is_some-is_out.ensures ∙ is_out (λ (p : Vec ℕ Global). p.items) c.in_ok-submission.submission messages out) ∙ ap (λ (v : SenderValue). counted (stepped v) messages) c.self.view_is,
     )

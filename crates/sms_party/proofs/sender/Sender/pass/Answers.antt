@@ -10,8 +10,8 @@ returns-in-NotCp-clause-steps c = λ message e. not_cp_passes c.args.self.now me
 
 pub returns-in-Note-clause-steps : goal.returns-in-Note-clause-steps
 returns-in-Note-clause-steps c = λ message e.
-    let step : Step = record { outcome = Noted; packets = c.new.result } in
-    note_passes c.args.self.now message c.in-Note.flag c.in-Note.value (e ∙ c.in-Note.is) step refl c.new.ensures.items
+    let step : Step = record { outcome = Noted; packets = c.no_packets.result } in
+    note_passes c.args.self.now message c.in-Note.flag c.in-Note.value (e ∙ c.in-Note.is) step refl c.no_packets.ensures
 
 pub returns-in-Tiny-clause-steps : goal.returns-in-Tiny-clause-steps
 returns-in-Tiny-clause-steps c = λ message e.

@@ -16,6 +16,6 @@ returns-clause-did c =
     let number : length c.args.self.now.ended ≡ c.len-text.result = sym (ap (λ (v : SenderValue). length v.ended) c.self.view_is) ∙ (sym c.self.inside.ended.ok.0 ∙ sym c.len-text.ensures) in
     let out : CarriesEach (map (λ (p : Vec ℕ Global). p.items) (option_to_list c.in_ok-submission.submission)) messages = c.in_ok-submission.ensures.carries in (
       ap (λ n. Ok (outcome.Repeated (n + 1))) number,
-      carried (λ (p : Vec ℕ Global). p.items) c.in_ok-packets.packets.items None c.in_ok-submission.submission [] messages c.in_ok-packets.ensures.packets tt out,
+      carried (λ (p : Vec ℕ Global). p.items) c.packets_of-packets.result.items None c.in_ok-submission.submission [] messages c.packets_of-packets.ensures tt out,
       c.count.ensures messages (c.is_some-is_out.ensures ∙ is_out (λ (p : Vec ℕ Global). p.items) c.in_ok-submission.submission messages out) ∙ ap (λ (v : SenderValue). counted (repeated v) messages) c.self.view_is,
     )

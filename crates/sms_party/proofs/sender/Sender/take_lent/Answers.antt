@@ -20,8 +20,8 @@ returns-in-NotCp-clause-steps c = λ phone x stands.
 pub returns-in-Note-clause-steps : goal.returns-in-Note-clause-steps
 unfolding sender_takes
 returns-in-Note-clause-steps c = λ phone x stands.
-    let step : Step = record { outcome = Noted; packets = c.new.result } in
-    subst (λ (m : Message). Answered (SenderStands phone c.args.self.now) x (in_messages (sender_takes x phone m)) (Ok step)) (sym c.in-Note.is) (refl, no_packets step c.new.ensures.items, stands)
+    let step : Step = record { outcome = Noted; packets = c.no_packets.result } in
+    subst (λ (m : Message). Answered (SenderStands phone c.args.self.now) x (in_messages (sender_takes x phone m)) (Ok step)) (sym c.in-Note.is) (refl, no_packets step c.no_packets.ensures, stands)
 
 pub returns-in-Tiny-clause-steps : goal.returns-in-Tiny-clause-steps
 unfolding sender_takes

@@ -12,11 +12,11 @@ use Rattle.sms_party.proofs.sender.Sender.timeout.Goals as goal
 
 pub returns-then-is_empty-clause-steps : goal.returns-then-is_empty-clause-steps
 returns-then-is_empty-clause-steps c = λ phone x stands.
-    let step : Step = record { outcome = Idle; packets = c.new.result } in
+    let step : Step = record { outcome = Idle; packets = c.no_packets.result } in
     carried_over phone x c.args.self.now c.args.self.now _ _ (Ok step) stands (late phone x c.args.self.now stands)
     (late_none (λ (d : Does SenderValue). Did d c.args.self.now (Ok step) c.args.self.now) c.args.self.now c.args.self.now.pending
     (is_none _ _ _ c.is_empty.ensures c.if-is_empty.true (c.self.inside.pending.ok.0 ∙ ap (λ (v : SenderValue). length v.pending) c.self.view_is))
-    (refl, no_packets step c.new.ensures.items, refl))
+    (refl, no_packets step c.no_packets.ensures, refl))
 
 pub returns-then-self-lt-REPEATS_MAX-clause-steps : goal.returns-then-self-lt-REPEATS_MAX-clause-steps
 returns-then-self-lt-REPEATS_MAX-clause-steps c = λ phone x stands.

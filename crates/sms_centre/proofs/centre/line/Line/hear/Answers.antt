@@ -22,13 +22,13 @@ returns c =
     let queue = queue_of inside.queue.entries in
     let v : LineValue = record { address = inside.address; queue = queue; free = inside.free; next = inside.next; latest = inside.latest } in
     let made : List WaitingValue → LineValue = λ q. record { address = inside.address; queue = q; free = inside.free; next = inside.next; latest = None } in
-    let step : Step = record { outcome = c.verdict.result; packets = c.in_ok-packets.packets } in
+    let step : Step = record { outcome = c.verdict.result; packets = c.alone.result } in
     let heard = λ (after : LineValue) (is : after ≡ made (left_waiting queue p.stamp c.args.cause)).
     subst (λ (l : LineValue). LineHears c.args.now c.args.tag c.args.cause l (Ok step) after) c.self.view_is
     (subst (λ (o : Option Push). HearsFor c.args.now c.args.tag c.args.cause v o (Ok step) after) (sym c.in-Some.is) (
       sym c.is_awaited.ensures ∙ c.if-not-is_awaited.false,
       c.verdict.ensures,
-      rw c.in_ok-packets.ensures.items (c.in_ok-packet.ensures.carries, tt),
+      rw c.alone.ensures.items (c.in_ok-packet.ensures.carries, tt),
       is,
     )) in
     elim c.if-not-stays.branch [

@@ -27,7 +27,7 @@ returns-clause-pushes c =
     let others = others_of inside.queue.entries in
     let h = is_pushed inside.queue.entries inside.free (key, m) c.self.invariant.2 (sym c.in-Some.ensures) in
     let v : LineValue = record { address = inside.address; queue = queue_of inside.queue.entries; free = inside.free; next = inside.next; latest = inside.latest } in
-    let step : Step = record { outcome = Pushed; packets = c.in_ok-packets.packets } in
+    let step : Step = record { outcome = Pushed; packets = c.alone.result } in
     let made : List WaitingValue → ℕ → ℕ → LineValue = λ q s e. record {
       address = inside.address;
       queue = q;
@@ -41,17 +41,8 @@ returns-clause-pushes c =
     subst (λ (l : LineValue). LinePushes l (Ok step) after) c.self.view_is
     (pushed_from v after v.queue m others (nat_lt 1 c.len-more.result) step h.before
     (ap (nat_lt 1) (c.len-more.ensures.len ∙ h.long)) refl
-    (rw c.in_ok-packets.ensures.items (c.in_ok-packet.ensures.carries, tt))
+    (rw c.alone.ensures.items (c.in_ok-packet.ensures.carries, tt))
     (ap (λ (q : List WaitingValue). made q key end) turned
     ∙ (ap (λ (s : ℕ). made (others ++ m ∷ []) s end) h.own
     ∙ (ap (λ (e : ℕ). made (others ++ m ∷ []) m.stamp e) end_is
     ∙ ap (λ (t : Tag). record v { queue = others ++ m ∷ []; next = t; latest = Some (record { tag = inside.next; stamp = m.stamp; ends = m.ends }) }) c.following-self-inside.ensures.is))))
-
-pub returns-in_err-packets-clause-pushes : goal.returns-in_err-packets-clause-pushes
-returns-in_err-packets-clause-pushes c =
-    let inside = c.self.inside in
-    let m : WaitingValue = c.in-Some.first.now in
-    let h = is_pushed inside.queue.entries inside.free (c.in-Some.stamp.now, m) c.self.invariant.2 (sym c.in-Some.ensures) in
-    let v : LineValue = record { address = inside.address; queue = queue_of inside.queue.entries; free = inside.free; next = inside.next; latest = inside.latest } in
-    let p = err_from_is_err_and c.from_residual-in_err-packets.result c.from_residual-in_err-packets.ensures.1 in
-    rw (p.1, p.2) (subst (λ (l : LineValue). LinePushes l (Err Memory) l) c.self.view_is (failed_from v v v.queue m (others_of inside.queue.entries) h.before refl))
