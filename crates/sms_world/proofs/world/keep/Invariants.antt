@@ -6,5 +6,5 @@ use Rattle.sms_world.proofs.world.keep.Given as goal
 
 abbrev pub invariant-loop-octets : goal.invariant-loop-octets
 invariant-loop-octets l =
-    (l.packets.items ++ on_way l.up l.phone (map (λ p. p.items) l.octets-iterator.rest) ≡ l.fn.packets.items ++ on_way l.up l.phone (packets_of l.fn.step))
-    × (vec_len l.packets + length l.octets-iterator.rest ≤ vec_capacity l.packets)
+    (l.packets.items ++ on_way l.up l.phone (map (λ p. p.items) l.octets-iterator) ≡ l.fn.packets.items ++ on_way l.up l.phone (packets_of l.fn.step))
+    × (vec_len l.packets + length l.octets-iterator ≤ vec_capacity l.packets)
