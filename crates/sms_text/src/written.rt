@@ -1,13 +1,14 @@
 //! Texts written into octets that are there.
 
-ghost use Rattle.std.specs.Prelude.{◌≡◌, ◌≤◌, ◌+◌, ◌*◌, ◌/◌, ◌<◌, ◌++◌, length, take, MatchOption, IfOk, IfSome, []};
+ghost use Rattle.std.specs.Prelude.{◌≡◌, ◌≢◌, ◌≤◌, ◌+◌, ◌*◌, ◌/◌, ◌<◌, ◌++◌, true, length, take, slice_index, MatchOption, IfOk, IfSome, []};
 ghost use Rattle.sms_text.specs.Inside.Same.{AreSame};
+ghost use Rattle.std.specs.Char.{encode_utf8};
 ghost use Rattle.std.specs.Str.{chars, encode_utf8_all, IsUtf8};
 ghost use Rattle.std.specs.String.{string_bytes};
 ghost use Rattle.sms_text.specs.Bits.{AreSeptets, unpacked};
 ghost use Rattle.sms_text.specs.Inside.Words.{low_octets};
 ghost use Rattle.sms_text.specs.Inside.Spelled.{StartsText};
-ghost use Rattle.sms_text.specs.TextOfSeptets.{text_of_septets};
+ghost use Rattle.sms_text.specs.TextOfSeptets.{plain_character, text_of_septets};
 
 use crate::alphabet::all_same;
 use crate::packing::unpack;
@@ -58,8 +59,55 @@ fn first_word(septets: &[u8]) -> Option<(u32, &[u8])>
     }
 }
 
-/// Writes the text of septets from a place on, a character at a time, and stops where at most so
-/// many septets are left, which it returns with the place after the text.
+/// Whether none of four septets is the escape, tested in one word; `false` leaves it open.
+#[inline(always)]
+fn has_no_escape(codes: [u8; 4]) -> bool
+    requires { AreSeptets codes }
+    ensures { result ≡ true → (slice_index codes 0 ≢ 27) × (slice_index codes 1 ≢ 27)
+        × (slice_index codes 2 ≢ 27) × (slice_index codes 3 ≢ 27) }
+{
+    let word = u32::from_le_bytes(codes);
+    // the highest bit of an octet says whether the code is 28 or more, and whether it is 27 or more
+    (word + 0x6464_6464) & 0x8080_8080 == (word + 0x6565_6565) & 0x8080_8080
+}
+
+/// Writes the character of a code that stands alone, and returns the place after it.
+#[inline(always)]
+fn put_plain(out: &mut [u8], at: usize, code: u8) -> usize
+    requires code { code < 128 }
+    requires room { at + 4 ≤ length out.old }
+    ensures place { result ≤ at + 2 }
+    ensures text { take result out.new ≡ take at out.old ++ encode_utf8 (plain_character code) }
+{
+    put_word(out, at, plain_word(code))
+}
+
+/// Writes the text of the first four septets, where none of them is an escape, and returns the
+/// place after it and the septets that are left.
+#[inline(always)]
+fn put_four<'a>(out: &mut [u8], at: usize, septets: &'a [u8]) -> Option<(usize, &'a [u8])>
+    requires septets { AreSeptets septets.now }
+    requires room { at + 2 * length septets.now + 2 ≤ length out.old }
+    ensures text { MatchOption result (out.new ≡ out.old) (λ parts.
+        take parts.0 out.new ++ encode_utf8_all (text_of_septets parts.1.now)
+        ≡ take at out.old ++ encode_utf8_all (text_of_septets septets.now)) }
+    ensures septets { IfSome result (λ parts. AreSeptets parts.1.now) }
+    ensures place { IfSome result (λ parts. parts.0 ≤ at + 8) }
+    ensures left { IfSome result (λ parts. length parts.1.now + 4 ≡ length septets.now) }
+{
+    match septets {
+        [a, b, c, d, others @ ..] if has_no_escape([*a, *b, *c, *d]) => {
+            let second = put_plain(out, at, *a);
+            let third = put_plain(out, second, *b);
+            let fourth = put_plain(out, third, *c);
+            Some((put_plain(out, fourth, *d), others))
+        }
+        _ => None,
+    }
+}
+
+/// Writes the text of septets from a place on, of four septets or of one character at a time, and
+/// stops where at most so many septets are left, which it returns with the place after the text.
 #[inline(always)]
 fn put_singly<'a>(out: &mut [u8], at: usize, septets: &'a [u8], stop: usize) -> (usize, &'a [u8])
     requires septets { AreSeptets septets.now }
@@ -73,6 +121,11 @@ fn put_singly<'a>(out: &mut [u8], at: usize, septets: &'a [u8], stop: usize) -> 
     let mut rest = septets;
     let mut place = at;
     while rest.len() > stop {
+        if let Some((after, others)) = put_four(out, place, rest) {
+            place = after;
+            rest = others;
+            continue;
+        }
         let Some((word, others)) = first_word(rest) else {
             break;
         };
@@ -98,7 +151,7 @@ fn put_text(out: &mut [u8], septets: &[u8]) -> usize
             at += 16;
             rest = others;
         } else {
-            (at, rest) = put_singly(out, at, rest, rest.len().saturating_sub(16));
+            (at, rest) = put_singly(out, at, rest, rest.len().saturating_sub(32));
         }
     }
     at

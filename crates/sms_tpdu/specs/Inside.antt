@@ -5,6 +5,7 @@ pub mod DataSpansLaws
 pub mod DeliverLaws
 pub mod FaultLaws
 pub mod HeaderLaws
+pub mod HeaderOctets
 pub mod IfMoreLaws
 pub mod IndicatedLaws
 pub mod ParameterIndicatorLaws

@@ -255,7 +255,7 @@ fn is_long(rt: &impl Abort, written: &[u8]) {
 fn is_longest(rt: &impl Abort, alloc: Global, octets: &[u8]) -> Result<(), Fail> {
     let (again, used) = Header::read(alloc, octets)?;
     same(rt, &"octets", &used, &140);
-    are(rt, &"again", &again.into_vec(), &[7; 139]);
+    are(rt, &"again", &again.into_vec(alloc)?, &[7; 139]);
     Ok(())
 }
 

@@ -93,7 +93,7 @@ pub fn play_watched<S: Source, K: Sink>(
     let mut network: Option<WatchedWorld> = None;
     play_on::<WatchedWorld, S, K>(alloc, source, script, &mut network, sink)?;
     let Some(world) = network else {
-        return Ok(None);
+        unreachable!()
     };
     Ok(world.order())
 }

@@ -13,6 +13,7 @@ use crate::unit::Unit;
 use crate::user_data::concat::{Concat, Width};
 use crate::user_data::view::header::HeaderView;
 use crate::view::View;
+use arrayvec::ArrayVec;
 use sms_field::{Cursor, Refusal};
 use std::alloc::{AllocError, Global};
 use std::marker::Model;
@@ -20,24 +21,35 @@ use std::marker::Model;
 /// The most octets of a header, its length octet apart (3GPP TS 23.040, 9.2.3.24).
 pub const HEADER_MAX: u8 = 139;
 
+/// The most octets of a header that lie in the value itself. A concatenation takes 5 or 6.
+const FEW_MAX: usize = 16;
+
+/// The octets of a header: few lie in the value itself, many on the heap.
+#[derive(Drop)]
+enum HeaderOctets {
+    Few(ArrayVec<u8, FEW_MAX>),
+    Many(Vec<u8>),
+}
+
 /// A user data header, UDH: the octets after its length octet, at most 139 (3GPP TS 23.040,
 /// 9.2.3.24).
 ///
 /// Contracts see it as the list of these octets.
 #[derive(Drop)]
 pub struct Header {
-    octets: Vec<u8>,
+    octets: HeaderOctets,
 }
 
 impl Model for Header {
     ghost use Rattle.std.specs.Prelude.{ℕ, List};
     ghost use Rattle.sms_tpdu.specs.UserData.Header.{IsHeader};
+    ghost use Rattle.sms_tpdu.specs.Inside.HeaderOctets.{octets_held};
 
     ghost Value = { List ℕ };
 
-    ghost view = { λ h. h.octets.items };
+    ghost view = { λ h. octets_held h.octets };
 
-    ghost invariant = { λ h. IsHeader h.octets.items };
+    ghost invariant = { λ h. IsHeader (octets_held h.octets) };
 }
 
 impl Header {
@@ -46,7 +58,22 @@ impl Header {
         requires { length octets.items ≤ HEADER_MAX }
         ensures { result ≡ octets.items }
     {
-        Header { octets }
+        Header {
+            octets: HeaderOctets::Many(octets),
+        }
+    }
+
+    /// The header of a copy of these octets, which are those after the length octet.
+    pub fn from_slice(alloc: Global, octets: &[u8]) -> Result<Header, AllocError>
+        requires { length octets.now ≤ HEADER_MAX }
+        ensures { IfOk result (λ h. h ≡ octets.now) }
+    {
+        match ArrayVec::try_from(octets) {
+            Ok(few) => Ok(Header {
+                octets: HeaderOctets::Few(few),
+            }),
+            Err(_) => Ok(Header::new(Vec::from_slice(alloc, octets)?)),
+        }
     }
 
     /// The header of a segment of a concatenated message.
@@ -57,9 +84,7 @@ impl Header {
         ensures octets { IfOk result (λ h. h ≡ element_octets (concat_element concat)) }
         ensures told { IfOk result (λ h. IsInOrder concat → IsConcatOf h (Some concat)) }
     {
-        let mut octets = Vec::with_capacity(alloc, concat.width.header_octets() - 1)?;
-        put_element(&mut octets, concat)?;
-        Ok(Header::new(octets))
+        header_of_element(alloc, concat)
     }
 
     /// The octets after the length octet.
@@ -67,14 +92,20 @@ impl Header {
         ensures value { result.now ≡ self.now }
         ensures few { length result.now ≤ HEADER_MAX }
     {
-        self.octets.as_slice()
+        match &self.octets {
+            HeaderOctets::Few(octets) => octets.as_slice(),
+            HeaderOctets::Many(octets) => octets.as_slice(),
+        }
     }
 
-    /// The octets after the length octet, without a copy.
-    pub fn into_vec(self) -> Vec<u8>
-        ensures { result.items ≡ self }
+    /// The octets after the length octet, in a vector.
+    pub fn into_vec(self, alloc: Global) -> Result<Vec<u8>, AllocError>
+        ensures { IfOk result (λ octets. octets.items ≡ self) }
     {
-        self.octets
+        match self.octets {
+            HeaderOctets::Few(octets) => Vec::from_slice(alloc, octets.as_slice()),
+            HeaderOctets::Many(octets) => Ok(octets),
+        }
     }
 
     /// The place of a segment that the header tells, if it tells one.
@@ -87,37 +118,36 @@ impl Header {
         ensures value { result ≡ concat_of_header (Some self.now) }
         ensures in_range { IsPlace result }
     {
-        HeaderView::new(&self.octets).concat()
+        HeaderView::new(self.as_slice()).concat()
     }
 
     /// The same header.
     pub fn copy(&self, alloc: Global) -> Result<Header, AllocError>
         ensures { IfOk result (λ h. h ≡ self.now) }
     {
-        let octets = Vec::from_slice(alloc, &self.octets)?;
-        Ok(Header { octets })
+        Header::from_slice(alloc, self.as_slice())
     }
 }
 
-/// Adds the element that tells the place of a segment.
-fn put_element(out: &mut Vec<u8>, concat: Concat) -> Result<(), AllocError>
+/// The header of the element that tells the place of a segment.
+fn header_of_element(alloc: Global, concat: Concat) -> Result<Header, AllocError>
     requires { concat.width ≡ Eight → concat.reference < 256 }
-    ensures { OnOk result
-        (out.new.items ≡ out.old.items ++ element_octets (concat_element concat)) }
+    ensures { IfOk result (λ h. h ≡ element_octets (concat_element concat)) }
 {
-    let reference = concat.reference;
+    let (reference, maximum, sequence) = (concat.reference, concat.maximum, concat.sequence);
     match concat.width {
-        Width::Eight => {
-            out.extend_from_slice(&[0, 3, reference as u8, concat.maximum, concat.sequence])
-        }
-        Width::Sixteen => out.extend_from_slice(&[
-            8,
-            4,
-            (reference / 256) as u8,
-            (reference % 256) as u8,
-            concat.maximum,
-            concat.sequence,
-        ]),
+        Width::Eight => { Header::from_slice(alloc, &[0, 3, reference as u8, maximum, sequence]) }
+        Width::Sixteen => Header::from_slice(
+            alloc,
+            &[
+                8,
+                4,
+                (reference / 256) as u8,
+                (reference % 256) as u8,
+                maximum,
+                sequence,
+            ],
+        ),
     }
 }
 
@@ -138,7 +168,7 @@ impl Unit for Header {
     }
 
     fn write(&self, alloc: Global) -> Result<Vec<u8>, AllocError> {
-        let octets = &self.octets;
+        let octets = self.as_slice();
         let mut out = Vec::with_capacity(alloc, octets.len() + 1)?;
         out.push(octets.len() as u8)?;
         out.extend_from_slice(octets)?;

@@ -61,10 +61,7 @@ pub fn play_trusted<S: Source, K: Sink>(
     let mut network: Option<TrustedWorld> = None;
     play_on::<TrustedWorld, S, K>(alloc, source, script, &mut network, sink)?;
     let Some(world) = network else {
-        return Ok(Verdicts {
-            breach: None,
-            doubt: None,
-        });
+        unreachable!()
     };
     Ok(Verdicts {
         breach: world.watched().order(),

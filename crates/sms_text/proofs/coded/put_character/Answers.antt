@@ -1,4 +1,4 @@
-use Rattle.std.proofs.Common.{◌∙◌, ◌+◌, take, arith, length}
+use Rattle.std.proofs.Common.{take, arith}
 use Rattle.std.proofs.lemmas.List.{take_more_set}
 use Rattle.sms_text.proofs.SameRuns.{plain_coded, escaped_coded, not_coded, two_set}
 use Rattle.sms_text.proofs.coded.put_character.Goals as goal

@@ -124,6 +124,6 @@ impl<'a> View<'a> for HeaderView<'a> {
     }
 
     fn to_value(&self, alloc: Global) -> Result<Header, AllocError> {
-        Ok(Header::new(Vec::from_slice(alloc, self.octets)?))
+        Header::from_slice(alloc, self.octets)
     }
 }

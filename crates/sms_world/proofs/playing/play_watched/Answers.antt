@@ -30,16 +30,3 @@ pub returns-clause-judges : goal.returns-clause-judges
 returns-clause-judges g c =
     judges c.laws_below.ensures c.claims_hold.ensures c.deliveries_are_refused_only_where_full.ensures c.told_stores_stand.ensures _ _ _ _ c.play_on.new.script c.play_on.new.network c.in-Some.world c.order.result
     c.in-Some.is c.in_ok-play_on.ensures.leaves c.order.ensures.told
-
-pub returns-in_default-clause-plays : goal.returns-in_default-clause-plays
-returns-in_default-clause-plays g c =
-    plays_watched (g.S.Source.remaining c.args.source.now) (g.S.Source.remaining c.play_on.new.source) (g.K.Sink.contents c.args.sink.now) (g.K.Sink.contents c.play_on.new.sink) (Ok tt) c.in_ok-play_on.ensures.plays
-
-pub returns-in_default-clause-transcribes : goal.returns-in_default-clause-transcribes
-returns-in_default-clause-transcribes g c =
-    transcribes c.claims_hold.ensures c.deliveries_are_refused_only_where_full.ensures c.told_stores_stand.ensures _ _ _ _ (Ok tt)
-    (plays_watched (g.S.Source.remaining c.args.source.now) (g.S.Source.remaining c.play_on.new.source) (g.K.Sink.contents c.args.sink.now) (g.K.Sink.contents c.play_on.new.sink) (Ok tt) c.in_ok-play_on.ensures.plays)
-
-pub returns-in_default-clause-judges : goal.returns-in_default-clause-judges
-returns-in_default-clause-judges g c =
-    absurd (no_watched _ _ _ _ c.play_on.new.script c.play_on.new.network c.in_default.is c.in_ok-play_on.ensures.leaves)

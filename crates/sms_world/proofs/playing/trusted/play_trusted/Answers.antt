@@ -26,11 +26,3 @@ returns-clause-judges g c =
     judges_accepted c.laws_below.ensures c.claims_hold.ensures c.deliveries_are_refused_only_where_full.ensures c.told_stores_stand.ensures _ _ _ _ c.play_on.new.script c.play_on.new.network c.in-Some.world (record { breach = c.order.result; doubt = c.accepted.result })
     c.in-Some.is c.in_ok-play_on.ensures.leaves
     (subst (λ (w : WatchedValue). OrderIsTold w c.order.result) c.watched.ensures c.order.ensures.told, c.accepted.ensures.told, c.accepted.ensures.means)
-
-pub returns-in_default-clause-plays : goal.returns-in_default-clause-plays
-returns-in_default-clause-plays g c =
-    plays_trusted (g.S.Source.remaining c.args.source.now) (g.S.Source.remaining c.play_on.new.source) (g.K.Sink.contents c.args.sink.now) (g.K.Sink.contents c.play_on.new.sink) (Ok tt) c.in_ok-play_on.ensures.plays
-
-pub returns-in_default-clause-judges : goal.returns-in_default-clause-judges
-returns-in_default-clause-judges g c =
-    absurd (no_trusted _ _ _ _ c.play_on.new.script c.play_on.new.network c.in_default.is c.in_ok-play_on.ensures.leaves)
