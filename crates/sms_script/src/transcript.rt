@@ -12,8 +12,8 @@ ghost use Rattle.sms_script.specs.Transcript.Escapes.{escaped};
 ghost use Rattle.sms_script.specs.Transcript.Lines.{event_line, packet_line, sent_line, store_line, entry_line, octets_text, line_end};
 ghost use Rattle.sms_script.specs.Transcript.Shown.{shown, stored};
 
-use crate::transcript::digits::{push_decimal, push_hexadecimal};
 use crate::transcript::escapes::push_escaped;
+pub use digits::{push_decimal, push_hexadecimal};
 pub use escapes::Escape;
 use sms_field::Address;
 use std::alloc::{AllocError, Global};
