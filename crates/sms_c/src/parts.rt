@@ -220,7 +220,8 @@ fn put_address(
 ) -> Result<(), Failure>
     ensures put { IfOk result (λ _. OfAddress (seen.octets_at octets.now address.now.octets)
         (ArePut out.old out.new needed.new)) }
-    ensures no_room { result ≡ Err NoRoom → OfAddress (seen.octets_at octets.now address.now.octets)
+    ensures no_room { result ≡ Err NoRoom
+        → OfAddress (seen.octets_at octets.now address.now.octets)
         (LackRoom out.old out.new needed.new) }
     ensures none { OnErr result (out.new ≡ out.old) }
     ensures needed { IfErr result (λ why. IsNotRoom why → needed.new ≡ needed.old) }

@@ -95,7 +95,8 @@ fn day_of(year: u8, month: u8, day: u8) -> Option<(u16, u8, u8)>
 
 /// The hour, minute and second that three octets say; none where there is no such time of day.
 fn time_of(hour: u8, minute: u8, second: u8) -> Option<(u8, u8, u8)>
-    ensures found { IsSome result ↔ HasTwoDigits hour × HasTwoDigits minute × HasTwoDigits second
+    ensures found { IsSome result
+        ↔ HasTwoDigits hour × HasTwoDigits minute × HasTwoDigits second
         × (value_in hour < 24) × (value_in minute < 60) × (value_in second < 60) }
     ensures value { IfSome result (λ t. (t.0 ≡ value_in hour)
         × (t.1 ≡ value_in minute) × (t.2 ≡ value_in second)) }

@@ -123,7 +123,8 @@ fn report_seen<C: ReportPart, S: ReportStamp>(
     used: usize,
 ) -> ReportSeen
     ensures used { result.used ≡ used }
-    ensures shows { (octets : List ℕ) → Reads (report S.first C.part S.part) view.now octets used
+    ensures shows { (octets : List ℕ)
+        → Reads (report S.first C.part S.part) view.now octets used
         → ShowsReport cause stamp view.now octets result }
 {
     let spans = view.spans(used);

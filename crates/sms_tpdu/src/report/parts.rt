@@ -74,7 +74,8 @@ pub fn report_alphabet(dcs: Option<u8>) -> Alphabet
 
 /// The length of a report's data, where they are not too long.
 fn report_length(alphabet: Alphabet, count: u8) -> Result<u8, UnitFault>
-    ensures few { IfOk result (λ count. lengths.octets_of_length alphabet count ≤ REPORT_DATA_MAX) }
+    ensures few { IfOk result (λ count.
+        lengths.octets_of_length alphabet count ≤ REPORT_DATA_MAX) }
     ensures is { result ≡ formats.report_length alphabet count }
 {
     if octets_of_length(alphabet, count) > REPORT_DATA_MAX {

@@ -1,13 +1,12 @@
 //! The text that the data of a report carry.
 
-ghost use Rattle.std.specs.Prelude.{◌≡◌, ◌≤◌, length, None, Some, IfOk, IfSome, MatchOption, option_map};
-ghost use Rattle.std.specs.Str.{chars};
-ghost use Rattle.std.specs.String.{string_bytes};
+ghost use Rattle.std.specs.Prelude.{◌≡◌, ◌≤◌, length, IfSome, option_map};
 ghost use Rattle.sms_tpdu.specs.Report.AnnouncedParts as formats;
 ghost use Rattle.sms_tpdu.specs.Report.AnnouncedParts.{IsReportData};
 ghost use Rattle.sms_tpdu.specs.Report.Text.{octets_of_header, body_after, text_of_data, text_of_report};
 ghost use Rattle.sms_tpdu.specs.UserData.BodySeen.{seen_body};
 ghost use Rattle.sms_tpdu.specs.UserData.Lengths as lengths;
+ghost use Rattle.sms_tpdu.specs.UserData.Text.{AnswersText};
 
 use crate::report::parts::{REPORT_DATA_MAX, ReportDataView, report_alphabet};
 use crate::user_data::lengths::{fill_bits, length_of_header};
@@ -68,9 +67,7 @@ fn text_of_data(
     dcs: Option<u8>,
 ) -> Result<Option<String>, AllocError>
     requires { IsReportData (formats.report_alphabet dcs) user.now }
-    ensures { IfOk result (λ found. MatchOption found
-        (text_of_data has_header dcs user.now ≡ None)
-        (λ text. text_of_data has_header dcs user.now ≡ Some (chars (string_bytes text)))) }
+    ensures { AnswersText (text_of_data has_header dcs user.now) result }
 {
     let alphabet = report_alphabet(dcs);
     let Some(taken) = octets_of_header(user.octets, has_header) else {
@@ -90,9 +87,7 @@ pub fn text_of_report(
     dcs: Option<u8>,
 ) -> Result<Option<String>, AllocError>
     requires { IfSome user.now (IsReportData (formats.report_alphabet dcs)) }
-    ensures { IfOk result (λ found. MatchOption found
-        (text_of_report has_header dcs user.now ≡ None)
-        (λ text. text_of_report has_header dcs user.now ≡ Some (chars (string_bytes text)))) }
+    ensures { AnswersText (text_of_report has_header dcs user.now) result }
 {
     match user {
         Some(user) => text_of_data(alloc, user, has_header, dcs),

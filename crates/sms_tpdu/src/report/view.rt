@@ -1,14 +1,13 @@
 //! A report, seen in its octets.
 
-ghost use Rattle.std.specs.Prelude.{◌≡◌, ℕ, List, None, Some, IfOk, IfErr, MatchOption};
-ghost use Rattle.std.specs.Str.{chars};
-ghost use Rattle.std.specs.String.{string_bytes};
+ghost use Rattle.std.specs.Prelude.{ℕ, List, IfOk, IfErr};
 ghost use Rattle.sms_field.specs.Reading.{Reads};
 ghost use Rattle.sms_field.specs.Reading.WholeAnswer.{IsFaultOf, SeesExactly};
 ghost use Rattle.sms_tpdu.specs.DataSpans.{DataLieIf};
 ghost use Rattle.sms_tpdu.specs.Report.{report};
 ghost use Rattle.sms_tpdu.specs.Report.Text.{text_of_report};
 ghost use Rattle.sms_tpdu.specs.declared.fault.UnitFault.TheVariants.{Short};
+ghost use Rattle.sms_tpdu.specs.UserData.Text.{AnswersText};
 
 use crate::data_spans::{DataSpans, report_data_spans};
 use crate::fault::UnitFault;
@@ -115,7 +114,8 @@ impl<'a, C: ReportPart + 'a, S: ReportStamp + 'a> ReportView<'a, C, S> {
     pub fn read(input: &'a [u8]) -> Result<(ReportView<'a, C, S>, usize), Fault<UnitFault>>
         ensures found { IfOk result (λ x. Reads (report S.first C.part S.part) x.0 input.now x.1) }
         ensures refused { IfErr result (IsFaultOf (report S.first C.part S.part) Short input.now) }
-        ensures exact { SeesExactly (λ view. view) (report S.first C.part S.part) input.now result }
+        ensures exact { let format = report S.first C.part S.part in
+            SeesExactly (λ view. view) format input.now result }
     {
         see(input)
     }
@@ -124,10 +124,8 @@ impl<'a, C: ReportPart + 'a, S: ReportStamp + 'a> ReportView<'a, C, S> {
     /// there are no data, they end within the header, or their data coding scheme tells another
     /// alphabet than the default one and UCS-2. Without a scheme they are in the default alphabet.
     pub fn text(&self, alloc: Global) -> Result<Option<String>, AllocError>
-        ensures { IfOk result (λ found. MatchOption found
-            (text_of_report self.now.has_header self.now.dcs self.now.user ≡ None)
-            (λ text. text_of_report self.now.has_header self.now.dcs self.now.user
-            ≡ Some (chars (string_bytes text)))) }
+        ensures { let text = text_of_report self.now.has_header self.now.dcs self.now.user in
+            AnswersText text result }
     {
         text_of_report(alloc, &self.user, self.has_header, self.dcs)
     }

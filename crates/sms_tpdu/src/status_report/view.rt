@@ -1,13 +1,12 @@
 //! SMS-STATUS-REPORT, seen in its octets.
 
-ghost use Rattle.std.specs.Prelude.{◌≡◌, None, Some, IfOk, IfErr, MatchOption};
-ghost use Rattle.std.specs.Str.{chars};
-ghost use Rattle.std.specs.String.{string_bytes};
+ghost use Rattle.std.specs.Prelude.{IfOk, IfErr};
 ghost use Rattle.sms_field.specs.Reading.{Reads};
 ghost use Rattle.sms_field.specs.Reading.WholeAnswer.{IsFaultOf, SeesExactly};
 ghost use Rattle.sms_tpdu.specs.Report.Text.{text_of_report};
 ghost use Rattle.sms_tpdu.specs.StatusReport.{status_report};
 ghost use Rattle.sms_tpdu.specs.declared.fault.UnitFault.TheVariants.{Short};
+ghost use Rattle.sms_tpdu.specs.UserData.Text.{AnswersText};
 
 use crate::address::address_seen_at;
 use crate::fault::UnitFault;
@@ -152,10 +151,8 @@ impl<'a> StatusReportView<'a> {
     /// there are no data, they end within the header, or their data coding scheme tells another
     /// alphabet than the default one and UCS-2. Without a scheme they are in the default alphabet.
     pub fn text(&self, alloc: Global) -> Result<Option<String>, AllocError>
-        ensures { IfOk result (λ found. MatchOption found
-            (text_of_report self.now.has_header self.now.dcs self.now.user ≡ None)
-            (λ text. text_of_report self.now.has_header self.now.dcs self.now.user
-            ≡ Some (chars (string_bytes text)))) }
+        ensures { let text = text_of_report self.now.has_header self.now.dcs self.now.user in
+            AnswersText text result }
     {
         text_of_report(alloc, &self.user, self.has_header, self.dcs)
     }

@@ -1,10 +1,8 @@
 //! SMS-SUBMIT, seen in its octets.
 
-ghost use Rattle.std.specs.Prelude.{◌≡◌, None, Some, IfOk, IfErr, MatchOption};
-ghost use Rattle.std.specs.Str.{chars};
-ghost use Rattle.std.specs.String.{string_bytes};
+ghost use Rattle.std.specs.Prelude.{IfOk, IfErr};
 ghost use Rattle.sms_field.specs.Coding.{alphabet_at};
-ghost use Rattle.sms_tpdu.specs.UserData.Text.{text_of_body};
+ghost use Rattle.sms_tpdu.specs.UserData.Text.{text_of_body, AnswersText};
 ghost use Rattle.sms_field.specs.Reading.{Reads};
 ghost use Rattle.sms_field.specs.Reading.WholeAnswer.{IsFaultOf, SeesExactly};
 ghost use Rattle.sms_tpdu.specs.Submit.{submit};
@@ -133,10 +131,8 @@ impl<'a> SubmitView<'a> {
     /// The text that the message carries, made straight from its octets; none where its data coding
     /// scheme tells another alphabet than the default one and UCS-2.
     pub fn text(&self, alloc: Global) -> Result<Option<String>, AllocError>
-        ensures { IfOk result (λ found. MatchOption found
-            (text_of_body (alphabet_at self.now.dcs) self.now.user.body ≡ None)
-            (λ text. text_of_body (alphabet_at self.now.dcs) self.now.user.body
-            ≡ Some (chars (string_bytes text)))) }
+        ensures { let text = text_of_body (alphabet_at self.now.dcs) self.now.user.body in
+            AnswersText text result }
     {
         self.user.body().text(alloc, alphabet_of(self.dcs))
     }
