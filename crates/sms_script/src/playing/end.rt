@@ -51,7 +51,7 @@ fn put_statuses<N: Network, K: Sink>(
 {
     for place in 0..network.typed(phone) {
         let Some(word) = network.status(phone, place + 1) else {
-            return Ok(());
+            unreachable!()
         };
         put_status(name, place + 1, word, page, sink)?;
     }
@@ -108,7 +108,7 @@ fn put_entries<N: Network, K: Sink>(
 {
     for place in 0..network.stored(phone) {
         let Some(entry) = network.entry(phone, place) else {
-            return Ok(());
+            unreachable!()
         };
         put_entry(alloc, entry, page, sink)?;
     }

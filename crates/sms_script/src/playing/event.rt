@@ -27,7 +27,7 @@ fn push_packets<N: Network>(
 {
     for place in first..network.packet_count() {
         let Some(packet) = network.packet(place + 1) else {
-            return Ok(());
+            unreachable!()
         };
         let name = script.name(packet.phone);
         push_packet_line(out, script.is_brief(), place + 1, name, packet)?;
