@@ -7,7 +7,7 @@ use Rattle.std.proofs.lemmas.Option.{slice_get_within, slice_get_cases, get_or_f
 use Rattle.sms_script.specs.Meaning.Known.{name_of}
 use Rattle.sms_script.specs.Transcript.{packet_lines}
 use Rattle.sms_script.specs.Transcript.Appended.{◌⊕◌}
-use Rattle.sms_script.specs.Transcript.Lines.{PacketValue, packet_line, octets_text, line_end}
+use Rattle.sms_script.specs.Transcript.Lines.{PacketValue, packet_line, sent_line, octets_text, line_end}
 
 -- the element that is there, and what follows it
 pub drop-there : {A : Type 0} (xs : List A) (i : ℕ) (x : A) → slice_get xs i ≡ Some x → drop i xs ≡ x ∷ drop (i + 1) xs
@@ -46,3 +46,8 @@ packet_line-is brief number name packet out = by_way packet.is_up
         ≡ out ++ (if up then codes "#" ⊕ decimal number ⊕ codes " " ⊕ name ⊕ codes ">centre " ⊕ octets_text brief packet.octets ⊕ line_end else codes "#" ⊕ decimal number ⊕ codes " centre>" ⊕ name ⊕ codes " " ⊕ octets_text brief packet.octets ⊕ line_end)
     by_way true = search (rules, append_assoc)
     by_way false = search (rules, append_assoc)
+
+-- the parts of the line of a text that was typed, one after another
+pub sent_line-is : (name : List ℕ) (number : ℕ) (word out : List ℕ)
+    → out ++ codes "sent " ++ name ++ 32 ∷ [] ++ decimal number ++ 32 ∷ [] ++ word ++ line_end ≡ out ++ sent_line name number word
+sent_line-is name number word out = search (rules, append_assoc)

@@ -18,4 +18,4 @@ pub use meaning::{Event, Limit, Text};
 pub use playing::{Network, Next, play, play_on};
 pub use script::{Limits, Script};
 pub use sms_field::Octets;
-pub use transcript::{Entry, Escape, Packet};
+pub use transcript::{Entry, Escape, Packet, push_decimal, push_hexadecimal};

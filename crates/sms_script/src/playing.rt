@@ -6,6 +6,7 @@ mod line;
 mod lines;
 mod network;
 mod next_line;
+mod page;
 mod put;
 mod start;
 
@@ -18,6 +19,7 @@ use crate::devices::{Sink, Source};
 use crate::fault::PlayFault;
 use crate::playing::end::put_phones;
 use crate::playing::lines::play_lines;
+use crate::playing::page::Page;
 use crate::playing::start::started;
 use crate::script::Script;
 pub use network::Network;
@@ -52,9 +54,10 @@ pub fn play_on<N: Network, S: Source, K: Sink>(
     ensures write_fails { result ≡ Err Write → K.has_failed sink.new ≡ true }
     ensures write_works { result ≢ Err Write → K.has_failed sink.new ≡ false }
 {
-    play_lines(alloc, source, script, network, sink)?;
-    let last = started(alloc, script, network.take())?;
-    let put = put_phones(alloc, script, &last, sink);
+    let mut page = Page::new(alloc);
+    play_lines(alloc, source, script, network, &mut page, sink)?;
+    let last = started(alloc, script, network.take(), &mut page.words)?;
+    let put = put_phones(alloc, script, &last, &mut page.lines, sink);
     *network = Some(last);
     put
 }

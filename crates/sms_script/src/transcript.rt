@@ -12,8 +12,8 @@ ghost use Rattle.sms_script.specs.Transcript.Escapes.{escaped};
 ghost use Rattle.sms_script.specs.Transcript.Lines.{event_line, packet_line, sent_line, store_line, entry_line, octets_text, line_end};
 ghost use Rattle.sms_script.specs.Transcript.Shown.{shown, stored};
 
-use crate::transcript::digits::{push_decimal, push_hexadecimal};
 use crate::transcript::escapes::push_escaped;
+pub use digits::{push_decimal, push_hexadecimal};
 pub use escapes::Escape;
 use sms_field::Address;
 use std::alloc::{AllocError, Global};
@@ -37,12 +37,12 @@ pub struct Entry<'a> {
 }
 
 /// Adds the line of an event, from what it answered in words.
-pub fn push_event_line(out: &mut Vec<u8>, number: u64, words: &str) -> Result<(), AllocError>
+pub fn push_event_line(out: &mut Vec<u8>, number: u64, words: &[u8]) -> Result<(), AllocError>
     ensures { OnOk result (out.new.items ≡ out.old.items ++ event_line number words.now) }
 {
     push_decimal(out, number)?;
     out.push(b' ')?;
-    out.extend_from_slice(words.as_bytes())?;
+    out.extend_from_slice(words)?;
     out.extend_from_slice(b"\n")
 }
 
@@ -95,18 +95,35 @@ pub fn push_packet_line(
     Ok(())
 }
 
-/// The line of a text that was typed, from what became of it in a word.
-pub fn sent_line(alloc: Global, name: &str, number: usize, word: &str) -> Result<String, AllocError>
-    ensures { IfOk result (λ s. string_bytes s ≡ sent_line name.now number word.now) }
+/// Adds the line of a text that was typed, from what became of it in a word.
+pub fn push_sent_line(
+    out: &mut Vec<u8>,
+    name: &str,
+    number: usize,
+    word: &str,
+) -> Result<(), AllocError>
+    ensures { let text = sent_line name.now number word.now in
+        OnOk result (out.new.items ≡ out.old.items ++ text) }
 {
-    format!(in alloc; "sent {name} {number} {word}\n")
+    out.extend_from_slice(b"sent ")?;
+    out.extend_from_slice(name.as_bytes())?;
+    out.push(b' ')?;
+    push_decimal(out, number as u64)?;
+    out.push(b' ')?;
+    out.extend_from_slice(word.as_bytes())?;
+    out.push(b'\n')?;
+    Ok(())
 }
 
-/// The line that begins a store.
-pub fn store_line(alloc: Global, name: &str, count: usize) -> Result<String, AllocError>
-    ensures { IfOk result (λ s. string_bytes s ≡ store_line name.now count) }
+/// Adds the line that begins a store.
+pub fn push_store_line(out: &mut Vec<u8>, name: &str, count: usize) -> Result<(), AllocError>
+    ensures { OnOk result (out.new.items ≡ out.old.items ++ store_line name.now count) }
 {
-    format!(in alloc; "store {name} {count}\n")
+    out.extend_from_slice(b"store ")?;
+    out.extend_from_slice(name.as_bytes())?;
+    out.push(b' ')?;
+    push_decimal(out, count as u64)?;
+    out.extend_from_slice(b"\n")
 }
 
 /// The text of an address, in octets.
@@ -128,12 +145,10 @@ fn push_entry(line: &mut Vec<u8>, origin: &[u8], text: &[u8]) -> Result<(), Allo
     line.extend_from_slice(b"\n")
 }
 
-/// The line of a text in a store.
-pub fn entry_line(alloc: Global, entry: Entry<'_>) -> Result<Vec<u8>, AllocError>
-    ensures { IfOk result (λ line. line.items ≡ entry_line (stored entry.entry)) }
+/// Adds the line of a text in a store.
+pub fn push_entry_line(alloc: Global, out: &mut Vec<u8>, entry: Entry<'_>) -> Result<(), AllocError>
+    ensures { OnOk result (out.new.items ≡ out.old.items ++ entry_line (stored entry.entry)) }
 {
     let origin = origin_text(alloc, entry.origin)?;
-    let mut line = Vec::new(alloc);
-    push_entry(&mut line, origin.as_bytes(), entry.text.as_bytes())?;
-    Ok(line)
+    push_entry(out, origin.as_bytes(), entry.text.as_bytes())
 }

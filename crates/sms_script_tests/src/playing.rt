@@ -33,8 +33,9 @@ impl Network for Silent {
         })
     }
 
-    fn step(&mut self, alloc: Global, _event: &Event) -> Result<String, AllocError> {
-        "noted".to_string(alloc)
+    fn step(&mut self, _event: &Event, words: &mut Vec<u8>) -> Result<(), AllocError> {
+        words.clear();
+        words.extend_from_slice(b"noted")
     }
 
     fn packet_count(&self) -> usize {

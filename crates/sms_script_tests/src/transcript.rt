@@ -50,13 +50,14 @@ impl Network for Same {
         })
     }
 
-    fn step(&mut self, alloc: Global, event: &Event) -> Result<String, AllocError> {
+    fn step(&mut self, event: &Event, words: &mut Vec<u8>) -> Result<(), AllocError> {
         match event {
             Event::Tick(_) => {}
             _ if self.count < 7 => self.count += 1,
             _ => {}
         }
-        "drop not cp".to_string(alloc)
+        words.clear();
+        words.extend_from_slice(b"drop not cp")
     }
 
     fn packet_count(&self) -> usize {

@@ -1,7 +1,6 @@
 -- What stands at a phone, among what stands at all of them.
-use Rattle.std.proofs.Common.{◌≡◌, ◌≤◌, ◌-◌, ◌∙◌, ℕ, zero, suc, List, [], ◌∷◌, Some, Result, Ok, Err, IfOk, String, map, option_map, slice_get, refl, sym, ap, subst, arith}
+use Rattle.std.proofs.Common.{◌≡◌, ◌≤◌, ◌-◌, ◌∙◌, ℕ, zero, suc, List, [], ◌∷◌, Some, Result, Ok, Err, IfOk, OnOk, map, option_map, slice_get, refl, sym, ap, subst, arith}
 use Rattle.std.specs.Str.{chars, IsUtf8}
-use Rattle.std.specs.String.{string_bytes}
 use Rattle.std.proofs.lemmas.Str.{encodes-chars}
 use Rattle.std.proofs.lemmas.Option.{slice_get-map}
 use Rattle.sms_field.specs.Address.Value.{AddressValue}
@@ -75,7 +74,6 @@ begins_empty (Ok world) limits phones stands = starts_empty limits phones world 
 begins_empty (Err e) limits phones stands = tt
 
 -- the words, unless memory ran out for them
-pub words_of : {A E : Type 0} (result : Result (String A) E) (words : List ℕ)
-    → IfOk result (λ text. string_bytes text ≡ words) → script.AreWords words result
-words_of (Ok text) words are = are
-words_of (Err e) words are = tt
+pub words_of : {E : Type 0} (result : Result (Unit {0}) E) (words written : List ℕ) → OnOk result (written ≡ words) → script.AreWords words written result
+words_of (Ok done) words written are = are
+words_of (Err e) words written are = tt

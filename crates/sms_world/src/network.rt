@@ -6,7 +6,7 @@ ghost use Rattle.sms_world.specs.Watched.Network.{watched_conduct};
 
 use crate::trusted::TrustedWorld;
 use crate::watched::WatchedWorld;
-use crate::words::{status_text, told_text};
+use crate::words::{status_text, write_told};
 use crate::world::World;
 use sms_field::Address;
 use sms_script::{Entry, Event, Limits, Network, Packet};
@@ -19,9 +19,9 @@ impl Network for World {
         World::new(alloc, limits, phones)
     }
 
-    fn step(&mut self, alloc: Global, event: &Event) -> Result<String, AllocError> {
+    fn step(&mut self, event: &Event, words: &mut Vec<u8>) -> Result<(), AllocError> {
         let told = World::step(self, event);
-        told_text(alloc, &told)
+        write_told(words, &told)
     }
 
     fn packet_count(&self) -> usize {
@@ -61,9 +61,9 @@ impl Network for WatchedWorld {
         WatchedWorld::new(alloc, limits, phones)
     }
 
-    fn step(&mut self, alloc: Global, event: &Event) -> Result<String, AllocError> {
+    fn step(&mut self, event: &Event, words: &mut Vec<u8>) -> Result<(), AllocError> {
         let told = WatchedWorld::step(self, event);
-        told_text(alloc, &told)
+        write_told(words, &told)
     }
 
     fn packet_count(&self) -> usize {
@@ -98,9 +98,9 @@ impl Network for TrustedWorld {
         TrustedWorld::new(alloc, limits, phones)
     }
 
-    fn step(&mut self, alloc: Global, event: &Event) -> Result<String, AllocError> {
+    fn step(&mut self, event: &Event, words: &mut Vec<u8>) -> Result<(), AllocError> {
         let told = TrustedWorld::step(self, event);
-        told_text(alloc, &told)
+        write_told(words, &told)
     }
 
     fn packet_count(&self) -> usize {

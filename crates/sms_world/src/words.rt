@@ -3,8 +3,7 @@
 pub(crate) mod doubts;
 pub(crate) mod order;
 
-ghost use Rattle.std.specs.Prelude.{◌≡◌, IfOk, Result, codes, decimal};
-ghost use Rattle.std.specs.String.{string_bytes};
+ghost use Rattle.std.specs.Prelude.{◌≡◌, ◌++◌, OnOk, codes, decimal};
 ghost use Rattle.sms_message.specs.declared.outcome.Outcome.TheVariants.{Segment, Failed, Refused};
 ghost use Rattle.sms_script.specs.Transcript.Appended.{◌⊕◌};
 ghost use Rattle.sms_world.specs.Words.{failure_text, outcome_text, dropped_text, fault_text, told_text, status_text};
@@ -12,71 +11,91 @@ ghost use Rattle.sms_world.specs.Words.{failure_text, outcome_text, dropped_text
 use crate::fault::WorldFault;
 use sms_message::{Dropped, Outcome};
 use sms_party::Status;
-use std::alloc::{AllocError, Global};
+use sms_script::{push_decimal, push_hexadecimal};
+use std::alloc::AllocError;
 
-/// A failure cause (TP-FCS) in two digits, none as `-`.
-fn failure_text(alloc: Global, failure: Option<u8>) -> Result<String, AllocError>
-    ensures { IfOk result (λ s. string_bytes s ≡ failure_text failure) }
+/// Adds a failure cause (TP-FCS) in two digits, none as `-`.
+fn push_failure(out: &mut Vec<u8>, failure: Option<u8>) -> Result<(), AllocError>
+    ensures { OnOk result (out.new.items ≡ out.old.items ++ failure_text failure) }
 {
     match failure {
-        Some(failure) => hex::encode_upper(alloc, [failure].as_slice()),
-        None => "-".to_string(alloc),
+        Some(failure) => push_hexadecimal(out, &[failure]),
+        None => out.extend_from_slice(b"-"),
     }
 }
 
-/// Words, and after them the number of a text.
-fn numbered_text(alloc: Global, words: &str, text: usize) -> Result<String, AllocError>
-    ensures { IfOk result (λ s. string_bytes s ≡ words.now ⊕ codes " " ⊕ decimal text) }
+/// Adds words, and after them the number of a text.
+fn push_numbered(out: &mut Vec<u8>, words: &str, text: usize) -> Result<(), AllocError>
+    ensures { let all = words.now ⊕ codes " " ⊕ decimal text in
+        OnOk result (out.new.items ≡ out.old.items ++ all) }
 {
-    format!(in alloc; "{words} {text}")
+    out.extend_from_slice(words.as_bytes())?;
+    out.push(b' ')?;
+    push_decimal(out, text as u64)
 }
 
-/// Which segment of a text was accepted, in words.
-fn segment_text(alloc: Global, text: usize, segment: usize) -> Result<String, AllocError>
-    ensures { IfOk result (λ s. string_bytes s ≡ outcome_text (Segment text segment)) }
+/// Adds which segment of a text was accepted, in words.
+fn push_segment(out: &mut Vec<u8>, text: usize, segment: usize) -> Result<(), AllocError>
+    ensures { let all = outcome_text (Segment text segment) in
+        OnOk result (out.new.items ≡ out.old.items ++ all) }
 {
-    format!(in alloc; "segment {text} {segment}")
+    push_numbered(out, "segment", text)?;
+    out.push(b' ')?;
+    push_decimal(out, segment as u64)
 }
 
-/// Which text an RP-ERROR has ended, and why, in words.
-fn failed_text(
-    alloc: Global,
+/// Adds the cause of a refusal, and its failure cause, each after a space.
+fn push_causes(out: &mut Vec<u8>, cause: u8, failure: Option<u8>) -> Result<(), AllocError>
+    ensures { let all = codes " " ⊕ decimal cause ⊕ codes " " ⊕ failure_text failure in
+        OnOk result (out.new.items ≡ out.old.items ++ all) }
+{
+    out.push(b' ')?;
+    push_decimal(out, u64::from(cause))?;
+    out.push(b' ')?;
+    push_failure(out, failure)
+}
+
+/// Adds which text an RP-ERROR has ended, and why, in words.
+fn push_failed(
+    out: &mut Vec<u8>,
     text: usize,
     cause: u8,
     failure: Option<u8>,
-) -> Result<String, AllocError>
-    ensures { IfOk result (λ s. string_bytes s ≡ outcome_text (Failed text cause failure)) }
+) -> Result<(), AllocError>
+    ensures { let all = outcome_text (Failed text cause failure) in
+        OnOk result (out.new.items ≡ out.old.items ++ all) }
 {
-    let failure = failure_text(alloc, failure)?;
-    format!(in alloc; "failed {text} {cause} {failure}")
+    push_numbered(out, "failed", text)?;
+    push_causes(out, cause, failure)
 }
 
-/// Why a party refused what came, in words.
-fn refused_text(alloc: Global, cause: u8, failure: Option<u8>) -> Result<String, AllocError>
-    ensures { IfOk result (λ s. string_bytes s ≡ outcome_text (Refused cause failure)) }
+/// Adds why a party refused what came, in words.
+fn push_refused(out: &mut Vec<u8>, cause: u8, failure: Option<u8>) -> Result<(), AllocError>
+    ensures { let all = outcome_text (Refused cause failure) in
+        OnOk result (out.new.items ≡ out.old.items ++ all) }
 {
-    let failure = failure_text(alloc, failure)?;
-    format!(in alloc; "refused {cause} {failure}")
+    out.extend_from_slice(b"refused")?;
+    push_causes(out, cause, failure)
 }
 
-/// What a party did, in words.
-fn outcome_text(alloc: Global, outcome: Outcome) -> Result<String, AllocError>
-    ensures { IfOk result (λ s. string_bytes s ≡ outcome_text outcome) }
+/// Adds what a party did, in words.
+fn push_outcome(out: &mut Vec<u8>, outcome: Outcome) -> Result<(), AllocError>
+    ensures { OnOk result (out.new.items ≡ out.old.items ++ outcome_text outcome) }
 {
     let words = match outcome {
-        Outcome::Typed { text } => return numbered_text(alloc, "typed", text),
-        Outcome::Segment { text, segment } => return segment_text(alloc, text, segment),
-        Outcome::Accepted { text } => return numbered_text(alloc, "accepted", text),
+        Outcome::Typed { text } => return push_numbered(out, "typed", text),
+        Outcome::Segment { text, segment } => return push_segment(out, text, segment),
+        Outcome::Accepted { text } => return push_numbered(out, "accepted", text),
         Outcome::Failed {
             text,
             cause,
             failure,
-        } => return failed_text(alloc, text, cause, failure),
-        Outcome::Repeated { text } => return numbered_text(alloc, "repeated", text),
-        Outcome::GaveUp { text } => return numbered_text(alloc, "gave up", text),
+        } => return push_failed(out, text, cause, failure),
+        Outcome::Repeated { text } => return push_numbered(out, "repeated", text),
+        Outcome::GaveUp { text } => return push_numbered(out, "gave up", text),
         Outcome::Idle => "idle",
         Outcome::Held => "held",
-        Outcome::Refused { cause, failure } => return refused_text(alloc, cause, failure),
+        Outcome::Refused { cause, failure } => return push_refused(out, cause, failure),
         Outcome::Pushed => "pushed",
         Outcome::NothingWaits => "nothing waits",
         Outcome::Delivered => "delivered",
@@ -88,7 +107,7 @@ fn outcome_text(alloc: Global, outcome: Outcome) -> Result<String, AllocError>
         Outcome::Ticked => "ticked",
         Outcome::Noted => "noted",
     };
-    words.to_string(alloc)
+    out.extend_from_slice(words.as_bytes())
 }
 
 /// Why a party dropped what came, in words.
@@ -116,13 +135,14 @@ fn fault_text(fault: WorldFault) -> &'static str
     }
 }
 
-/// What was answered to an event, in words.
-pub fn told_text(alloc: Global, told: &Result<Outcome, WorldFault>) -> Result<String, AllocError>
-    ensures { IfOk result (λ s. string_bytes s ≡ told_text told.now) }
+/// Writes what was answered to an event, in words, in the place of what stands there.
+pub fn write_told(words: &mut Vec<u8>, told: &Result<Outcome, WorldFault>) -> Result<(), AllocError>
+    ensures { OnOk result (words.new.items ≡ told_text told.now) }
 {
+    words.clear();
     match told {
-        Ok(outcome) => outcome_text(alloc, *outcome),
-        Err(fault) => fault_text(*fault).to_string(alloc),
+        Ok(outcome) => push_outcome(words, *outcome),
+        Err(fault) => words.extend_from_slice(fault_text(*fault).as_bytes()),
     }
 }
 

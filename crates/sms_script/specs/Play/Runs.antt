@@ -1,6 +1,5 @@
 -- Runs of a network.
-use Rattle.std.specs.Prelude.{◌≡◌, ℕ, List, [], ◌∷◌, ◌++◌, slice_index_or, Option, Some, None, Result, Ok, Err, String}
-use Rattle.std.specs.String.{string_bytes}
+use Rattle.std.specs.Prelude.{◌≡◌, ℕ, List, [], ◌∷◌, ◌++◌, slice_index_or, Option, Some, None, Result, Ok, Err}
 use Rattle.sms_script.specs.Play.Network.{Conduct}
 use Rattle.sms_script.specs.Script.Settings.{SettingsValue}
 use Rattle.sms_script.specs.Transcript.{Ended, Happened}
@@ -29,15 +28,16 @@ store_at ends phone = (ended_at ends phone).store
 abbrev pub PutsOut : {N : Type 0} → Conduct N → N → N → Type 0
 PutsOut c old new = (put : List PacketValue) × (c.put_out new ≡ c.put_out old ++ put)
 
--- what was answered in words, unless memory ran out for them
-abbrev pub AreWords : {A E : Type 0} → List ℕ → Result (String A) E → Type 0
-AreWords words (Ok text) = string_bytes text ≡ words
-AreWords words (Err fault) = Unit {0}
+-- what was answered in words was written, unless memory ran out for it
+abbrev pub AreWords : {E : Type 0} → List ℕ → List ℕ → Result (Unit {0}) E → Type 0
+AreWords words written (Ok done) = written ≡ words
+AreWords words written (Err fault) = Unit {0}
 
--- an event led from one network to another
-abbrev pub Answers : {N A E : Type 0} → Conduct N → N → Event → N → Result (String A) E → Type 0
-Answers c n event next answer =
-    (words : List ℕ) × c.Steps n event words next × AreWords words answer
+-- an event led from one network to another, and this was written of what it answered
+abbrev pub Answers : {N E : Type 0} → Conduct N → N → Event → N → List ℕ → Result (Unit {0}) E
+    → Type 0
+Answers c n event next written answer =
+    (words : List ℕ) × c.Steps n event words next × AreWords words written answer
 
 -- from one network to another by these events, with what each answered and the packets that it put
 -- out

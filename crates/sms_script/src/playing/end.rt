@@ -1,4 +1,5 @@
-//! What stands at the phones in the end.
+//! What stands at the phones in the end. Each line is written on a page first, in the place of what
+//! stands there.
 
 ghost use Rattle.std.specs.Prelude.{◌≡◌, ◌<◌, false, length, flat_map};
 ghost use Rattle.sms_script.specs.Play.Played.{told_in_the_end};
@@ -13,15 +14,15 @@ use crate::fault::PlayFault;
 use crate::playing::network::Network;
 use crate::playing::put::put;
 use crate::script::Script;
-use crate::transcript::{Entry, entry_line, sent_line, store_line};
+use crate::transcript::{Entry, push_entry_line, push_sent_line, push_store_line};
 use std::alloc::Global;
 
 /// Puts the line of a text that was typed, from what became of it in a word.
 fn put_status<K: Sink>(
-    alloc: Global,
     name: &str,
     number: usize,
     word: &str,
+    page: &mut Vec<u8>,
     sink: &mut K,
 ) -> Result<(), PlayFault>
     requires { K.has_failed sink.old ≡ false }
@@ -29,16 +30,17 @@ fn put_status<K: Sink>(
         Puts (K.contents sink.old) (K.contents sink.new) text result }
     ensures failed { HasFailed result (K.has_failed sink.new) }
 {
-    let line = sent_line(alloc, name, number, word)?;
-    put(sink, line.as_bytes())
+    page.clear();
+    push_sent_line(page, name, number, word)?;
+    put(sink, page)
 }
 
 /// Puts the lines of the texts that were typed at a phone.
 fn put_statuses<N: Network, K: Sink>(
-    alloc: Global,
     name: &str,
     network: &N,
     phone: usize,
+    page: &mut Vec<u8>,
     sink: &mut K,
 ) -> Result<(), PlayFault>
     requires works { K.has_failed sink.old ≡ false }
@@ -49,18 +51,18 @@ fn put_statuses<N: Network, K: Sink>(
 {
     for place in 0..network.typed(phone) {
         let Some(word) = network.status(phone, place + 1) else {
-            return Ok(());
+            unreachable!()
         };
-        put_status(alloc, name, place + 1, word, sink)?;
+        put_status(name, place + 1, word, page, sink)?;
     }
     Ok(())
 }
 
 /// Puts the line that begins a store.
 fn put_store<K: Sink>(
-    alloc: Global,
     name: &str,
     count: usize,
+    page: &mut Vec<u8>,
     sink: &mut K,
 ) -> Result<(), PlayFault>
     requires { K.has_failed sink.old ≡ false }
@@ -68,19 +70,26 @@ fn put_store<K: Sink>(
         Puts (K.contents sink.old) (K.contents sink.new) text result }
     ensures failed { HasFailed result (K.has_failed sink.new) }
 {
-    let line = store_line(alloc, name, count)?;
-    put(sink, line.as_bytes())
+    page.clear();
+    push_store_line(page, name, count)?;
+    put(sink, page)
 }
 
 /// Puts the line of a text in a store.
-fn put_entry<K: Sink>(alloc: Global, entry: Entry<'_>, sink: &mut K) -> Result<(), PlayFault>
+fn put_entry<K: Sink>(
+    alloc: Global,
+    entry: Entry<'_>,
+    page: &mut Vec<u8>,
+    sink: &mut K,
+) -> Result<(), PlayFault>
     requires { K.has_failed sink.old ≡ false }
     ensures puts { let text = entry_line (stored entry.entry) in
         Puts (K.contents sink.old) (K.contents sink.new) text result }
     ensures failed { HasFailed result (K.has_failed sink.new) }
 {
-    let line = entry_line(alloc, entry)?;
-    put(sink, &line)
+    page.clear();
+    push_entry_line(alloc, page, entry)?;
+    put(sink, page)
 }
 
 /// Puts the lines of the texts in the store of a phone.
@@ -88,6 +97,7 @@ fn put_entries<N: Network, K: Sink>(
     alloc: Global,
     network: &N,
     phone: usize,
+    page: &mut Vec<u8>,
     sink: &mut K,
 ) -> Result<(), PlayFault>
     requires works { K.has_failed sink.old ≡ false }
@@ -98,9 +108,9 @@ fn put_entries<N: Network, K: Sink>(
 {
     for place in 0..network.stored(phone) {
         let Some(entry) = network.entry(phone, place) else {
-            return Ok(());
+            unreachable!()
         };
-        put_entry(alloc, entry, sink)?;
+        put_entry(alloc, entry, page, sink)?;
     }
     Ok(())
 }
@@ -111,6 +121,7 @@ fn put_phone<N: Network, K: Sink>(
     name: &str,
     network: &N,
     phone: usize,
+    page: &mut Vec<u8>,
     sink: &mut K,
 ) -> Result<(), PlayFault>
     requires works { K.has_failed sink.old ≡ false }
@@ -119,9 +130,9 @@ fn put_phone<N: Network, K: Sink>(
         Puts (K.contents sink.old) (K.contents sink.new) text result }
     ensures failed { HasFailed result (K.has_failed sink.new) }
 {
-    put_statuses(alloc, name, network, phone, sink)?;
-    put_store(alloc, name, network.stored(phone), sink)?;
-    put_entries(alloc, network, phone, sink)
+    put_statuses(name, network, phone, page, sink)?;
+    put_store(name, network.stored(phone), page, sink)?;
+    put_entries(alloc, network, phone, page, sink)
 }
 
 /// Puts what stands at each phone, in their order.
@@ -129,6 +140,7 @@ pub fn put_phones<N: Network, K: Sink>(
     alloc: Global,
     script: &Script,
     network: &N,
+    page: &mut Vec<u8>,
     sink: &mut K,
 ) -> Result<(), PlayFault>
     requires works { K.has_failed sink.old ≡ false }
@@ -138,7 +150,7 @@ pub fn put_phones<N: Network, K: Sink>(
     ensures failed { HasFailed result (K.has_failed sink.new) }
 {
     for phone in 0..script.addresses().len() {
-        put_phone(alloc, script.name(phone), network, phone, sink)?;
+        put_phone(alloc, script.name(phone), network, phone, page, sink)?;
     }
     Ok(())
 }

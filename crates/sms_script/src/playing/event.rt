@@ -8,10 +8,11 @@ use crate::devices::Sink;
 use crate::fault::PlayFault;
 use crate::meaning::Event;
 use crate::playing::network::Network;
+use crate::playing::page::Page;
 use crate::playing::put::put;
 use crate::script::Script;
 use crate::transcript::{push_event_line, push_packet_line};
-use std::alloc::{AllocError, Global};
+use std::alloc::AllocError;
 
 /// Adds the lines of the packets that were put out after the first ones.
 fn push_packets<N: Network>(
@@ -26,7 +27,7 @@ fn push_packets<N: Network>(
 {
     for place in first..network.packet_count() {
         let Some(packet) = network.packet(place + 1) else {
-            return Ok(());
+            unreachable!()
         };
         let name = script.name(packet.phone);
         push_packet_line(out, script.is_brief(), place + 1, name, packet)?;
@@ -41,7 +42,7 @@ fn write_event<N: Network>(
     script: &Script,
     network: &N,
     number: u64,
-    words: &str,
+    words: &[u8],
     first: usize,
 ) -> Result<(), AllocError>
     requires { first ≤ length (N.conduct.put_out network.now) }
@@ -55,14 +56,13 @@ fn write_event<N: Network>(
 }
 
 /// Plays the event of this number, and puts its lines into the sink. They are written on the page
-/// first, which is kept.
+/// first.
 pub fn take_event<N: Network, K: Sink>(
-    alloc: Global,
     script: &Script,
     network: &mut N,
     number: u64,
     event: &Event,
-    page: &mut Vec<u8>,
+    page: &mut Page,
     sink: &mut K,
 ) -> Result<(), PlayFault>
     requires { K.has_failed sink.old ≡ false }
@@ -73,7 +73,7 @@ pub fn take_event<N: Network, K: Sink>(
     ensures phones { length (N.conduct.ends network.new) ≡ length (N.conduct.ends network.old) }
 {
     let first = network.packet_count();
-    let words = network.step(alloc, event)?;
-    write_event(page, script, network, number, words.as_str(), first)?;
-    put(sink, page)
+    network.step(event, &mut page.words)?;
+    write_event(&mut page.lines, script, network, number, &page.words, first)?;
+    put(sink, &page.lines)
 }

@@ -12,6 +12,7 @@ use crate::fault::PlayFault;
 use crate::meaning::Event;
 use crate::playing::event::take_event;
 use crate::playing::network::Network;
+use crate::playing::page::Page;
 use crate::playing::start::start;
 use crate::script::Script;
 use std::alloc::Global;
@@ -23,7 +24,7 @@ fn play_event<N: Network, K: Sink>(
     network: &mut Option<N>,
     events: &mut u64,
     event: &Event,
-    page: &mut Vec<u8>,
+    page: &mut Page,
     sink: &mut K,
 ) -> Result<(), PlayFault>
     requires works { K.has_failed sink.old ≡ false }
@@ -38,10 +39,10 @@ fn play_event<N: Network, K: Sink>(
     ensures fails { result ≡ Err Write → K.has_failed sink.new ≡ true }
     ensures works { result ≢ Err Write → K.has_failed sink.new ≡ false }
 {
-    start(alloc, script, network)?;
+    start(alloc, script, network, &mut page.words)?;
     *events += 1;
     match network {
-        Some(current) => take_event(alloc, script, current, *events, event, page, sink),
+        Some(current) => take_event(script, current, *events, event, page, sink),
         None => unreachable!(),
     }
 }
@@ -53,7 +54,7 @@ pub fn play_line<N: Network, K: Sink>(
     network: &mut Option<N>,
     events: &mut u64,
     line: &[u8],
-    page: &mut Vec<u8>,
+    page: &mut Page,
     sink: &mut K,
 ) -> Result<(), PlayFault>
     requires works { K.has_failed sink.old ≡ false }

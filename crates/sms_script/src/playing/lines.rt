@@ -10,15 +10,18 @@ use crate::fault::PlayFault;
 use crate::playing::line::play_line;
 use crate::playing::network::Network;
 use crate::playing::next_line::{Next, next_line};
+use crate::playing::page::Page;
 use crate::script::Script;
 use std::alloc::Global;
 
-/// Plays the lines that a source gives, and puts what they tell into the sink.
+/// Plays the lines that a source gives, and puts what they tell into the sink. It is written on the
+/// page first.
 pub fn play_lines<N: Network, S: Source, K: Sink>(
     alloc: Global,
     source: &mut S,
     script: &mut Script,
     network: &mut Option<N>,
+    page: &mut Page,
     sink: &mut K,
 ) -> Result<(), PlayFault>
     requires reads { S.has_failed source.old ≡ false }
@@ -37,15 +40,12 @@ pub fn play_lines<N: Network, S: Source, K: Sink>(
     ensures write_works { result ≢ Err Write → K.has_failed sink.new ≡ false }
 {
     let mut events = 0u64;
-    let mut page = Vec::new(alloc);
     let mut line = Vec::new(alloc);
     loop {
         match next_line(source, &mut line, script.lines())? {
-            Next::Line => {
-                play_line(alloc, script, network, &mut events, &line, &mut page, sink)?
-            }
+            Next::Line => { play_line(alloc, script, network, &mut events, &line, page, sink)? }
             Next::Last => {
-                return play_line(alloc, script, network, &mut events, &line, &mut page, sink);
+                return play_line(alloc, script, network, &mut events, &line, page, sink);
             }
             Next::End => return Ok(()),
         }

@@ -28,10 +28,10 @@ pub trait Network: Sized + Drop {
         ensures packets { IfOk result (λ n. conduct.put_out n ≡ []) }
         ensures phones { IfOk result (λ n. length (conduct.ends n) ≡ length phones.now) };
 
-    /// An event, and what it answers in words. Where memory runs out for the words, the event has
-    /// happened all the same.
-    fn step(&mut self, alloc: Global, event: &Event) -> Result<String, AllocError>
-        ensures steps { Answers conduct self.old event.now self.new result }
+    /// An event. What it answers in words is written in the place of what stood there. Where memory
+    /// runs out for the words, the event has happened all the same.
+    fn step(&mut self, event: &Event, words: &mut Vec<u8>) -> Result<(), AllocError>
+        ensures steps { Answers conduct self.old event.now self.new words.new.items result }
         ensures packets { PutsOut conduct self.old self.new }
         ensures ticks { IsTick event.now → conduct.put_out self.new ≡ conduct.put_out self.old }
         ensures phones { length (conduct.ends self.new) ≡ length (conduct.ends self.old) };

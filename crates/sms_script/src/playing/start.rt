@@ -10,11 +10,13 @@ use crate::playing::network::Network;
 use crate::script::Script;
 use std::alloc::Global;
 
-/// The network that there is, or one that begins as the script has set.
+/// The network that there is, or one that begins as the script has set. What the tick answers with
+/// which a clock starts is written in the place of the words that stood there.
 pub fn started<N: Network>(
     alloc: Global,
     script: &Script,
     network: Option<N>,
+    words: &mut Vec<u8>,
 ) -> Result<N, PlayFault>
     ensures there { IfOk result (λ n. OpensAt N.conduct script.now network n) }
     ensures memory { IfErr result (λ e. e ≡ Memory) }
@@ -25,7 +27,7 @@ pub fn started<N: Network>(
         None => {
             let mut network = N::begin(alloc, script.limits(), script.addresses())?;
             if let Some(seconds) = script.clock() {
-                let _words = network.step(alloc, &Event::Tick(seconds))?;
+                network.step(&Event::Tick(seconds), words)?;
             }
             Ok(network)
         }
@@ -37,12 +39,13 @@ pub fn start<N: Network>(
     alloc: Global,
     script: &Script,
     network: &mut Option<N>,
+    words: &mut Vec<u8>,
 ) -> Result<(), PlayFault>
     ensures there { OnOk result (StartsAt N.conduct script.now network.old network.new) }
     ensures memory { IfErr result (λ e. e ≡ Memory) }
 {
     if network.is_none() {
-        *network = Some(started(alloc, script, None)?);
+        *network = Some(started(alloc, script, None, words)?);
     }
     Ok(())
 }

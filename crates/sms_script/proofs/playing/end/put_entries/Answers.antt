@@ -19,13 +19,6 @@ loop-place-preserved g c =
       left = left_more _ _ _ _ _ (entry_line (stored c.in-Some.entry)) rest (entry_line_ends (stored c.in-Some.entry)) (entries_left all c.loop-place.place (stored c.in-Some.entry) (sym c.in-Some.ensures)) c.loop-place.invariant.left c.in_ok-put_entry.ensures.puts;
     }
 
-pub returns-in_default-clause-puts : goal.returns-in_default-clause-puts
-returns-in_default-clause-puts g c =
-    let all : List EntryValue = store_at (g.N.Network.conduct.ends c.args.network.now) c.args.phone in
-    let count = c.stored-place-end.ensures in
-    let below : c.loop-place.place < length all = omega (arith, count) in
-    absurd (not_none all c.loop-place.place below (sym c.in_default.ensures))
-
 pub returns-in_err-put_entry-clause-puts : goal.returns-in_err-put_entry-clause-puts
 returns-in_err-put_entry-clause-puts g c =
     let p = err_from_is_err_and c.from_residual.result c.from_residual.ensures.1 in

@@ -21,14 +21,6 @@ loop-place-preserved g c =
       left = left_more _ _ _ _ _ (sent_line c.args.name.now (c.loop-place.place + 1) c.in-Some.word.now) rest (sent_line_ends c.args.name.now (c.loop-place.place + 1) c.in-Some.word.now) (statuses_left c.args.name.now all c.loop-place.place c.in-Some.word.now there) c.loop-place.invariant.left c.in_ok-put_status.ensures.puts;
     }
 
-pub returns-in_default-clause-puts : goal.returns-in_default-clause-puts
-returns-in_default-clause-puts g c =
-    let all : List (List ℕ) = statuses_at (g.N.Network.conduct.ends c.args.network.now) c.args.phone in
-    let is : c.loop-place.place + 1 - 1 ≡ c.loop-place.place = omega arith in
-    let count = c.typed-place-end.ensures in
-    let below : c.loop-place.place < length all = omega (arith, count) in
-    absurd (not_none all c.loop-place.place below (sym (rw is at c.in_default.ensures)))
-
 pub returns-in_err-put_status-clause-puts : goal.returns-in_err-put_status-clause-puts
 returns-in_err-put_status-clause-puts g c =
     let p = err_from_is_err_and c.from_residual.result c.from_residual.ensures.1 in

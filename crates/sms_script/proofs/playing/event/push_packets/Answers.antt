@@ -13,14 +13,6 @@ loop-place-preserved g c =
     (rw (c.in_ok-push_packet_line.ensures, c.is_brief.ensures, c.name-name.ensures) refl)
     c.loop-place.invariant
 
-pub returns-in_default : goal.returns-in_default
-returns-in_default g c =
-    let all : List PacketValue = g.N.Network.conduct.put_out c.args.network.now in
-    let is : c.loop-place.place + 1 - 1 ≡ c.loop-place.place = omega arith in
-    let count = c.packet_count-place-end.ensures in
-    let below : c.loop-place.place < length all = omega (arith, count) in
-    absurd (not_none all c.loop-place.place below (sym (rw is at c.in_default.ensures)))
-
 pub returns : goal.returns
 returns g c =
     let all : List PacketValue = g.N.Network.conduct.put_out c.args.network.now in

@@ -5,4 +5,4 @@ use Rattle.sms_world.proofs.network.WatchedWorldNetwork.step.Goals as goal
 
 pub returns-clause-steps : goal.returns-clause-steps
 returns-clause-steps c =
-    (told_text c.step-told.result, (c.step-told.result, refl, c.step-told.ensures.steps, c.step-told.ensures.goes), words_of c.told_text.result _ c.told_text.ensures)
+    (told_text c.step-told.result, (c.step-told.result, refl, c.step-told.ensures.steps, c.step-told.ensures.goes), words_of c.write_told.result _ _ c.write_told.ensures)

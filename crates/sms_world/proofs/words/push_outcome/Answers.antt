@@ -1,5 +1,5 @@
 use Rattle.std.proofs.Common.{rules}
-use Rattle.sms_world.proofs.words.outcome_text.Goals as goal
+use Rattle.sms_world.proofs.words.push_outcome.Goals as goal
 
 pub returns : goal.returns
 returns c = search rules
