@@ -137,8 +137,9 @@ fn tells(
     event: &Event,
     words: &str,
 ) -> Result<(), AllocError> {
-    let told = Network::step(world, alloc, event)?;
-    same(rt, event, &told.as_str(), &words);
+    let mut told = Vec::new(alloc);
+    Network::step(world, event, &mut told)?;
+    same(rt, event, &told.as_slice(), &words.as_bytes());
     Ok(())
 }
 
