@@ -1,10 +1,11 @@
 //! The message as which octets are read.
 
-ghost use Rattle.std.specs.Prelude.{◌≡◌, ◌<◌, ℕ, List, ◌∷◌, Option, is_some, IfOk, IfErr, OnErr, MatchOption, option_copied};
+ghost use Rattle.std.specs.Prelude.{◌≡◌, ◌<◌, ℕ, List, ◌∷◌, Option, is_some, IfOk, IfErr, OnErr, MatchOption};
 ghost use Rattle.sms_text.specs.Octets.{IsOctets};
 ghost use Rattle.sms_field.specs.Field.{HasReading};
 ghost use Rattle.sms_field.specs.Reading.{Reads};
 ghost use Rattle.sms_relay.specs.Rp.{rp_message};
+ghost use Rattle.sms_relay.specs.Carried.InnerSeen.{seen_inner};
 ghost use Rattle.sms_relay.specs.Carried.Unwrapped.{IsReadAs};
 ghost use Rattle.sms_relay.specs.declared.side.Side.TheVariants.{FromPhone, ToPhone};
 ghost use Rattle.sms_message.specs.declared.message.Report.{Report};
@@ -16,9 +17,9 @@ ghost use Rattle.sms_message.specs.declared.outcome.Dropped.TheVariants.{Memory}
 use crate::message::{Message, Relay, Report, Tag, TransferUnit};
 use crate::outcome::Dropped;
 use sms_field::Refusal;
-use sms_relay::{CpBodyView, Inner, RelayFault, RpBody, RpMessage, Side, unwrap_view};
+use sms_relay::{CpBodyView, InnerView, RelayFault, RpBodyView, RpView, Side, unwrap_view};
 use sms_tpdu::{
-    Deliver, DeliverAck, DeliverError, Octets, Submit, SubmitAck, SubmitError, Unit, UnitFault,
+    Deliver, DeliverAck, DeliverError, OctetsView, Submit, SubmitAck, SubmitError, Unit, UnitFault,
 };
 use std::alloc::Global;
 
@@ -100,11 +101,11 @@ fn answer_in(
     alloc: Global,
     side: Side,
     cause: Option<u8>,
-    user: Option<&Octets>,
+    user: Option<OctetsView<'_>>,
 ) -> Result<Relay, Dropped>
-    requires { AreOptionalOctets (option_copied user) }
+    requires { AreOptionalOctets user }
     ensures read { IfOk result (λ r. (report : Option Report) × (r ≡ Answer side cause report)
-        × ReadsReport side cause (option_copied user.entry) report) }
+        × ReadsReport side cause user.entry report) }
     ensures err { IfErr result (λ e. e ≡ Memory) }
 {
     let report = match user {
@@ -119,36 +120,38 @@ fn answer_in(
 }
 
 /// What an RP message says.
-fn relay_of(alloc: Global, message: RpMessage) -> Result<Relay, Dropped>
+fn relay_of(alloc: Global, message: RpView<'_>) -> Result<Relay, Dropped>
     ensures read { IfOk result (λ relay. (octets : List ℕ) (used : ℕ)
-        → Reads rp_message message octets used → ReadsRelay octets message.reference relay) }
+        → Reads rp_message message.entry octets used
+        → ReadsRelay octets message.entry.reference relay) }
     ensures err { IfErr result (λ e. e ≡ Memory) }
 {
     let side = message.side;
     match message.body {
-        RpBody::Transfer { user, .. } => {
+        RpBodyView::Transfer { user, .. } => {
             let unit = unit_in(alloc, side, user.as_slice())?;
             Ok(Relay::Transfer { side, unit })
         }
-        RpBody::Ack { user } => answer_in(alloc, side, None, user.as_ref()),
-        RpBody::Fail { cause, user, .. } => answer_in(alloc, side, Some(cause), user.as_ref()),
+        RpBodyView::Ack { user } => answer_in(alloc, side, None, user),
+        RpBodyView::Fail { cause, user, .. } => answer_in(alloc, side, Some(cause), user),
     }
 }
 
 /// What the octets of a CP-DATA are read as, where they are read so.
-fn relay_in(alloc: Global, inner: Inner) -> Result<Relay, Dropped>
+fn relay_in(alloc: Global, inner: InnerView<'_>) -> Result<Relay, Dropped>
     ensures read { IfOk result (λ relay. (first second : ℕ) (rest : List ℕ)
-        → IsOctets (first ∷ second ∷ rest) → IsReadAs (first ∷ second ∷ rest) inner
+        → IsOctets (first ∷ second ∷ rest)
+        → IsReadAs (first ∷ second ∷ rest) (seen_inner inner.entry)
         → ReadsRelay (first ∷ second ∷ rest) second relay) }
     ensures err { IfErr result (λ e. e ≡ Memory) }
 {
     match inner {
-        Inner::Relay(message) => relay_of(alloc, message),
-        Inner::Bad { why, .. } => match why {
+        InnerView::Relay(message) => relay_of(alloc, message),
+        InnerView::Bad { why, .. } => match why {
             RelayFault::UnknownType => Ok(Relay::UnknownType),
             _ => Ok(Relay::Unreadable),
         },
-        Inner::Empty => Ok(Relay::Unreadable),
+        InnerView::Empty => Ok(Relay::Unreadable),
     }
 }
 
@@ -174,6 +177,6 @@ pub fn read_message(alloc: Global, octets: &[u8]) -> Result<Message, Dropped>
         value,
         reference: *reference,
     };
-    let relay = relay_in(alloc, inner.to_value(alloc)?)?;
+    let relay = relay_in(alloc, inner)?;
     Ok(Message::Data { flag, tag, relay })
 }

@@ -1,3 +1,4 @@
+mod Framed
 mod PacketRead
 mod Sizes
 pub mod ReadMessages

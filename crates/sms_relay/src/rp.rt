@@ -2,8 +2,8 @@
 
 ghost use Rattle.std.specs.Prelude.{◌≡◌, ◌≤◌, ◌++◌, length, OnOk};
 ghost use Rattle.sms_relay.specs.declared.side.Side.{Side};
-ghost use Rattle.sms_relay.specs.Rp.Value.{IsRpBody};
-ghost use Rattle.sms_relay.specs.Rp.{kind_of, rp_body_octets};
+ghost use Rattle.sms_relay.specs.Rp.Value.{IsRpBody, IsRpMessage};
+ghost use Rattle.sms_relay.specs.Rp.{kind_of, rp_body_octets, rp_octets};
 
 pub mod view;
 
@@ -125,6 +125,24 @@ fn put_body(out: &mut Vec<u8>, side: Side, body: &RpBody) -> Result<(), AllocErr
     }
 }
 
+/// Room for a message.
+pub(crate) fn room_for_message(message: &RpMessage) -> usize {
+    room_for_body(&message.body).saturating_add(2)
+}
+
+/// Adds the octets of a message.
+pub(crate) fn put_message(out: &mut Vec<u8>, message: &RpMessage) -> Result<(), AllocError>
+    ensures valid { IsRpMessage message.now }
+    ensures added { OnOk result (out.new.items ≡ out.old.items ++ rp_octets message.now) }
+{
+    let named = RpType {
+        kind: kind_of_body(&message.body),
+        side: message.side,
+    };
+    out.extend_from_slice(&[named.to_octet(), message.reference])?;
+    put_body(out, message.side, &message.body)
+}
+
 impl Unit for RpMessage {
     ghost use Rattle.sms_relay.specs.Rp.{rp_message, SpellsRp, MayFollow};
     ghost use Rattle.sms_relay.specs.Inside.RpLaws.{rp_laws};
@@ -143,14 +161,8 @@ impl Unit for RpMessage {
     }
 
     fn write(&self, alloc: Global) -> Result<Vec<u8>, AllocError> {
-        let named = RpType {
-            kind: kind_of_body(&self.body),
-            side: self.side,
-        };
-        let room = room_for_body(&self.body).saturating_add(2);
-        let mut out = Vec::with_capacity(alloc, room)?;
-        out.extend_from_slice(&[named.to_octet(), self.reference])?;
-        put_body(&mut out, self.side, &self.body)?;
+        let mut out = Vec::with_capacity(alloc, room_for_message(self))?;
+        put_message(&mut out, self)?;
         Ok(out)
     }
 

@@ -7,9 +7,11 @@ ghost use Rattle.sms_relay.specs.Carried.{acknowledgement, transfer, answer, rel
 ghost use Rattle.sms_relay.specs.declared.fault.WrapFault.TheVariants.{DataTooLong};
 
 use crate::cp::{CpBody, CpMessage};
+use crate::cp_kind::CpKind;
 use crate::fault::WrapFault;
-use crate::rp::{RpBody, RpMessage};
+use crate::rp::{RpBody, RpMessage, put_message, room_for_message};
 use crate::side::Side;
+use crate::transaction::Transaction;
 use crate::user::USER_DATA_MAX;
 use sms_field::RpAddress;
 use sms_tpdu::{Octets, Unit};
@@ -38,13 +40,14 @@ fn wrap_message(
     requires { value < 7 }
     ensures { IfOk result (λ packet. CarriesRelay flag value (Some message) packet.items) }
 {
-    let octets = message.write(alloc)?;
-    let packet = CpMessage {
-        flag,
-        value,
-        body: CpBody::Transfer(Octets::new(octets)),
-    };
-    packet.write(alloc)
+    let transaction = Transaction { flag, value };
+    let front = [transaction.to_octet(), CpKind::Data.to_octet(), 0];
+    let room = room_for_message(&message).saturating_add(front.len());
+    let mut packet = Vec::with_capacity(alloc, room)?;
+    packet.extend_from_slice(&front)?;
+    put_message(&mut packet, &message)?;
+    packet[2] = (packet.len() - front.len()) as u8;
+    Ok(packet)
 }
 
 /// An RP-DATA with these octets, and with an address of its own.
