@@ -161,7 +161,8 @@ fn octets_of_some<U: Unit>(alloc: Global, unit: Option<&U>) -> Result<Option<Oct
     ensures spelled { IfOk result (λ octets.
         SpellsOptional U.spells (option_copied unit.entry) octets × ForSome octets IsUserData) }
     ensures too_long { result ≡ Err DataTooLong → (octets : List ℕ) ×
-        SpellsOptional U.spells (option_copied unit.entry) (Some octets) × (USER_DATA_MAX < length octets) }
+        SpellsOptional U.spells (option_copied unit.entry) (Some octets)
+        × (USER_DATA_MAX < length octets) }
 {
     match unit {
         Some(unit) => Ok(Some(octets_of_unit(alloc, unit)?)),
@@ -213,7 +214,8 @@ pub fn wrap_answer<U: Unit>(
         SpellsOptional U.spells (option_copied unit.entry) octets ×
         Carries flag value (answer side reference cause octets) packet.items) }
     ensures too_long { result ≡ Err DataTooLong → (octets : List ℕ) ×
-        SpellsOptional U.spells (option_copied unit.entry) (Some octets) × (USER_DATA_MAX < length octets) }
+        SpellsOptional U.spells (option_copied unit.entry) (Some octets)
+        × (USER_DATA_MAX < length octets) }
 {
     let user = octets_of_some(alloc, unit)?;
     let message = answer_of(side, reference, cause, user);

@@ -169,8 +169,9 @@ fn breach_after(
     event: &Event,
 ) -> Option<Breach>
     ensures { let l = ledger_in notes.now in
-        let disorder = breach_at l world.now.limits.remembered world.now.clock (event_of event.now) in
-        let segment = segment_at l (event_of event.now) in
+        let happens = event_of event.now in
+        let disorder = breach_at l world.now.limits.remembered world.now.clock happens in
+        let segment = segment_at l happens in
         result ≡ breach_after first number disorder segment }
 {
     if let Some(breach) = first {
