@@ -92,9 +92,7 @@ pub fn play_watched<S: Source, K: Sink>(
     told_stores_stand();
     let mut network: Option<WatchedWorld> = None;
     play_on::<WatchedWorld, S, K>(alloc, source, script, &mut network, sink)?;
-    let Some(world) = network else {
-        unreachable!()
-    };
+    let Some(world) = network else { unreachable!() };
     Ok(world.order())
 }
 

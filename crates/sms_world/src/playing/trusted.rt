@@ -60,9 +60,7 @@ pub fn play_trusted<S: Source, K: Sink>(
     told_stores_stand();
     let mut network: Option<TrustedWorld> = None;
     play_on::<TrustedWorld, S, K>(alloc, source, script, &mut network, sink)?;
-    let Some(world) = network else {
-        unreachable!()
-    };
+    let Some(world) = network else { unreachable!() };
     Ok(Verdicts {
         breach: world.watched().order(),
         doubt: world.accepted(),
