@@ -1,0 +1,267 @@
+//! A gateway's traffic: SMS-DELIVERs of many origins, one a line, segments of some texts at a time
+//! among each other.
+
+use crate::chance::Chance;
+use crate::lines::Maker;
+use crate::pool::Units;
+use std::alloc::AllocError;
+
+/// Of what shape the traffic is.
+#[derive(Clone, Copy)]
+pub struct Shape {
+    /// How many texts are on their way at a time.
+    pub flights: usize,
+    /// How many origins there are.
+    pub origins: usize,
+    /// One line in so many is at fault.
+    pub fault: usize,
+    /// Whether the address of a service centre stands before each unit, and other units than
+    /// SMS-DELIVER are among them.
+    pub has_centre: bool,
+}
+
+/// A text of which segments are on their way.
+#[derive(Clone, Copy)]
+pub struct Flight {
+    /// Which of the pool's texts it is.
+    text: usize,
+    /// The number of its origin.
+    origin: usize,
+    /// The reference of its segments.
+    reference: u8,
+    /// The segment that comes first; the others follow, the first of all after the last.
+    first: usize,
+    /// How many segments have come.
+    come: usize,
+}
+
+/// What makes traffic.
+#[derive(Drop)]
+pub struct Traffic {
+    pub shape: Shape,
+    pub chance: Chance,
+    pub pool: Vec<Units>,
+    pub flights: Vec<Flight>,
+    /// How many lines are still to come.
+    pub left: u64,
+    /// The seconds of the stamps.
+    pub clock: u64,
+    /// The number of the text begun last.
+    pub begun: usize,
+}
+
+/// A digit.
+fn digit(number: u64) -> u8 {
+    b'0' + (number % 10) as u8
+}
+
+/// Puts two digits, of which the lower one stands first.
+fn put_two(room: &mut [u8], place: usize, number: u64) {
+    if let Some(own) = room.get_mut(place..) {
+        if let [low, high, ..] = own {
+            *low = digit(number);
+            *high = digit(number / 10);
+        }
+    }
+}
+
+/// Puts the stamp (TP-SCTS) of so many seconds in a year.
+fn put_stamp(room: &mut [u8], seconds: u64) {
+    let days = seconds / 86_400;
+    put_two(room, 0, 24 + days / 336 % 50);
+    put_two(room, 2, 1 + days / 28 % 12);
+    put_two(room, 4, 1 + days % 28);
+    put_two(room, 6, seconds / 3_600 % 24);
+    put_two(room, 8, seconds / 60 % 60);
+    put_two(room, 10, seconds % 60);
+}
+
+/// Puts the last eight digits, and the half octet that is none, of the address +4670 with seven
+/// digits of a number after it (TP-OA).
+fn put_origin(room: &mut [u8], number: usize) {
+    let number = number as u64;
+    put_two(room, 4, number / 100_000);
+    put_two(room, 6, number / 1_000);
+    put_two(room, 8, number / 10);
+    if let Some(own) = room.get_mut(10..) {
+        if let [none, last, ..] = own {
+            *none = b'F';
+            *last = digit(number);
+        }
+    }
+}
+
+/// Puts a reference in two hexadecimal digits.
+fn put_reference(room: &mut [u8], reference: u8) {
+    if let [high, low, ..] = room {
+        *high = b"0123456789ABCDEF"[usize::from(reference / 16)];
+        *low = b"0123456789ABCDEF"[usize::from(reference % 16)];
+    }
+}
+
+/// Puts what is a unit's own: its origin, its stamp, and its reference where it is a segment.
+fn put_own(unit: &mut [u8], flight: Flight, clock: u64, is_segment: bool) {
+    if let Some(room) = unit.get_mut(6..18) {
+        put_origin(room, flight.origin);
+    }
+    if let Some(room) = unit.get_mut(22..36) {
+        put_stamp(room, clock);
+    }
+    if is_segment {
+        if let Some(room) = unit.get_mut(44..46) {
+            put_reference(room, flight.reference);
+        }
+    }
+}
+
+/// The address of a service centre.
+static CENTRE: &[u8] = b"07917283010010F5";
+
+/// A status report, of which the stamp stands at 20.
+static STATUS_REPORT: &[u8] = b"06070B916407000000F0421010000000004210100000000000";
+
+/// A report of an accepted submission, of which the stamp stands at 4.
+static ACCEPTED: &[u8] = b"010042101000000000";
+
+/// Puts the stamp of a report that stands from a place on.
+fn put_report_stamp(room: &mut Vec<u8>, place: usize, clock: u64) {
+    if let Some(own) = room.as_mut_slice().get_mut(place..) {
+        put_stamp(own, clock);
+    }
+}
+
+impl Traffic {
+    /// A text that begins.
+    fn begin(&mut self) -> Flight {
+        self.begun = self.begun.wrapping_add(1);
+        let text = self.chance.below(self.pool.len());
+        let count = self.count_of(text);
+        Flight {
+            text,
+            origin: self.chance.below(self.shape.origins),
+            reference: (self.begun % 256) as u8,
+            first: self.chance.below(count),
+            come: 0,
+        }
+    }
+
+    /// How many segments a text has.
+    fn count_of(&self, text: usize) -> usize {
+        match self.pool.get(text) {
+            Some(units) => units.lines.len(),
+            None => 0,
+        }
+    }
+
+    /// The flights, each with a text that begins.
+    pub fn fill(&mut self) -> Result<(), AllocError> {
+        for _ in 0..self.shape.flights {
+            let flight = self.begin();
+            self.flights.push(flight)?;
+        }
+        Ok(())
+    }
+
+    /// Adds the next segment of a flight.
+    fn put_segment(&mut self, flight: Flight, room: &mut Vec<u8>) -> Result<(), AllocError> {
+        let count = self.count_of(flight.text);
+        let Some(units) = self.pool.get(flight.text) else {
+            return Ok(());
+        };
+        let place = match flight.first.wrapping_add(flight.come).checked_rem(count) {
+            Some(place) => place,
+            None => 0,
+        };
+        let start = room.len();
+        if let Some(line) = units.lines.get(place) {
+            room.extend_from_slice(line.as_bytes())?;
+        }
+        if let Some(unit) = room.as_mut_slice().get_mut(start..) {
+            put_own(unit, flight, self.clock, count > 1);
+        }
+        Ok(())
+    }
+
+    /// Adds a unit of a flight, which goes on.
+    fn put_unit(&mut self, room: &mut Vec<u8>) -> Result<(), AllocError> {
+        let which = self.chance.below(self.flights.len());
+        let Some(flight) = self.flights.get(which).copied() else {
+            return Ok(());
+        };
+        self.put_segment(flight, room)?;
+        let mut next = flight;
+        next.come = flight.come.wrapping_add(1);
+        if next.come >= self.count_of(flight.text) {
+            next = self.begin();
+        }
+        if let Some(own) = self.flights.as_mut_slice().get_mut(which) {
+            *own = next;
+        }
+        Ok(())
+    }
+
+    /// Adds a report of either kind.
+    fn put_report(&mut self, room: &mut Vec<u8>) -> Result<(), AllocError> {
+        let start = room.len();
+        if self.chance.once_in(2) {
+            room.extend_from_slice(STATUS_REPORT)?;
+            put_report_stamp(room, start.saturating_add(20), self.clock);
+        } else {
+            room.extend_from_slice(ACCEPTED)?;
+            put_report_stamp(room, start.saturating_add(4), self.clock);
+        }
+        Ok(())
+    }
+
+    /// Adds a unit of any kind, after the address of a centre where there is one.
+    fn put_any(&mut self, room: &mut Vec<u8>) -> Result<(), AllocError> {
+        if !self.shape.has_centre {
+            return self.put_unit(room);
+        }
+        room.extend_from_slice(CENTRE)?;
+        if self.chance.once_in(4) {
+            self.put_report(room)
+        } else {
+            self.put_unit(room)
+        }
+    }
+
+    /// Spoils the line that stands from a place on: it is cut, has a wrong digit, or a length above
+    /// what there may be.
+    fn spoil(&mut self, room: &mut Vec<u8>, start: usize) {
+        let length = room.len().saturating_sub(start);
+        let place = start.saturating_add(self.chance.below(length));
+        match self.chance.below(3) {
+            0 => room.truncate(place),
+            1 => {
+                if let Some(own) = room.as_mut_slice().get_mut(place) {
+                    *own = b'G';
+                }
+            }
+            _ => {
+                if let Some(own) = room.as_mut_slice().get_mut(start.saturating_add(2)) {
+                    *own = b'9';
+                }
+            }
+        }
+    }
+}
+
+impl Maker for Traffic {
+    fn make(&mut self, room: &mut Vec<u8>) -> Result<bool, AllocError> {
+        if self.left == 0 {
+            return Ok(false);
+        }
+        self.left -= 1;
+        if self.left % 3 == 0 {
+            self.clock = self.clock.wrapping_add(1);
+        }
+        let start = room.len();
+        self.put_any(room)?;
+        if self.chance.once_in(self.shape.fault) {
+            self.spoil(room, start);
+        }
+        room.push(b'\n')?;
+        Ok(true)
+    }
+}
