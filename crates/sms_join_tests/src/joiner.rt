@@ -135,7 +135,7 @@ fn of_two(width: Width, reference: u16, sequence: u8) -> Option<Concat> {
 }
 
 /// The place, where it is one.
-fn checked(concat: Option<Concat>) -> Option<Concat>
+pub fn checked(concat: Option<Concat>) -> Option<Concat>
     ensures { IsPlace result }
 {
     let place = concat?;
@@ -742,6 +742,72 @@ fn differs_in_turn(alloc: Global, joiner: &mut Joiner) -> Result<Option<&'static
     differs_from(alloc, joiner, AFTER_THOSE.as_slice())
 }
 
+/// What is offered where many keys are remembered.
+static REMEMBERED: [Row; 8] = [
+    Row {
+        shows: "alone",
+        from: "+1001",
+        place: None,
+        piece: PieceUnits::Gsm("u"),
+        want: Want::Finished("u"),
+    },
+    Row {
+        shows: "alone from another",
+        from: "+1002",
+        place: None,
+        piece: PieceUnits::Gsm("v"),
+        want: Want::Finished("v"),
+    },
+    Row {
+        shows: "remembered",
+        from: "+1001",
+        place: None,
+        piece: PieceUnits::Gsm("u"),
+        want: Want::Repeat,
+    },
+    Row {
+        shows: "opens",
+        from: "+1001",
+        place: SECOND,
+        piece: PieceUnits::Gsm("b"),
+        want: Want::Kept,
+    },
+    Row {
+        shows: "the last",
+        from: "+1001",
+        place: FIRST,
+        piece: PieceUnits::Gsm("a"),
+        want: Want::Finished("ab"),
+    },
+    Row {
+        shows: "finished lately",
+        from: "+1001",
+        place: FIRST,
+        piece: PieceUnits::Gsm("a"),
+        want: Want::Repeat,
+    },
+    Row {
+        shows: "under another reference",
+        from: "+1001",
+        place: FIRST_OF_8,
+        piece: PieceUnits::Gsm("x"),
+        want: Want::Kept,
+    },
+    Row {
+        shows: "one set too many",
+        from: "+1001",
+        place: FIRST_OF_9,
+        piece: PieceUnits::Gsm("z"),
+        want: Want::TooManyOpen,
+    },
+];
+
+/// Which of these rows a new joiner that remembers many keys answers otherwise than wanted, if any.
+fn differs_remembering(alloc: Global) -> Result<Option<&'static str>, AllocError> {
+    let mut joiner = Joiner::new(alloc, 1, 33)?;
+    differs_from(alloc, &mut joiner, REMEMBERED.as_slice())
+}
+
 /// Which of these rows a new joiner answers otherwise than wanted, if any.
 fn differs(alloc: Global) -> Result<Option<&'static str>, AllocError> {
     let mut joiner = Joiner::new(alloc, 1, 1)?;
@@ -755,6 +821,18 @@ fn answers_after_a_refused_growth(rt: HostRuntime) -> Result<(), Fail> {
     let other = match differs(rt.alloc()) {
         Ok(other) => other,
         Err(_) => differs(rt.alloc())?,
+    };
+    same(&rt, &"answered otherwise", &other, &None);
+    Ok(())
+}
+
+/// The same where many keys are remembered: also an offer that finishes its set and wants memory to
+/// remember its key has changed nothing.
+#[test]
+fn remembers_after_a_refused_growth(rt: HostRuntime) -> Result<(), Fail> {
+    let other = match differs_remembering(rt.alloc()) {
+        Ok(other) => other,
+        Err(_) => differs_remembering(rt.alloc())?,
     };
     same(&rt, &"answered otherwise", &other, &None);
     Ok(())
