@@ -12,7 +12,8 @@ use Rattle.sms_join.specs.Joiner.Finishing.{would_finish, is_finished, AnswerFin
 use Rattle.sms_join.proofs.Outcomes.{joiner_of, InPlace, finishes_alone, too_many}
 use Rattle.sms_join.specs.Inside.LastKeys.{LastKeysValue}
 use Rattle.sms_join.specs.Inside.Slots.{At}
-use Rattle.sms_join.proofs.Offers.{same_refl, Found, Knows, come, last, set_repeats, set_keeps, set_finishes}
+use Rattle.sms_join.proofs.Same.{same_refl, same_trans}
+use Rattle.sms_join.proofs.Offers.{Found, Knows, come, last, set_repeats, set_keeps, set_finishes}
 
 told : (repeat whole room : Bool) (units : List Units) → is_finished (decided repeat whole room units) ≡ (not repeat && whole)
 unfolding decided
@@ -34,17 +35,6 @@ same_sym i j h =
       moments = λ k. sym (h.moments k);
       sets = sym h.sets;
       finished = sym h.finished;
-    }
-
-pub same_trans : (i j k : Joiner) → IsSame i j → IsSame j k → IsSame i k
-same_trans i j k g h =
-    record {
-      pieces = λ l n. g.pieces l n ∙ h.pieces l n;
-      units = λ l n t. g.units l n t ∙ h.units l n (sym (g.pieces l n) ∙ t);
-      opened = λ l. g.opened l ∙ h.opened l;
-      moments = λ l. g.moments l ∙ h.moments l;
-      sets = g.sets ∙ h.sets;
-      finished = g.finished ∙ h.finished;
     }
 
 pub same_is_equivalence : SameIsEquivalence

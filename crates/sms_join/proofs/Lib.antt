@@ -30,6 +30,8 @@ pub mod TextUnits
 pub mod SegmentTexts
 pub mod Sendable
 pub mod Places
+pub mod KeyRings
+pub mod Swapped
 pub mod Offers
 pub mod Finishing
 pub mod Few

@@ -4,7 +4,7 @@ use Rattle.std.proofs.Math.ListN.{set}
 use Rattle.std.proofs.lemmas.Bool.{eqb-false, ne_eqb}
 use Rattle.std.proofs.lemmas.List.Quantifiers.{position-Some}
 use Rattle.std.proofs.lemmas.Option.{get_or_from_slice_get}
-use Rattle.std.specs.List.{remove, position}
+use Rattle.std.specs.List.{remove, swap_remove, position}
 use Rattle.std.specs.Str.{chars}
 use Rattle.std.specs.String.{string_bytes}
 use Rattle.sms_field.specs.Address.Value.{AddressValue}
@@ -27,12 +27,11 @@ use Rattle.sms_join.specs.Inside.Slots.{At, HasPlace}
 use Rattle.sms_join.specs.Joiner.Finishing.{lacks_only}
 use Rattle.sms_join.specs.Reading.{text_of_segments}
 use Rattle.sms_join.proofs.SameKeys.{same_key_true}
+use Rattle.sms_join.proofs.Same.{same_refl, same_trans}
 use Rattle.sms_join.proofs.OneSet.{with_piece_set, with_piece_length}
 use Rattle.sms_join.proofs.Places.{split_at, set_at, none_open}
+use Rattle.sms_join.proofs.Swapped.{Left, swapped}
 use Rattle.sms_join.proofs.Outcomes.{joiner_of, Between, between, are_open_without, are_open_with, are_open_more, says_repeat, InPlace, there_repeats, keeps_more, finishes_set, finishes_alone, opens_set, too_many}
-
-pub same_refl : (j : Joiner) → IsSame j j
-same_refl j = record { pieces = λ k n. refl; units = λ k n t. refl; opened = λ k. refl; moments = λ k. refl; sets = refl; finished = refl }
 
 pub in_place : (now : ℕ) (origin : AddressValue) (stamp : List ℕ) (concat : Option Concat) (units : Units) → IsPlace concat → InPlace (piece_of now origin stamp concat units)
 in_place now origin stamp None units h = record { maximum = refl; from_one = omega arith; within = omega arith }
@@ -271,15 +270,24 @@ module _ (m : ℕ) (l : LastKeysValue) (ss : List SetValue) (p : Piece) (i n : �
           subst (λ (v : JoinerValue). answer v.open_max v.holds p ≡ Finished (with_piece h.own p.sequence p.units).units) view
           (set_finishes m l.limit ss l.keys i h.own p h.are_open h.found h.place h.fresh (come b false has no) (last c true one e)).0
 
-      pub known_finish : c ≡ true → (ts : List SetValue) → ts ≡ remove ss i → (k : Key) → At ss i (λ s. k ≡ s.key)
-          → AreOpen ts × IsSame (joiner_of ts (take l.limit (k ∷ l.keys))) (offered v.open_max v.remembered v.holds p)
-      known_finish e ts gone k key =
-          subst (λ (v : JoinerValue). AreOpen ts × IsSame (joiner_of ts (take l.limit (k ∷ l.keys))) (offered v.open_max v.remembered v.holds p)) view
-          (subst (λ (ts : List SetValue). AreOpen ts × IsSame (joiner_of ts (take l.limit (k ∷ l.keys))) (offered m l.limit (joiner_of ss l.keys) p)) (sym gone) (
-            set_goes m l.limit ss l.keys i h.own p h.are_open h.found h.place h.fresh,
-            subst (λ (j : Key). IsSame (joiner_of (remove ss i) (take l.limit (j ∷ l.keys))) (offered m l.limit (joiner_of ss l.keys) p)) (sym (key h.own h.found.there))
-                (set_finishes m l.limit ss l.keys i h.own p h.are_open h.found h.place h.fresh (come b false has no) (last c true one e)).1,
-          ))
+      pub known_finish : c ≡ true → (ts : List SetValue) → At ss i (λ s. ts ≡ swap_remove ss i s)
+          → AreOpen ts × IsSame (joiner_of ts (take l.limit (p.key ∷ l.keys))) (offered v.open_max v.remembered v.holds p)
+      known_finish e ts gone =
+          subst (λ (v : JoinerValue). AreOpen ts × IsSame (joiner_of ts (take l.limit (p.key ∷ l.keys))) (offered v.open_max v.remembered v.holds p)) view
+          (left.are_open, same_trans (joiner_of ts ks) (joiner_of (remove ss i) ks) (offered m l.limit (joiner_of ss l.keys) p) left.same rest)
+        where
+          ks : List Key
+          ks = take l.limit (p.key ∷ l.keys)
+
+          left : Left ss i ks ts
+          left =
+              subst (Left ss i ks) (sym (gone h.own h.found.there))
+              (swapped ss i h.own ks h.found.within (set_goes m l.limit ss l.keys i h.own p h.are_open h.found h.place h.fresh))
+
+          rest : IsSame (joiner_of (remove ss i) ks) (offered m l.limit (joiner_of ss l.keys) p)
+          rest =
+              subst (λ (k : Key). IsSame (joiner_of (remove ss i) (take l.limit (k ∷ l.keys))) (offered m l.limit (joiner_of ss l.keys) p)) h.found.key
+              (set_finishes m l.limit ss l.keys i h.own p h.are_open h.found h.place h.fresh (come b false has no) (last c true one e)).1
 
       pub known_text : c ≡ true → (text : List ℕ) → At ss i (λ s. (k : ℕ) → 0 < k → k ≤ maximum_of s.key → lacks_only s k ≡ true
           → text ≡ text_of_segments (with_piece s k p.units).units)

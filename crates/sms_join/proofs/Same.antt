@@ -7,8 +7,25 @@ use Rattle.sms_join.specs.Piece.{Piece}
 use Rattle.sms_join.specs.Joiner.Sets.{has, has_all, units_at, units_upto, is_open, opened_at, open_sets, without}
 use Rattle.sms_join.specs.Joiner.{Joiner, Answer, Repeat, Kept, Finished, TooManyOpen, answer, answered, offered, decided, is_repeat, is_whole, has_room}
 use Rattle.sms_join.specs.Joiner.Same.{IsSame, AnswersAlike}
-use Rattle.sms_join.proofs.SameKeys.{same_key_refl, same_key_true}
+use Rattle.sms_join.specs.Inside.Slots.{key_eq}
+use Rattle.sms_join.proofs.SameKeys.{same_key_refl, same_key_true, key_eq_is}
 use Rattle.sms_join.proofs.Sets.{has-without, has-without_same, units_at-without, has_all-same, units_upto-same}
+
+-- holding the same
+
+pub same_refl : (j : Joiner) → IsSame j j
+same_refl j = record { pieces = λ k n. refl; units = λ k n t. refl; opened = λ k. refl; moments = λ k. refl; sets = refl; finished = refl }
+
+pub same_trans : (i j k : Joiner) → IsSame i j → IsSame j k → IsSame i k
+same_trans i j k g h =
+    record {
+      pieces = λ l n. g.pieces l n ∙ h.pieces l n;
+      units = λ l n t. g.units l n t ∙ h.units l n (sym (g.pieces l n) ∙ t);
+      opened = λ l. g.opened l ∙ h.opened l;
+      moments = λ l. g.moments l ∙ h.moments l;
+      sets = g.sets ∙ h.sets;
+      finished = g.finished ∙ h.finished;
+    }
 
 -- dropping a set
 
@@ -53,6 +70,17 @@ pub flip : (k l : Key) → same_key k l ≡ false → same_key l k ≡ false
 flip k l h = false_from_ne_true _ (λ t.
     let e : same_key k l ≡ true = subst (λ m. same_key k m ≡ true) (sym (same_key_true l k t)) (same_key_refl k) in
     let q : true ≡ false = sym e ∙ h in cc)
+
+same_turned : (k l : Key) → same_key k l ≡ same_key l k
+same_turned k l = go (same_key k l) refl
+  where
+    go : (b : Bool) → same_key k l ≡ b → b ≡ same_key l k
+    go false e = sym (flip k l e)
+    go true e = sym (subst (λ (m : Key). same_key m k ≡ true) (same_key_true k l e) (same_key_refl k))
+
+-- what `==` answers for keys, in either order
+pub key_turned : (k l : Key) → key_eq k l ≡ same_key l k
+key_turned k l = key_eq_is k l ∙ same_turned k l
 
 pub sets-without : (ps : List Piece) (k : Key) → open_sets ps ≡ cond (is_open ps k) (suc (open_sets (without ps k))) (open_sets (without ps k))
 sets-without [] k = refl

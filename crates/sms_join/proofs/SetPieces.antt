@@ -103,7 +103,7 @@ pub closed_count : (ps : List Piece) (k : Key) → is_open ps k ≡ false → co
 closed_count [] k h = refl
 closed_count (p ∷ ps) k h = let q = or_parts (same_key p.key k) (is_open ps k) h in rw q.0 (closed_count ps k q.1)
 
-other_closed : (j k : Key) (opened : ℕ) (ns : List ℕ) (us : List Units) → same_key j k ≡ false → is_open (pieces_with j opened ns us) k ≡ false
+pub other_closed : (j k : Key) (opened : ℕ) (ns : List ℕ) (us : List Units) → same_key j k ≡ false → is_open (pieces_with j opened ns us) k ≡ false
 other_closed j k opened [] us h = refl
 other_closed j k opened (n ∷ ns) [] h = refl
 other_closed j k opened (n ∷ ns) (u ∷ us) h = rw h (other_closed j k opened ns us h)

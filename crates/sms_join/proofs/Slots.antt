@@ -1,10 +1,10 @@
 -- The places of open sets, and what they are as sets.
-use Rattle.std.proofs.Common.{◌≡◌, ℕ, zero, suc, ◌+◌, ◌-◌, ◌<◌, ◌≤◌, Bool, true, false, cond, not, ◌||◌, eqb, List, [], ◌∷◌, ◌++◌, length, get_or, slice_get, Option, Some, None, is_some, refl, sym, ap, ◌∙◌, subst, arith}
+use Rattle.std.proofs.Common.{◌≡◌, ℕ, zero, suc, ◌+◌, ◌-◌, ◌<◌, ◌≤◌, Bool, true, false, cond, not, ◌||◌, eqb, List, [], ◌∷◌, ◌++◌, take, length, get_or, slice_get, Option, Some, None, is_some, refl, sym, ap, ◌∙◌, subst, arith}
 use Rattle.std.proofs.Math.ListN.{set, replicate}
 use Rattle.std.proofs.lemmas.Bool.{eqb-true, eq-eqb, ne_eqb, lt-ltb, le-ltb, and_parts, or_parts, not-true}
-use Rattle.std.specs.List.{insert, remove, position, position_or_len, filter}
+use Rattle.std.specs.List.{insert, swap_remove, position, position_or_len, filter}
 use Rattle.std.specs.Map.{values_of, keys_of}
-use Rattle.std.specs.Option.{IsSome}
+use Rattle.std.specs.Option.{IfSome}
 use Rattle.indexmap.specs.IndexMap.{set_value_at, insert_entry}
 use Rattle.sms_join.specs.declared.key.Key.{Key}
 use Rattle.sms_join.specs.declared.units.Units.{Units}
@@ -12,8 +12,7 @@ use Rattle.sms_join.specs.Key.{same_key, maximum_of}
 use Rattle.sms_join.specs.Inside.OpenSet.{SetValue, has_set, is_in, place_of, with_piece}
 use Rattle.sms_join.specs.Joiner.Finishing.{lacks_only}
 use Rattle.sms_join.specs.Inside.Slots.{SlotValue, At, HasPlace, AreSlots, key_eq, filled, filled_from, filled_with, first_places, set_of, sets_of}
-use Rattle.sms_join.proofs.SameKeys.{key_eq_is}
-use Rattle.sms_join.proofs.Same.{flip}
+use Rattle.sms_join.proofs.Same.{key_turned}
 
 -- ---- places
 
@@ -200,25 +199,68 @@ set_changes (e ∷ es) zero v w h is f p =
     ∙ ap f (ap (λ (x : SlotValue). set_of (e.0, x)) (sym same) ∙ some_same (set_of e) s there))
 set_changes (e ∷ es) (suc i) v w h is f p = λ s there. ap (λ l. set_of e ∷ l) (set_changes es i v w h.1 is f p s there)
 
--- one is dropped
-pub sets_without : (es : List (Key × SlotValue)) (i : ℕ) → sets_of (remove es i) ≡ remove (sets_of es) i
-sets_without [] zero = refl
-sets_without [] (suc i) = refl
-sets_without (e ∷ es) zero = refl
-sets_without (e ∷ es) (suc i) = ap (λ l. set_of e ∷ l) (sets_without es i)
+-- one is dropped, and the last takes its place
+sets_taken : (n : ℕ) (es : List (Key × SlotValue)) → sets_of (take n es) ≡ take n (sets_of es)
+sets_taken zero es = refl
+sets_taken (suc n) [] = refl
+sets_taken (suc n) (e ∷ es) = ap (λ l. set_of e ∷ l) (sets_taken n es)
 
-pub slots_without : (es : List (Key × SlotValue)) (i : ℕ) → AreSlots es → AreSlots (remove es i)
-slots_without [] zero h = tt
-slots_without [] (suc i) h = tt
-slots_without (e ∷ es) zero h = h.1
-slots_without (e ∷ es) (suc i) h = (h.0, slots_without es i h.1)
+sets_with : (es : List (Key × SlotValue)) (i : ℕ) (f : Key × SlotValue) → sets_of (set es i f) ≡ set (sets_of es) i (set_of f)
+sets_with [] i f = refl
+sets_with (e ∷ es) zero f = refl
+sets_with (e ∷ es) (suc i) f = ap (λ l. set_of e ∷ l) (sets_with es i f)
 
-pub key_at : (es : List (Key × SlotValue)) (i : ℕ) (e : Key × SlotValue) → slice_get es i ≡ Some e → At (sets_of es) i (λ s. e.0 ≡ s.key)
-key_at [] i e is = absurd cc
-key_at (f ∷ es) zero e is =
-    let same : f ≡ e = some_same f e is in
-    λ s there. ap (λ (x : Key × SlotValue). x.0) (sym same) ∙ ap (λ (x : SetValue). x.key) (some_same (set_of f) s there)
-key_at (f ∷ es) (suc i) e is = key_at es i e is
+set_got : (es : List (Key × SlotValue)) (i : ℕ) (f : Key × SlotValue) → set_of (get_or es i f) ≡ get_or (sets_of es) i (set_of f)
+set_got [] i f = refl
+set_got (e ∷ es) zero f = refl
+set_got (e ∷ es) (suc i) f = set_got es i f
+
+swapped_from : (es : List (Key × SlotValue)) (i n : ℕ) (f : Key × SlotValue)
+    → sets_of (take n (set es i (get_or es n f))) ≡ take n (set (sets_of es) i (get_or (sets_of es) n (set_of f)))
+swapped_from es i n f =
+    sets_taken n (set es i (get_or es n f))
+    ∙ ap (take n) (sets_with es i (get_or es n f) ∙ ap (set (sets_of es) i) (set_got es n f))
+
+pub sets_swapped : (es : List (Key × SlotValue)) (i : ℕ) (e : Key × SlotValue) → slice_get es i ≡ Some e
+    → At (sets_of es) i (λ s. sets_of (swap_remove es i e) ≡ swap_remove (sets_of es) i s)
+sets_swapped es i e is s there =
+    swapped_from es i (length es - 1) e
+    ∙ (ap (λ n. take (n - 1) (set (sets_of es) i (get_or (sets_of es) (n - 1) (set_of e)))) (sym (sets_length es))
+    ∙ ap (swap_remove (sets_of es) i) (same es i is there))
+  where
+    same : (fs : List (Key × SlotValue)) (j : ℕ) → slice_get fs j ≡ Some e → slice_get (sets_of fs) j ≡ Some s → set_of e ≡ s
+    same [] j a b = cc
+    same (f ∷ fs) zero a b = ap set_of (sym (some_same f e a)) ∙ some_same (set_of f) s b
+    same (f ∷ fs) (suc j) a b = same fs j a b
+
+abbrev IsSlot : Key × SlotValue → Type 0
+IsSlot e = length e.1.places ≡ maximum_of e.0
+
+slots_taken : (n : ℕ) (es : List (Key × SlotValue)) → AreSlots es → AreSlots (take n es)
+slots_taken zero es h = tt
+slots_taken (suc n) [] h = tt
+slots_taken (suc n) (e ∷ es) h = (h.0, slots_taken n es h.1)
+
+slots_with : (es : List (Key × SlotValue)) (i : ℕ) (f : Key × SlotValue) → AreSlots es → IsSlot f → AreSlots (set es i f)
+slots_with [] i f h g = tt
+slots_with (e ∷ es) zero f h g = (g, h.1)
+slots_with (e ∷ es) (suc i) f h g = (h.0, slots_with es i f h.1 g)
+
+slot_got : (es : List (Key × SlotValue)) (i : ℕ) (f : Key × SlotValue) → AreSlots es → IsSlot f → IsSlot (get_or es i f)
+slot_got [] i f h g = g
+slot_got (e ∷ es) zero f h g = h.0
+slot_got (e ∷ es) (suc i) f h g = slot_got es i f h.1 g
+
+slot_there : (es : List (Key × SlotValue)) (i : ℕ) (e : Key × SlotValue) → AreSlots es → slice_get es i ≡ Some e → IsSlot e
+slot_there [] i e h is = cc
+slot_there (f ∷ es) zero e h is = subst IsSlot (some_same f e is) h.0
+slot_there (f ∷ es) (suc i) e h is = slot_there es i e h.1 is
+
+pub slots_swapped : (es : List (Key × SlotValue)) (i : ℕ) (e : Key × SlotValue) → AreSlots es → slice_get es i ≡ Some e → AreSlots (swap_remove es i e)
+slots_swapped es i e h is =
+    let own : IsSlot e = slot_there es i e h is in
+    slots_taken (length es - 1) (set es i (get_or es (length es - 1) e))
+    (slots_with es i (get_or es (length es - 1) e) h (slot_got es (length es - 1) e h own))
 
 -- some stay
 pub sets_filtered : (t : SetValue → Bool) (es : List (Key × SlotValue)) → sets_of (filter (λ e. t (set_of e)) es) ≡ filter t (sets_of es)
@@ -259,12 +301,18 @@ place_same t es = rw (before es, sets_length es, keys_length es) refl
     before [] = refl
     before (f ∷ fs) = ap (λ n. cond (not (t f.0)) (1 + n) 0) (before fs)
 
+pub found_by : (k l : Key) (es : List (Key × SlotValue)) → k ≡ l → position (key_eq k) (keys_of es) ≡ position (λ (s : SetValue). same_key s.key l) (sets_of es)
+found_by k l es e = ap (λ (t : Key → Bool). position t (keys_of es)) same ∙ place_same (λ (j : Key). same_key j l) es
+  where
+    same : key_eq k ≡ (λ j. same_key j l)
+    same = λ i j. (key_turned k j ∙ ap (same_key j) e) i
+
 -- a new key goes last
 pub opened_last : (es : List (Key × SlotValue)) (k : Key) (v : SlotValue) → has_set (sets_of es) k ≡ false → insert_entry key_eq es k v ≡ es ++ (k, v) ∷ []
 opened_last [] k v h = refl
 opened_last (e ∷ es) k v h =
     let q = or_parts (same_key e.0 k) (has_set (sets_of es) k) h in
-    let other : key_eq k e.0 ≡ false = key_eq_is k e.0 ∙ flip e.0 k q.0 in
+    let other : key_eq k e.0 ≡ false = key_turned k e.0 ∙ q.0 in
     rw other (ap (λ l. e ∷ l) (opened_last es k v q.1))
 
 -- the last piece of a set
@@ -284,10 +332,22 @@ missing_at [] i v n h is m = absurd cc
 missing_at (e ∷ es) zero v n h is m = ap (λ (w : SlotValue). is_in n (filled_from 1 w.places)) (sym (some_same e.1 v is)) ∙ m (set_of e) refl
 missing_at (e ∷ es) (suc i) v n h is m = missing_at es i v n h.1 is m
 
-pub entry_there : (es : List (Key × SlotValue)) (i : ℕ) (r : Option (Key × SlotValue)) → r ≡ slice_get es i → i < length es → IsSome r
-entry_there [] i r e l = absurd (omega arith)
-entry_there (f ∷ es) zero r e l = subst IsSome (sym e) refl
-entry_there (f ∷ es) (suc i) r e l = entry_there es i r e (omega arith)
+entry_there : (es : List (Key × SlotValue)) (i : ℕ) → i < length es → (e : Key × SlotValue) × (slice_get es i ≡ Some e)
+entry_there [] i l = absurd (omega arith)
+entry_there (f ∷ es) zero l = (f, refl)
+entry_there (f ∷ es) (suc i) l = entry_there es i (omega arith)
+
+-- the one that is dropped
+pub record Dropped (es : List (Key × SlotValue)) (i : ℕ) (fs : List (Key × SlotValue)) : Type 0 where
+  pub own : Key × SlotValue
+  pub there : slice_get es i ≡ Some own
+  pub is : fs ≡ swap_remove es i own
+
+pub dropped : (es fs : List (Key × SlotValue)) (i : ℕ) (r : Option (Key × SlotValue)) → r ≡ slice_get es i → i < length es
+    → IfSome r (λ e. fs ≡ swap_remove es i e) → Dropped es i fs
+dropped es fs i r at l h =
+    let e = entry_there es i l in
+    record { own = e.0; there = e.1; is = subst (λ (o : Option (Key × SlotValue)). IfSome o (λ f. fs ≡ swap_remove es i f)) (at ∙ e.1) h }
 
 pub first_length : (m n : ℕ) (u : Units) → length (first_places m n u) ≡ m
 first_length m n u = places_length (replicate m None) (n - 1) (Some u) ∙ many_places m

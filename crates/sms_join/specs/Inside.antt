@@ -1,6 +1,8 @@
 -- What a reader may pass by: no public contract cites it.
+pub mod KeyRings
 pub mod LastKeys
 pub mod OpenSet
+pub mod Remembered
 pub mod SegmentsAt
 pub mod WrittenAt
 pub mod Slots

@@ -116,10 +116,10 @@ impl Joiner {
         ensures limits { SameLimits self.new self.old }
         ensures refused { OnErr result (self.new ≡ self.old) }
     {
-        if self.finished.contains(origin, stamp, concat) {
+        if self.finished.contains(self.alloc, origin, stamp, concat) {
             return Ok(Offer::Repeat);
         }
-        let Some(index) = self.sets.find(origin, stamp, concat) else {
+        let Some(index) = self.sets.find(self.alloc, origin, stamp, concat) else {
             return self.begin(now, origin, stamp, concat, units);
         };
         let sequence = sequence_of(concat);
@@ -131,8 +131,9 @@ impl Joiner {
             return Ok(Offer::Kept);
         }
         let text = self.sets.text_with(self.alloc, index, units)?;
-        let key = self.sets.remove(index);
-        self.finished.push(key);
+        let key = Key::of(self.alloc, origin, stamp, concat);
+        self.finished.push(key)?;
+        self.sets.remove(index);
         Ok(Offer::Finished(text))
     }
 
@@ -152,10 +153,10 @@ impl Joiner {
             → result
             ≡ would_finish self.now.holds (piece_of now origin.now stamp concat units) }
     {
-        if self.finished.contains(origin, stamp, concat) {
+        if self.finished.contains(self.alloc, origin, stamp, concat) {
             return false;
         }
-        let Some(index) = self.sets.find(origin, stamp, concat) else {
+        let Some(index) = self.sets.find(self.alloc, origin, stamp, concat) else {
             return size_of(concat) == 1;
         };
         !self.sets.has(index, sequence_of(concat)) && self.sets.lacks_one(index)
@@ -193,14 +194,14 @@ impl Joiner {
     {
         if size_of(concat) == 1 {
             let text = read_units(self.alloc, &[units])?;
-            let key = Key::of(self.alloc, origin, stamp, concat)?;
-            self.finished.push(key);
+            let key = Key::of(self.alloc, origin, stamp, concat);
+            self.finished.push(key)?;
             return Ok(Offer::Finished(text));
         }
         if self.sets.count() >= self.open_max {
             return Err(OfferFault::TooManyOpen);
         }
-        let key = Key::of(self.alloc, origin, stamp, concat)?;
+        let key = Key::of(self.alloc, origin, stamp, concat);
         self.sets
             .open(self.alloc, key, now, sequence_of(concat), units)?;
         Ok(Offer::Kept)

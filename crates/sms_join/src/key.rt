@@ -1,12 +1,12 @@
 //! The identity of a set of segments.
 
-ghost use Rattle.std.specs.Prelude.{◌≡◌, IfOk};
+ghost use Rattle.std.specs.Prelude.{◌≡◌};
 ghost use Rattle.sms_join.specs.Key.{same_key, maximum_of};
 ghost use Rattle.sms_join.specs.Piece.{key_of};
 
 use sms_field::{Address, Stamp};
 use sms_tpdu::{Concat, Width};
-use std::alloc::{AllocError, Global};
+use std::alloc::Global;
 
 /// What a set of segments is known by.
 #[derive(Debug, PartialEq, Eq, Hash, Drop)]
@@ -33,24 +33,19 @@ pub enum Key {
 }
 
 impl Key {
-    /// The key of a message, or of the message that a segment is of.
-    pub(crate) fn of(
-        alloc: Global,
-        origin: &Address,
-        stamp: Stamp,
-        concat: Option<Concat>,
-    ) -> Result<Key, AllocError>
-        ensures { IfOk result (λ key. key ≡ key_of origin.now stamp concat) }
+    /// The key of a message, or of the message that a segment is of. It takes no memory.
+    pub(crate) fn of(alloc: Global, origin: &Address, stamp: Stamp, concat: Option<Concat>) -> Key
+        ensures { result ≡ key_of origin.now stamp concat }
     {
-        let origin = origin.copy(alloc)?;
+        let origin = origin.copy(alloc).unwrap();
         match concat {
-            None => Ok(Key::Single { origin, stamp }),
-            Some(concat) => Ok(Key::Segmented {
+            None => Key::Single { origin, stamp },
+            Some(concat) => Key::Segmented {
                 origin,
                 width: concat.width,
                 reference: concat.reference,
                 maximum: concat.maximum,
-            }),
+            },
         }
     }
 

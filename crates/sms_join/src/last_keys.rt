@@ -1,34 +1,47 @@
 //! The keys of the last sets that finished.
 
-ghost use Rattle.std.specs.Prelude.{◌≡◌, ◌<◌, [], ◌∷◌, take, IfOk};
+ghost use Rattle.std.specs.Prelude.{◌≡◌, ◌<◌, ◌≤◌, [], ◌∷◌, false, take, IfOk, IsOk, OnOk, OnErr};
 ghost use Rattle.std.specs.List.{list_any};
 ghost use Rattle.sms_join.specs.Key.{same_key};
 ghost use Rattle.sms_join.specs.Joiner.{is_among};
 ghost use Rattle.sms_join.specs.Piece.{key_of};
 
 use crate::key::Key;
+use crate::key_ring::{KeyRing, RING_MAX};
 use circular_buffer::HeapCircularBuffer;
 use sms_field::{Address, Stamp};
 use sms_tpdu::Concat;
 use std::alloc::{AllocError, Global};
 use std::marker::Model;
 
+/// Up to which limit keys are looked through one by one, which then takes no more time than to
+/// hash a key.
+pub(crate) const FEW_KEYS: usize = 32;
+
+/// Where the keys lie.
+#[derive(Drop)]
+pub(crate) enum Remembered {
+    /// In a row: the newest is the last.
+    Few(HeapCircularBuffer<Key>),
+    /// Where they are found by their hashes.
+    Many(KeyRing),
+}
+
 /// As many keys as the limit at most. A further one takes the place of the oldest.
 #[derive(Drop)]
 pub(crate) struct LastKeys {
-    /// The newest is the last.
-    keys: HeapCircularBuffer<Key>,
+    keys: Remembered,
 }
 
 impl Model for LastKeys {
-    ghost use Rattle.std.specs.Prelude.{◌<◌, reverse};
     ghost use Rattle.sms_join.specs.Inside.LastKeys.{LastKeysValue};
+    ghost use Rattle.sms_join.specs.Inside.Remembered.{last_keys, HasLimit};
 
     ghost Value = { LastKeysValue };
 
-    ghost view = { λ l. record { limit = l.keys.capacity; keys = reverse l.keys.items } };
+    ghost view = { λ l. last_keys l.keys };
 
-    ghost invariant = { λ l. 0 < l.keys.capacity };
+    ghost invariant = { λ l. HasLimit l.keys };
 }
 
 /// Whether the key of such a message or segment is there.
@@ -50,25 +63,51 @@ impl LastKeys {
         requires { 0 < limit }
         ensures { IfOk result (λ keys. keys ≡ record { limit = limit; keys = [] }) }
     {
+        if limit > FEW_KEYS && limit <= RING_MAX {
+            let ring = KeyRing::new(alloc, limit)?;
+            return Ok(LastKeys {
+                keys: Remembered::Many(ring),
+            });
+        }
+        let row = HeapCircularBuffer::with_capacity(alloc, limit)?;
         Ok(LastKeys {
-            keys: HeapCircularBuffer::with_capacity(alloc, limit)?,
+            keys: Remembered::Few(row),
         })
     }
 
-    /// Whether the key of such a message or segment is among them.
-    pub(crate) fn contains(&self, origin: &Address, stamp: Stamp, concat: Option<Concat>) -> bool
+    /// Whether the key of such a message or segment is among them. It takes no memory.
+    pub(crate) fn contains(
+        &self,
+        alloc: Global,
+        origin: &Address,
+        stamp: Stamp,
+        concat: Option<Concat>,
+    ) -> bool
         ensures { result ≡ is_among self.now.keys (key_of origin.now stamp concat) }
     {
-        has_key(&self.keys, origin, stamp, concat)
+        match &self.keys {
+            Remembered::Few(row) => has_key(row, origin, stamp, concat),
+            Remembered::Many(ring) => ring.contains(&Key::of(alloc, origin, stamp, concat)),
+        }
     }
 
-    /// Adds a key. It takes no memory.
-    pub(crate) fn push(&mut self, key: Key)
-        ensures { self.new ≡ record {
+    /// Adds a key that is not there: where the limit is low it takes no memory. If memory runs
+    /// out, nothing has changed.
+    pub(crate) fn push(&mut self, key: Key) -> Result<(), AllocError>
+        requires { is_among self.old.keys key ≡ false }
+        ensures ok { OnOk result (self.new ≡ record {
           limit = self.old.limit;
           keys = take self.old.limit (key ∷ self.old.keys);
-        } }
+        }) }
+        ensures low { self.old.limit ≤ FEW_KEYS → IsOk result }
+        ensures err { OnErr result (self.new ≡ self.old) }
     {
-        self.keys.push_back(key);
+        match &mut self.keys {
+            Remembered::Few(row) => {
+                row.push_back(key);
+                Ok(())
+            }
+            Remembered::Many(ring) => ring.push(key),
+        }
     }
 }

@@ -4,6 +4,7 @@
 mod cut;
 mod joiner;
 mod key;
+mod key_ring;
 mod last_keys;
 pub mod laws;
 mod offer;

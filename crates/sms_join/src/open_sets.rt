@@ -2,7 +2,7 @@
 
 ghost use Rattle.std.specs.Prelude.{◌≡◌, ℕ, suc, ◌+◌, ◌<◌, ◌≤◌, [], ◌∷◌, ◌++◌, ◌==◌, not, nat_le, length, position, true, false, IfOk, OnOk, OnErr};
 ghost use Rattle.std.proofs.Math.ListN.{set};
-ghost use Rattle.std.specs.List.{filter, remove};
+ghost use Rattle.std.specs.List.{filter, swap_remove};
 ghost use Rattle.std.specs.Str.{chars};
 ghost use Rattle.std.specs.String.{string_bytes};
 ghost use Rattle.indexmap.specs.IndexMap.{keys};
@@ -21,6 +21,10 @@ use sms_field::{Address, Stamp};
 use sms_tpdu::Concat;
 use std::alloc::{AllocError, Global};
 use std::marker::Model;
+
+/// Up to how many sets are looked through one by one, which then takes less time than to hash a
+/// key.
+const FEW_SETS: usize = 16;
 
 /// The open sets, each known by its key.
 #[derive(Drop)]
@@ -72,9 +76,13 @@ impl OpenSets {
         self.slots.len()
     }
 
-    /// Which of them such a message or segment is of.
+    /// Which of them such a message or segment is of. It takes no memory.
+    ///
+    /// The hasher has a fixed seed: whoever picks keys of one hash makes it look through them one
+    /// by one, as it does where they are few.
     pub(crate) fn find(
         &self,
+        alloc: Global,
         origin: &Address,
         stamp: Stamp,
         concat: Option<Concat>,
@@ -82,7 +90,11 @@ impl OpenSets {
         ensures { result
             ≡ position (λ set. same_key set.key (key_of origin.now stamp concat)) self.now }
     {
-        find_key(&self.slots, origin, stamp, concat)
+        if self.slots.len() <= FEW_SETS {
+            return find_key(&self.slots, origin, stamp, concat);
+        }
+        let key = Key::of(alloc, origin, stamp, concat);
+        self.slots.get_index_of(&key)
     }
 
     /// Whether this piece of the set has come.
@@ -128,14 +140,12 @@ impl OpenSets {
         self.slots[index].text_with(alloc, &units)
     }
 
-    /// Drops the set, and gives its key.
-    pub(crate) fn remove(&mut self, index: usize) -> Key
+    /// Drops the set. The last one takes its place.
+    pub(crate) fn remove(&mut self, index: usize)
         requires { index < length self.old }
-        ensures others { self.new ≡ remove self.old index }
-        ensures key { At self.old index (λ set. result ≡ set.key) }
+        ensures { At self.old index (λ set. self.new ≡ swap_remove self.old index set) }
     {
-        let (key, _) = self.slots.shift_remove_index(index).unwrap();
-        key
+        let _dropped = self.slots.swap_remove_index(index);
     }
 
     /// Opens a set with its first piece. If memory runs out, nothing has changed.

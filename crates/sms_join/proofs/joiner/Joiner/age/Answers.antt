@@ -8,7 +8,7 @@ use Rattle.sms_join.specs.Piece.{Piece}
 use Rattle.sms_join.specs.Joiner.Same.{IsSame}
 use Rattle.sms_join.proofs.AgedSets.{stays, sets_age, still_open}
 use Rattle.sms_join.proofs.Few.{fewer_filtered}
-use Rattle.sms_join.proofs.Offers.{same_refl}
+use Rattle.sms_join.proofs.Same.{same_refl}
 use Rattle.sms_join.proofs.Outcomes.{joiner_of}
 use Rattle.sms_join.proofs.joiner.Joiner.age.Goals as goal
 

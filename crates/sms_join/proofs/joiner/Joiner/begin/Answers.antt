@@ -15,9 +15,9 @@ use Rattle.sms_join.proofs.Outcomes.{joiner_of}
 use Rattle.sms_join.proofs.Offers.{in_place, size_is, says_keeping, says_full, kept_memory, whole_memory, says_text, first_alone, first_kept, first_refused, opened_set}
 use Rattle.sms_join.proofs.joiner.Joiner.begin.Goals as goal
 
-pub returns-in_err-key-clause-says : goal.returns-in_err-key-clause-says
-returns-in_err-key-clause-says c =
-    let p = err_from_is_err_and c.from_residual-in_err-key.result c.from_residual-in_err-key.ensures.1 in
+pub returns-in_err-push-clause-says : goal.returns-in_err-push-clause-says
+returns-in_err-push-clause-says c =
+    let p = err_from_is_err_and c.from_residual-in_err-push.result c.from_residual-in_err-push.ensures.1 in
     rw (p.1, p.2) (whole_memory c.args.self.now.open_max c.args.self.now.holds (piece_of c.args.now c.args.origin.now c.args.stamp c.args.concat c.args.units) (c.args.units ∷ []) (first_alone c.self.inside.open_max c.self.inside.finished c.self.inside.sets c.self.invariant.0 (piece_of c.args.now c.args.origin.now c.args.stamp c.args.concat c.args.units) (in_place c.args.now c.args.origin.now c.args.stamp c.args.concat c.args.units c.requires.place) c.args.self.now c.self.view_is c.requires.fresh c.requires.closed (let e = size_is c.args.origin.now c.args.stamp c.args.concat in sym e ∙ (sym c.size_of.ensures ∙ c.if-size_of-eq1.true))).0)
 
 pub returns-in_err-text-clause-says : goal.returns-in_err-text-clause-says
@@ -32,7 +32,7 @@ returns-then-size_of-eq1-clause-says c =
 pub returns-then-size_of-eq1-clause-holds : goal.returns-then-size_of-eq1-clause-holds
 returns-then-size_of-eq1-clause-holds c =
     subst (λ (ks : List Key). IsSame (joiner_of c.self.inside.sets ks) (offered c.args.self.now.open_max c.args.self.now.remembered c.args.self.now.holds (piece_of c.args.now c.args.origin.now c.args.stamp c.args.concat c.args.units)))
-    (sym (ap (λ (l : LastKeysValue). l.keys) c.push.ensures ∙ ap (λ (k : Key). take c.self.inside.finished.limit (k ∷ c.self.inside.finished.keys)) c.in_ok-key.ensures))
+    (sym (ap (λ (l : LastKeysValue). l.keys) c.in_ok-push.ensures.ok ∙ ap (λ (k : Key). take c.self.inside.finished.limit (k ∷ c.self.inside.finished.keys)) c.of-key.ensures))
     (first_alone c.self.inside.open_max c.self.inside.finished c.self.inside.sets c.self.invariant.0 (piece_of c.args.now c.args.origin.now c.args.stamp c.args.concat c.args.units) (in_place c.args.now c.args.origin.now c.args.stamp c.args.concat c.args.units c.requires.place) c.args.self.now c.self.view_is c.requires.fresh c.requires.closed (let e = size_is c.args.origin.now c.args.stamp c.args.concat in sym e ∙ (sym c.size_of.ensures ∙ c.if-size_of-eq1.true))).1
 
 pub returns-then-count-self-clause-says : goal.returns-then-count-self-clause-says
@@ -41,14 +41,6 @@ returns-then-count-self-clause-says c =
     let over = c.if-count-self.true in
     let full : c.self.inside.open_max ≤ length c.self.inside.sets = omega arith in
     says_full c.args.self.now.open_max c.args.self.now.holds (piece_of c.args.now c.args.origin.now c.args.stamp c.args.concat c.args.units) (first_refused c.self.inside.open_max c.self.inside.finished c.self.inside.sets c.self.invariant.0 (piece_of c.args.now c.args.origin.now c.args.stamp c.args.concat c.args.units) (in_place c.args.now c.args.origin.now c.args.stamp c.args.concat c.args.units c.requires.place) c.args.self.now c.self.view_is c.requires.fresh c.requires.closed (λ h. let e = size_is c.args.origin.now c.args.stamp c.args.concat in c.if-size_of-eq1.false (c.size_of.ensures ∙ (e ∙ sym h))) full)
-
-pub returns-in_err-key-2-clause-says : goal.returns-in_err-key-2-clause-says
-returns-in_err-key-2-clause-says c =
-    let count : c.count.result ≡ length c.self.inside.sets = c.count.ensures in
-    let under = c.if-count-self.false in
-    let less : length c.self.inside.sets < c.self.inside.open_max = omega arith in
-    let p = err_from_is_err_and c.from_residual-in_err-key-2.result c.from_residual-in_err-key-2.ensures.1 in
-    rw (p.1, p.2) (kept_memory c.args.self.now.open_max c.args.self.now.holds (piece_of c.args.now c.args.origin.now c.args.stamp c.args.concat c.args.units) c.requires.closed (first_kept c.self.inside.open_max c.self.inside.finished c.self.inside.sets c.self.invariant.0 (piece_of c.args.now c.args.origin.now c.args.stamp c.args.concat c.args.units) (in_place c.args.now c.args.origin.now c.args.stamp c.args.concat c.args.units c.requires.place) c.args.self.now c.self.view_is c.requires.fresh c.requires.closed (λ h. let e = size_is c.args.origin.now c.args.stamp c.args.concat in c.if-size_of-eq1.false (c.size_of.ensures ∙ (e ∙ sym h))) less).0)
 
 pub returns-in_err-open-clause-says : goal.returns-in_err-open-clause-says
 returns-in_err-open-clause-says c =
@@ -63,8 +55,8 @@ invariant_of-self-2 c =
     let count : c.count.result ≡ length c.self.inside.sets = c.count.ensures in
     let under = c.if-count-self.false in
     let less : length c.self.inside.sets < c.self.inside.open_max = omega arith in
-    let list = opened_set c.self.inside.sets c.open.new.self c.in_ok-key-2.key (key_of c.args.origin.now c.args.stamp c.args.concat) c.args.now c.sequence_of.result (sequence_of c.args.concat) c.args.units
-    c.in_ok-open.ensures.ok c.in_ok-key-2.ensures c.sequence_of.ensures in
+    let list = opened_set c.self.inside.sets c.open.new.self c.of-key-2.result (key_of c.args.origin.now c.args.stamp c.args.concat) c.args.now c.sequence_of.result (sequence_of c.args.concat) c.args.units
+    c.in_ok-open.ensures.ok c.of-key-2.ensures c.sequence_of.ensures in
     (subst AreOpen (sym list) (first_kept c.self.inside.open_max c.self.inside.finished c.self.inside.sets c.self.invariant.0 (piece_of c.args.now c.args.origin.now c.args.stamp c.args.concat c.args.units) (in_place c.args.now c.args.origin.now c.args.stamp c.args.concat c.args.units c.requires.place) c.args.self.now c.self.view_is c.requires.fresh c.requires.closed (λ h. let e = size_is c.args.origin.now c.args.stamp c.args.concat in c.if-size_of-eq1.false (c.size_of.ensures ∙ (e ∙ sym h))) less).2, one_more_after c.self.inside.sets c.open.new.self _ c.self.inside.open_max list less)
 
 pub returns-clause-says : goal.returns-clause-says
@@ -79,12 +71,12 @@ returns-clause-holds c =
     let count : c.count.result ≡ length c.self.inside.sets = c.count.ensures in
     let under = c.if-count-self.false in
     let less : length c.self.inside.sets < c.self.inside.open_max = omega arith in
-    let list = opened_set c.self.inside.sets c.open.new.self c.in_ok-key-2.key (key_of c.args.origin.now c.args.stamp c.args.concat) c.args.now c.sequence_of.result (sequence_of c.args.concat) c.args.units
-    c.in_ok-open.ensures.ok c.in_ok-key-2.ensures c.sequence_of.ensures in
+    let list = opened_set c.self.inside.sets c.open.new.self c.of-key-2.result (key_of c.args.origin.now c.args.stamp c.args.concat) c.args.now c.sequence_of.result (sequence_of c.args.concat) c.args.units
+    c.in_ok-open.ensures.ok c.of-key-2.ensures c.sequence_of.ensures in
     subst (λ (ss : List SetValue). IsSame (joiner_of ss c.self.inside.finished.keys) (offered c.args.self.now.open_max c.args.self.now.remembered c.args.self.now.holds (piece_of c.args.now c.args.origin.now c.args.stamp c.args.concat c.args.units))) (sym list) (first_kept c.self.inside.open_max c.self.inside.finished c.self.inside.sets c.self.invariant.0 (piece_of c.args.now c.args.origin.now c.args.stamp c.args.concat c.args.units) (in_place c.args.now c.args.origin.now c.args.stamp c.args.concat c.args.units c.requires.place) c.args.self.now c.self.view_is c.requires.fresh c.requires.closed (λ h. let e = size_is c.args.origin.now c.args.stamp c.args.concat in c.if-size_of-eq1.false (c.size_of.ensures ∙ (e ∙ sym h))) less).1
 
 pub open-requires-clause-closed : goal.open-requires-clause-closed
 open-requires-clause-closed c =
-    ap (has_set c.self.inside.sets) c.in_ok-key-2.ensures
+    ap (has_set c.self.inside.sets) c.of-key-2.ensures
     ∙ none_open c.self.inside.sets (key_of c.args.origin.now c.args.stamp c.args.concat) c.self.invariant.0
     (ap (λ (v : JoinerValue). is_open v.holds.kept (key_of c.args.origin.now c.args.stamp c.args.concat)) c.self.view_is ∙ c.requires.closed)

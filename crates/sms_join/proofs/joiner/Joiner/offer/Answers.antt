@@ -1,5 +1,5 @@
 -- A piece of a set that is open, or of one that finished lately.
-use Rattle.std.proofs.Common.{◌≡◌, false, List, Ok, sym, ap, ◌∙◌, subst}
+use Rattle.std.proofs.Common.{◌≡◌, false, List, ◌∷◌, take, Ok, sym, ap, ◌∙◌, subst}
 use Rattle.std.proofs.lemmas.Result.{err_from_is_err_and}
 use Rattle.std.specs.Str.{chars}
 use Rattle.std.specs.String.{string_bytes}
@@ -17,7 +17,8 @@ use Rattle.sms_join.proofs.SetPieces.{others_closed}
 use Rattle.sms_join.proofs.Few.{as_many_after, fewer_after}
 use Rattle.sms_join.proofs.Places.{none_found}
 use Rattle.sms_join.proofs.Outcomes.{joiner_of, says_repeat, remembered_repeats}
-use Rattle.sms_join.proofs.Offers.{same_refl, in_place, says_again, says_keeping, says_text, whole_memory, knows, known_place, known_repeat, missing, known_kept, known_whole, known_finish, known_text}
+use Rattle.sms_join.proofs.Same.{same_refl}
+use Rattle.sms_join.proofs.Offers.{in_place, says_again, says_keeping, says_text, whole_memory, knows, known_place, known_repeat, missing, known_kept, known_whole, known_finish, known_text}
 use Rattle.sms_join.proofs.joiner.Joiner.offer.Goals as goal
 
 pub returns-then-contains-clause-says : goal.returns-then-contains-clause-says
@@ -116,14 +117,29 @@ returns-in_err-text-clause-says c =
     c.contains.result c.contains.ensures c.if-contains.false c.sequence_of-sequence.ensures)
     c.args.self.now c.self.view_is c.has.result c.has.ensures c.if-has.false c.lacks_one.result c.lacks_one.ensures c.if-not-lacks_one.false))
 
+pub returns-in_err-push-clause-says : goal.returns-in_err-push-clause-says
+returns-in_err-push-clause-says c =
+    let p = err_from_is_err_and c.from_residual-in_err-push.result c.from_residual-in_err-push.ensures.1 in
+    rw (p.1, p.2) (whole_memory c.args.self.now.open_max c.args.self.now.holds (piece_of c.args.now c.args.origin.now c.args.stamp c.args.concat c.args.units) (with_piece (knows c.self.inside.finished c.self.inside.sets (piece_of c.args.now c.args.origin.now c.args.stamp c.args.concat c.args.units) c.in-Some.index c.sequence_of-sequence.result c.self.invariant.0
+    (in_place c.args.now c.args.origin.now c.args.stamp c.args.concat c.args.units c.requires) c.find.result c.in-Some.is c.find.ensures
+    c.contains.result c.contains.ensures c.if-contains.false c.sequence_of-sequence.ensures).own (sequence_of c.args.concat) c.args.units).units
+    (known_whole c.self.inside.open_max c.self.inside.finished c.self.inside.sets (piece_of c.args.now c.args.origin.now c.args.stamp c.args.concat c.args.units) c.in-Some.index c.sequence_of-sequence.result
+    (knows c.self.inside.finished c.self.inside.sets (piece_of c.args.now c.args.origin.now c.args.stamp c.args.concat c.args.units) c.in-Some.index c.sequence_of-sequence.result c.self.invariant.0
+    (in_place c.args.now c.args.origin.now c.args.stamp c.args.concat c.args.units c.requires) c.find.result c.in-Some.is c.find.ensures
+    c.contains.result c.contains.ensures c.if-contains.false c.sequence_of-sequence.ensures)
+    c.args.self.now c.self.view_is c.has.result c.has.ensures c.if-has.false c.lacks_one.result c.lacks_one.ensures c.if-not-lacks_one.false))
+
 pub invariant_of-self-2 : goal.invariant_of-self-2
 invariant_of-self-2 c = (
   (known_finish c.self.inside.open_max c.self.inside.finished c.self.inside.sets (piece_of c.args.now c.args.origin.now c.args.stamp c.args.concat c.args.units) c.in-Some.index c.sequence_of-sequence.result
       (knows c.self.inside.finished c.self.inside.sets (piece_of c.args.now c.args.origin.now c.args.stamp c.args.concat c.args.units) c.in-Some.index c.sequence_of-sequence.result c.self.invariant.0
       (in_place c.args.now c.args.origin.now c.args.stamp c.args.concat c.args.units c.requires) c.find.result c.in-Some.is c.find.ensures
       c.contains.result c.contains.ensures c.if-contains.false c.sequence_of-sequence.ensures)
-      c.args.self.now c.self.view_is c.has.result c.has.ensures c.if-has.false c.lacks_one.result c.lacks_one.ensures c.if-not-lacks_one.false c.remove-key.new.self c.remove-key.ensures.others c.remove-key.result c.remove-key.ensures.key).0,
-  fewer_after c.self.inside.sets c.in-Some.index c.remove-key.new.self c.self.inside.open_max c.remove-key.ensures.others c.self.invariant.1,
+      c.args.self.now c.self.view_is c.has.result c.has.ensures c.if-has.false c.lacks_one.result c.lacks_one.ensures c.if-not-lacks_one.false c.remove.new.self c.remove.ensures).0,
+  fewer_after c.self.inside.sets c.in-Some.index c.remove.new.self c.self.inside.open_max
+      (knows c.self.inside.finished c.self.inside.sets (piece_of c.args.now c.args.origin.now c.args.stamp c.args.concat c.args.units) c.in-Some.index c.sequence_of-sequence.result c.self.invariant.0
+      (in_place c.args.now c.args.origin.now c.args.stamp c.args.concat c.args.units c.requires) c.find.result c.in-Some.is c.find.ensures
+      c.contains.result c.contains.ensures c.if-contains.false c.sequence_of-sequence.ensures).found.there c.remove.ensures c.self.invariant.1,
 )
 
 pub returns-clause-says : goal.returns-clause-says
@@ -144,10 +160,10 @@ returns-clause-says c =
 
 pub returns-clause-holds : goal.returns-clause-holds
 returns-clause-holds c =
-    subst (λ (ks : List Key). IsSame (joiner_of c.remove-key.new.self ks) (offered c.args.self.now.open_max c.args.self.now.remembered c.args.self.now.holds (piece_of c.args.now c.args.origin.now c.args.stamp c.args.concat c.args.units)))
-    (sym (ap (λ (l : LastKeysValue). l.keys) c.push.ensures))
+    subst (λ (ks : List Key). IsSame (joiner_of c.remove.new.self ks) (offered c.args.self.now.open_max c.args.self.now.remembered c.args.self.now.holds (piece_of c.args.now c.args.origin.now c.args.stamp c.args.concat c.args.units)))
+    (sym (ap (λ (l : LastKeysValue). l.keys) c.in_ok-push.ensures.ok ∙ ap (λ (k : Key). take c.self.inside.finished.limit (k ∷ c.self.inside.finished.keys)) c.of-key.ensures))
     (known_finish c.self.inside.open_max c.self.inside.finished c.self.inside.sets (piece_of c.args.now c.args.origin.now c.args.stamp c.args.concat c.args.units) c.in-Some.index c.sequence_of-sequence.result
     (knows c.self.inside.finished c.self.inside.sets (piece_of c.args.now c.args.origin.now c.args.stamp c.args.concat c.args.units) c.in-Some.index c.sequence_of-sequence.result c.self.invariant.0
     (in_place c.args.now c.args.origin.now c.args.stamp c.args.concat c.args.units c.requires) c.find.result c.in-Some.is c.find.ensures
     c.contains.result c.contains.ensures c.if-contains.false c.sequence_of-sequence.ensures)
-    c.args.self.now c.self.view_is c.has.result c.has.ensures c.if-has.false c.lacks_one.result c.lacks_one.ensures c.if-not-lacks_one.false c.remove-key.new.self c.remove-key.ensures.others c.remove-key.result c.remove-key.ensures.key).1
+    c.args.self.now c.self.view_is c.has.result c.has.ensures c.if-has.false c.lacks_one.result c.lacks_one.ensures c.if-not-lacks_one.false c.remove.new.self c.remove.ensures).1

@@ -4,11 +4,17 @@ use Rattle.sms_join.specs.declared.key.Key.{Key}
 use Rattle.sms_join.specs.Key.{same_key}
 use Rattle.sms_join.specs.Inside.OpenSet.{SetValue}
 use Rattle.sms_join.specs.Piece.{key_of}
-use Rattle.sms_join.proofs.Slots.{place_same}
+use Rattle.sms_join.proofs.Slots.{place_same, found_by}
 use Rattle.sms_join.proofs.open_sets.OpenSets.find.Goals as goal
+
+pub returns-then-len-le-FEW_SETS : goal.returns-then-len-le-FEW_SETS
+returns-then-len-le-FEW_SETS c =
+    c.find_key.ensures
+    ∙ (place_same (λ (k : Key). same_key k (key_of c.args.origin.now c.args.stamp c.args.concat)) c.self.inside.slots.entries
+    ∙ ap (position (λ (s : SetValue). same_key s.key (key_of c.args.origin.now c.args.stamp c.args.concat))) c.self.view_is)
 
 pub returns : goal.returns
 returns c =
-    c.find_key.ensures
-    ∙ (place_same (λ (k : Key). same_key k (key_of c.args.origin.now c.args.stamp c.args.concat)) c.self.inside.slots.entries
+    c.get_index_of.ensures.index
+    ∙ (found_by c.of-key.result (key_of c.args.origin.now c.args.stamp c.args.concat) c.self.inside.slots.entries c.of-key.ensures
     ∙ ap (position (λ (s : SetValue). same_key s.key (key_of c.args.origin.now c.args.stamp c.args.concat))) c.self.view_is)
