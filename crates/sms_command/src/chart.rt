@@ -62,8 +62,8 @@ pub struct Sent {
     pub row: usize,
     /// Which of the packets of its row it is, counted from 0.
     pub place: usize,
-    /// How often it was carried.
-    pub carried: usize,
+    /// The first row in which it arrived; none where it is never carried.
+    pub arrived: Option<usize>,
 }
 
 /// Collects a run for its chart.
@@ -201,16 +201,17 @@ impl Collected {
             name,
             row: self.rows.len().saturating_sub(1),
             place: place.saturating_sub(happened.packets_before),
-            carried: 0,
+            arrived: None,
         })?;
         Ok(())
     }
 
-    /// A packet arrives.
-    fn count_arrival(&mut self, happened: &Happened<'_>) {
+    /// A packet arrives in the last row.
+    fn note_arrival(&mut self, happened: &Happened<'_>) {
+        let row = self.rows.len().saturating_sub(1);
         if let Doing::Arrival(place) = doing_of(happened) {
             if let Some(packet) = self.packets.get_mut(place) {
-                packet.carried = packet.carried.saturating_add(1);
+                packet.arrived = packet.arrived.or(Some(row));
             }
         }
     }
@@ -224,7 +225,7 @@ impl Teller for Collected {
         _page: &mut Page,
     ) -> Result<(), Fault> {
         self.add_row(alloc, happened)?;
-        self.count_arrival(happened);
+        self.note_arrival(happened);
         for place in happened.packets_before..happened.running.world().packet_count() {
             self.add_packet(alloc, happened, place)?;
         }

@@ -4,6 +4,8 @@
 #[cfg(test)]
 mod accepted;
 #[cfg(test)]
+mod charts;
+#[cfg(test)]
 mod encoded;
 #[cfg(test)]
 mod ending;
@@ -15,6 +17,8 @@ mod found;
 mod joins;
 #[cfg(test)]
 mod lines;
+#[cfg(test)]
+mod made;
 #[cfg(test)]
 mod objects;
 #[cfg(test)]

@@ -103,25 +103,18 @@ fn put_line_with_head(page: &mut Page, class: &str, from: Point, to: Point) {
     page.put(b"</g>\n");
 }
 
-/// Whether a packet arrived in a row before this one.
-fn came_before(rows: &[Row], row: usize, packet: usize) -> bool {
-    rows.iter()
-        .take(row)
-        .any(|row| row.doing == Doing::Arrival(packet))
-}
-
 /// Adds the arrows, and the names of the packets beside their starts.
 pub fn put_arrows(places: &Places, rows: &[Row], packets: &[Sent], page: &mut Page) {
     for (number, row) in rows.iter().enumerate() {
         if let Doing::Arrival(packet) = row.doing {
             if let Some(sent) = packets.get(packet) {
-                let is_again = came_before(rows, number, packet);
+                let is_again = sent.arrived != Some(number);
                 put_arrival(page, places, sent, number, is_again);
             }
         }
     }
     for (place, packet) in packets.iter().enumerate() {
-        if packet.carried == 0 {
+        if packet.arrived.is_none() {
             put_lost(page, places, packet);
         }
         put_name(page, places, packet, place.saturating_add(1));
