@@ -1,6 +1,5 @@
 //! The texts of addresses.
 
-use arrayvec::ArrayString;
 use sms_field::{
     Address, AddressView, DIGITS_MAX, DigitsView, RpAddressView, Symbols, SymbolsView,
 };
@@ -11,35 +10,56 @@ use std::alloc::{AllocError, Global};
 const CHARACTERS_MAX: usize = 1 + DIGITS_MAX;
 
 /// The characters of the digits 0 to 14.
-const CHARACTERS: [char; 15] = [
-    '0', '1', '2', '3', '4', '5', '6', '7', '8', '9', '*', '#', 'a', 'b', 'c',
-];
+const CHARACTERS: &[u8; 15] = b"0123456789*#abc";
 
-/// The characters of a telephone number, in room of their own.
-type Telephone = ArrayString<CHARACTERS_MAX>;
-
-/// Adds the character of a digit.
-fn push_digit(telephone: &mut Telephone, digit: u8) {
-    if let Some(character) = CHARACTERS.get(usize::from(digit)) {
-        let _ = telephone.try_push(*character);
-    }
+/// The characters of a telephone number, all of them in ASCII, in room of their own.
+#[derive(Drop)]
+pub struct Telephone {
+    characters: [u8; CHARACTERS_MAX],
+    count: usize,
 }
 
-/// What stands before the digits: a `+` where the type of number is 1.
-fn front_of(type_of_number: u8) -> Telephone {
-    let mut telephone = Telephone::new();
-    if type_of_number == 1 {
-        let _ = telephone.try_push('+');
+impl Telephone {
+    /// What stands before the digits: a `+` where the type of number is 1.
+    fn before(type_of_number: u8) -> Telephone {
+        let mut telephone = Telephone {
+            characters: [0; CHARACTERS_MAX],
+            count: 0,
+        };
+        if type_of_number == 1 {
+            telephone.push(b'+');
+        }
+        telephone
     }
-    telephone
+
+    /// Adds a character, where there is room.
+    fn push(&mut self, character: u8) {
+        if let Some(place) = self.characters.get_mut(self.count) {
+            *place = character;
+            self.count = self.count.saturating_add(1);
+        }
+    }
+
+    /// Adds the character of a digit.
+    fn push_digit(&mut self, digit: u8) {
+        if let Some(character) = CHARACTERS.get(usize::from(digit)) {
+            self.push(*character);
+        }
+    }
+
+    /// The text.
+    fn as_str(&self) -> &str {
+        let characters = self.characters.get(..self.count).unwrap_or(&[]);
+        str::from_utf8(characters).unwrap_or("")
+    }
 }
 
 /// The digits that lie in octets, after a `+` where the type of number is 1.
 fn telephone_seen(type_of_number: u8, digits: &DigitsView<'_>) -> Telephone {
-    let mut telephone = front_of(type_of_number);
+    let mut telephone = Telephone::before(type_of_number);
     for index in 0..digits.count() {
         if let Some(digit) = digits.digit(index) {
-            push_digit(&mut telephone, digit);
+            telephone.push_digit(digit);
         }
     }
     telephone
@@ -47,9 +67,9 @@ fn telephone_seen(type_of_number: u8, digits: &DigitsView<'_>) -> Telephone {
 
 /// Digits after a `+` where the type of number is 1.
 fn telephone_of(type_of_number: u8, digits: &[u8]) -> Telephone {
-    let mut telephone = front_of(type_of_number);
+    let mut telephone = Telephone::before(type_of_number);
     for digit in digits {
-        push_digit(&mut telephone, *digit);
+        telephone.push_digit(*digit);
     }
     telephone
 }

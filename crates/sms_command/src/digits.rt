@@ -1,9 +1,9 @@
 //! Octets in hexadecimal digits.
 
+use crate::blocks::{BLOCK, DIGITS, put_octets};
 use crate::fault::Fault;
 use crate::page::Page;
 use crate::printed::put_escaped;
-use std::alloc::AllocError;
 
 /// Where a text is no octets in hexadecimal digits.
 #[derive(Clone, Copy, Debug, PartialEq, Eq)]
@@ -64,11 +64,28 @@ fn put_pairs(octets: &mut [u8], pairs: &[[u8; 2]]) -> bool {
     seen != NO
 }
 
-/// Adds the octets of digits in pairs, and says whether all are.
-fn add_pairs(octets: &mut Vec<u8>, digits: &[u8]) -> Result<bool, AllocError> {
-    let (pairs, rest) = digits.as_chunks::<2>();
-    octets.resize(pairs.len(), 0)?;
-    Ok(rest.is_empty() && put_pairs(octets, pairs))
+/// Puts the octets of digits a block at a time, and says whether all are digits. What the last
+/// block does not fill is left as it is.
+fn put_blocks(octets: &mut [u8], digits: &[u8]) -> bool {
+    let (places, _) = octets.as_chunks_mut::<BLOCK>();
+    let (blocks, _) = digits.as_chunks::<DIGITS>();
+    for (place, block) in places.iter_mut().zip(blocks) {
+        if !put_octets(place, block) {
+            return false;
+        }
+    }
+    true
+}
+
+/// Puts the octets of digits, of which there are twice as many, and says whether all are digits.
+/// The last block may lie over the one before, so that none is left over.
+fn put_all(octets: &mut [u8], digits: &[u8]) -> bool {
+    let last = digits.last_chunk::<DIGITS>();
+    if let (Some(place), Some(block)) = (octets.last_chunk_mut::<BLOCK>(), last) {
+        return put_octets(place, block) && put_blocks(octets, digits);
+    }
+    let (pairs, _) = digits.as_chunks::<2>();
+    put_pairs(octets, pairs)
 }
 
 /// The character at a place of a text in UTF-8.
@@ -93,9 +110,10 @@ fn is_blank(octet: u8) -> bool {
     octet == b' ' || octet == b'\t'
 }
 
-/// Adds the octets of digits one by one, which blanks may part where they are allowed, and finds
-/// the first that is wrong.
-fn add_one_by_one(octets: &mut Vec<u8>, digits: &[u8], has_blanks: bool) -> Result<(), Fault> {
+/// Puts the octets of digits one by one, which blanks may part where they are allowed, and says how
+/// many there are, or finds the first that is wrong.
+fn put_one_by_one(octets: &mut [u8], digits: &[u8], has_blanks: bool) -> Result<usize, Fault> {
+    let mut count = 0usize;
     let mut high = NO;
     for (place, octet) in digits.iter().enumerate() {
         let number = number_of(*octet);
@@ -106,23 +124,45 @@ fn add_one_by_one(octets: &mut Vec<u8>, digits: &[u8], has_blanks: bool) -> Resu
         } else if high == NO {
             high = number;
         } else {
-            octets.push((high << 4) | number)?;
+            if let Some(own) = octets.get_mut(count) {
+                *own = (high << 4) | number;
+            }
+            count = count.saturating_add(1);
             high = NO;
         }
     }
     if high != NO {
         return Err(fault_at(digits, digits.len()));
     }
-    Ok(())
+    Ok(count)
 }
 
-/// Puts the octets of digits in place of what is there. `-` says no octets. Blanks may stand
-/// between octets where they are allowed.
-pub fn read_octets(octets: &mut Vec<u8>, digits: &[u8], has_blanks: bool) -> Result<(), Fault> {
-    octets.clear();
-    if digits == b"-".as_slice() || add_pairs(octets, digits)? {
-        return Ok(());
+/// Puts the octets of digits into room that is long enough, and says how many there are.
+fn put_read(octets: &mut [u8], digits: &[u8], has_blanks: bool) -> Result<usize, Fault> {
+    if digits.len() % 2 == 0 && put_all(octets, digits) {
+        return Ok(octets.len());
     }
-    octets.clear();
-    add_one_by_one(octets, digits, has_blanks)
+    put_one_by_one(octets, digits, has_blanks)
+}
+
+/// The octets of digits, in room that is lent and kept. `-` says no octets. Blanks may stand
+/// between octets where they are allowed.
+pub fn read_octets<'a>(
+    room: &'a mut Vec<u8>,
+    digits: &[u8],
+    has_blanks: bool,
+) -> Result<&'a [u8], Fault> {
+    if digits == b"-".as_slice() {
+        return Ok(&[]);
+    }
+    let most = digits.len() / 2;
+    if room.len() < most {
+        room.resize(most, 0)?;
+    }
+    let octets = room.as_mut_slice();
+    let Some(octets) = octets.get_mut(..most) else {
+        unreachable!()
+    };
+    let count = put_read(octets, digits, has_blanks)?;
+    Ok(octets.get(..count).unwrap_or(&[]))
 }

@@ -23,9 +23,9 @@ const FIRST_SECOND: [u8; 7] = [0x00, 0x10, 0x10, 0x00, 0x00, 0x00, 0x00];
 
 /// The stamp whose seven octets a word names in hexadecimal.
 fn stamp_of(alloc: Global, word: &str) -> Result<Stamp, Fault> {
-    let mut octets = Vec::new(alloc);
-    read_octets(&mut octets, word.as_bytes(), false)?;
-    let [y, m, d, h, n, s, z] = octets.as_slice() else {
+    let mut room = Vec::new(alloc);
+    let octets = read_octets(&mut room, word.as_bytes(), false)?;
+    let [y, m, d, h, n, s, z] = octets else {
         return Err(Fault::BadStamp);
     };
     Ok(Stamp::new([*y, *m, *d, *h, *n, *s, *z]))

@@ -71,13 +71,13 @@ fn after_centre(octets: &[u8]) -> Result<&[u8], Fault> {
 fn piece_in(
     alloc: Global,
     line: Result<&[u8], Fault>,
-    octets: &mut Vec<u8>,
+    room: &mut Vec<u8>,
     has_centre: bool,
     layer: &mut Layer,
 ) -> Result<Piece, Fault>
     ensures { IfOk result (λ piece. IsPlace piece.concat) }
 {
-    read_octets(octets, line?, true)?;
+    let octets = read_octets(room, line?, true)?;
     if !has_centre {
         *layer = Layer::Unit;
         return piece_of(alloc, octets);
@@ -100,8 +100,8 @@ struct Joining {
     open: OpenTexts,
     /// The greatest moment of a stamp so far, in seconds since the beginning of 2000.
     clock: u64,
-    /// The octets of the line, in room that is kept.
-    octets: Vec<u8>,
+    /// Room for the octets of a line, which is kept.
+    room: Vec<u8>,
     /// Whether a line was at fault.
     is_faulty: bool,
 }
@@ -334,8 +334,8 @@ impl Taker for Joining {
         page: &mut Page,
     ) -> Result<(), Fault> {
         let mut layer = Layer::Digits;
-        let octets = &mut self.octets;
-        match piece_in(self.alloc, line, octets, self.has_centre, &mut layer) {
+        let room = &mut self.room;
+        match piece_in(self.alloc, line, room, self.has_centre, &mut layer) {
             Ok(piece) => self.take_piece(number, piece, page),
             Err(fault) if fault.is_of_input() => self.tell_fault(number, layer, &fault, page),
             Err(fault) => Err(fault),
@@ -368,7 +368,7 @@ pub fn join<R: Read, W: Write>(
         joiner: Joiner::new(alloc, joined.open, joined.remembered)?,
         open: OpenTexts::new(alloc),
         clock: 0,
-        octets: Vec::new(alloc),
+        room: Vec::new(alloc),
         is_faulty: false,
     };
     let taken = take_lines(alloc, &mut joining, input, output);

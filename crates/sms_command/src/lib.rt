@@ -5,6 +5,7 @@
 mod address_text;
 mod addresses;
 mod any;
+mod blocks;
 mod chart;
 mod cli;
 mod digits;

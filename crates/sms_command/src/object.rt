@@ -1,10 +1,10 @@
 //! JSON that is written a token at a time.
 
 use crate::address_text::AddressText;
-use crate::page::{FEW, Page, digits_in};
-use json::Writer;
+use crate::blocks::{BLOCK, is_plain_in_json};
+use crate::page::Page;
 use sms_field::Address;
-use std::alloc::{AllocError, Global};
+use std::alloc::Global;
 
 /// A value in JSON that is written a token at a time after what stands on a page. Where memory
 /// runs out, nothing more is written.
@@ -12,134 +12,124 @@ use std::alloc::{AllocError, Global};
 pub struct Object {
     alloc: Global,
     page: Page,
-    writer: Writer,
-    is_cut: bool,
+    /// Whether a value was written last, so that a comma comes before the next one.
+    has_value: bool,
 }
 
 impl Object {
     /// Begins after what stands on a page.
-    pub fn new(alloc: Global, mut page: Page) -> Object {
-        let room = page.take_room(alloc);
+    pub fn new(alloc: Global, page: Page) -> Object {
         Object {
             alloc,
             page,
-            writer: Writer::new(room),
-            is_cut: false,
+            has_value: false,
         }
     }
 
     /// The page with what was written, and the end of a line after it.
     pub fn into_line(self) -> Page {
-        let Object {
-            mut page,
-            writer,
-            is_cut,
-            ..
-        } = self;
-        page.put_object(writer.into_inner(), is_cut);
+        let Object { mut page, .. } = self;
+        page.put(b"\n");
         page
     }
 
-    /// Remembers whether memory ran out.
-    fn keep(&mut self, written: Result<(), AllocError>) {
-        self.is_cut = self.is_cut || written.is_err();
+    /// Adds a token, after a comma where a value stands before it.
+    fn put(&mut self, token: &[u8]) {
+        if self.has_value {
+            self.page.put(b",");
+        }
+        self.page.put(token);
     }
 
     /// Begins an object.
     pub fn open(&mut self) {
-        if !self.is_cut {
-            let written = self.writer.begin_object();
-            self.keep(written);
-        }
+        self.put(b"{");
+        self.has_value = false;
     }
 
     /// Ends an object.
     pub fn close(&mut self) {
-        if !self.is_cut {
-            let written = self.writer.end_object();
-            self.keep(written);
-        }
+        self.page.put(b"}");
+        self.has_value = true;
     }
 
     /// Begins a list.
     pub fn open_list(&mut self) {
-        if !self.is_cut {
-            let written = self.writer.begin_array();
-            self.keep(written);
-        }
+        self.put(b"[");
+        self.has_value = false;
     }
 
     /// Ends a list.
     pub fn close_list(&mut self) {
-        if !self.is_cut {
-            let written = self.writer.end_array();
-            self.keep(written);
-        }
+        self.page.put(b"]");
+        self.has_value = true;
     }
 
-    /// The name of a member, whose value comes next.
+    /// The name of a member, whose value comes next. It has no character that JSON escapes.
     pub fn name(&mut self, name: &str) {
-        if !self.is_cut {
-            let written = self.writer.key(name);
-            self.keep(written);
-        }
+        self.page.put_quoted(self.has_value, name.as_bytes(), true);
+        self.has_value = false;
     }
 
     /// A number.
     pub fn number(&mut self, number: u64) {
-        if !self.is_cut {
-            let written = self.writer.u64(number);
-            self.keep(written);
+        if self.has_value {
+            self.page.put(b",");
         }
+        self.page.put_decimal(number);
+        self.has_value = true;
     }
 
     /// A text.
     pub fn text(&mut self, text: &str) {
-        if !self.is_cut {
-            let written = self.writer.string(text);
-            self.keep(written);
+        let octets = text.as_bytes();
+        if are_plain(octets) {
+            self.ascii(octets);
+        } else {
+            self.put_escaped(octets);
         }
+    }
+
+    /// A text that has characters to escape: those between them in one piece.
+    fn put_escaped(&mut self, octets: &[u8]) {
+        self.put(b"\"");
+        let mut start = 0;
+        for (place, octet) in octets.iter().enumerate() {
+            if !is_plain(*octet) {
+                self.page.put(octets.get(start..place).unwrap_or(&[]));
+                put_escape(&mut self.page, *octet);
+                start = place.saturating_add(1);
+            }
+        }
+        self.page.put(octets.get(start..).unwrap_or(&[]));
+        self.page.put(b"\"");
+        self.has_value = true;
     }
 
     /// What is so or not.
     pub fn flag(&mut self, flag: bool) {
-        if !self.is_cut {
-            let written = self.writer.boolean(flag);
-            self.keep(written);
-        }
+        self.put(if flag { "true" } else { "false" }.as_bytes());
+        self.has_value = true;
     }
 
     /// What is not there.
     pub fn nothing(&mut self) {
-        if !self.is_cut {
-            let written = self.writer.null();
-            self.keep(written);
-        }
+        self.put(b"null");
+        self.has_value = true;
     }
 
     /// Octets in upper case hexadecimal digits, as a text.
     pub fn octets(&mut self, octets: &[u8]) {
-        let mut room = [0; 2 * FEW];
-        match digits_in(octets, &mut room) {
-            Some(digits) => self.ascii(digits),
-            None => self.many_octets(octets),
-        }
+        self.put(b"\"");
+        self.page.put_digits(octets);
+        self.page.put(b"\"");
+        self.has_value = true;
     }
 
-    /// So many octets that their digits take memory.
-    fn many_octets(&mut self, octets: &[u8]) {
-        match hex::encode_upper(self.alloc, octets) {
-            Ok(digits) => self.text(&digits),
-            Err(error) => self.keep(Err(error)),
-        }
-    }
-
-    /// A text of ASCII characters. Others are no text, and nothing is there.
+    /// A text in UTF-8 without a character that JSON escapes.
     pub fn ascii(&mut self, characters: &[u8]) {
-        match str::from_utf8(characters) {
-            Ok(text) => self.text(text),
-            Err(_) => self.nothing(),
-        }
+        self.page.put_quoted(self.has_value, characters, false);
+        self.has_value = true;
     }
 
     /// An address: its text, and what kind of number it is.
@@ -152,7 +142,7 @@ impl Object {
                 self.number_named("plan", u64::from(address.plan));
                 self.close();
             }
-            Err(error) => self.keep(Err(error)),
+            Err(_) => self.page.cut(),
         }
     }
 
@@ -172,5 +162,57 @@ impl Object {
     pub fn octets_named(&mut self, name: &str, octets: &[u8]) {
         self.name(name);
         self.octets(octets);
+    }
+}
+
+/// Whether an octet of a text stands in JSON as it is.
+fn is_plain(octet: u8) -> bool {
+    (octet >= b' ') & (octet != b'"') & (octet != b'\\')
+}
+
+/// Whether octets of a text stand in JSON as they are. The last block may lie over the one before.
+fn are_plain(octets: &[u8]) -> bool {
+    match octets.last_chunk::<BLOCK>() {
+        Some(last) => is_plain_in_json(last) && have_plain_blocks(octets),
+        None => are_few_plain(octets),
+    }
+}
+
+/// Whether all whole blocks of octets stand in JSON as they are.
+fn have_plain_blocks(octets: &[u8]) -> bool {
+    let (blocks, _) = octets.as_chunks::<BLOCK>();
+    for block in blocks {
+        if !is_plain_in_json(block) {
+            return false;
+        }
+    }
+    true
+}
+
+/// Whether octets, of which there are few, stand in JSON as they are.
+fn are_few_plain(octets: &[u8]) -> bool {
+    let mut all = true;
+    for octet in octets {
+        all &= is_plain(*octet);
+    }
+    all
+}
+
+/// Adds the escape of an octet that does not stand in JSON as it is.
+fn put_escape(page: &mut Page, octet: u8) {
+    match octet {
+        b'"' => page.put(b"\\\""),
+        b'\\' => page.put(b"\\\\"),
+        8 => page.put(b"\\b"),
+        12 => page.put(b"\\f"),
+        b'\n' => page.put(b"\\n"),
+        b'\r' => page.put(b"\\r"),
+        b'\t' => page.put(b"\\t"),
+        _ => {
+            let digits = b"0123456789abcdef";
+            let high = digits[usize::from(octet / 16)];
+            let low = digits[usize::from(octet % 16)];
+            page.put(&[b'\\', b'u', b'0', b'0', high, low]);
+        }
     }
 }

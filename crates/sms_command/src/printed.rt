@@ -1,5 +1,6 @@
 //! How values are printed.
 
+use crate::blocks::{BLOCK, is_plain};
 use crate::lines::Printed;
 use crate::object::Object;
 use crate::page::Page;
@@ -115,19 +116,51 @@ pub fn put_escaped(page: &mut Page, text: &str) {
     if are_plain(octets) {
         page.put(octets);
     } else {
-        for octet in octets {
-            put_escaped_octet(page, *octet);
-        }
+        put_parts(page, octets);
     }
 }
 
-/// Whether octets of a text stand in one line as they are.
+/// Whether octets of a text stand in one line as they are. The last block may lie over the one
+/// before.
 fn are_plain(octets: &[u8]) -> bool {
+    match octets.last_chunk::<BLOCK>() {
+        Some(last) => is_plain(last) && have_plain_blocks(octets),
+        None => are_few_plain(octets),
+    }
+}
+
+/// Whether all whole blocks of octets stand in one line as they are.
+fn have_plain_blocks(octets: &[u8]) -> bool {
+    let (blocks, _) = octets.as_chunks::<BLOCK>();
+    for block in blocks {
+        if !is_plain(block) {
+            return false;
+        }
+    }
+    true
+}
+
+/// Whether octets, of which there are few, stand in one line as they are.
+fn are_few_plain(octets: &[u8]) -> bool {
     let mut all = true;
     for octet in octets {
         all &= Escape::is_plain(*octet);
     }
     all
+}
+
+/// Adds the octets of a text in one line: those that stand as they are in one piece up to the next
+/// escape.
+fn put_parts(page: &mut Page, octets: &[u8]) {
+    let mut start = 0;
+    for (place, octet) in octets.iter().enumerate() {
+        if !Escape::is_plain(*octet) {
+            page.put(octets.get(start..place).unwrap_or(&[]));
+            put_escaped_octet(page, *octet);
+            start = place.saturating_add(1);
+        }
+    }
+    page.put(octets.get(start..).unwrap_or(&[]));
 }
 
 /// Adds an octet of a text in one line.
@@ -258,11 +291,7 @@ pub struct StampText(pub Stamp);
 impl Printed for StampText {
     fn plain(&self, page: &mut Page) {
         match self.0.date() {
-            Some(date) => {
-                put_date(page, date, b' ');
-                page.put(b" ");
-                put_zone(page, date.quarters);
-            }
+            Some(date) => page.put(&date_text(date)),
             None => {
                 page.put(b"raw ");
                 page.put_hexadecimal(&self.0.octets());
@@ -287,31 +316,6 @@ impl Printed for StampText {
     }
 }
 
-/// Adds the date and the time of day of a stamp, with a character between them.
-fn put_date(page: &mut Page, date: StampDate, between: u8) {
-    page.put_two_digits((date.year / 100 % 100) as u8);
-    page.put_two_digits((date.year % 100) as u8);
-    page.put(b"-");
-    page.put_two_digits(date.month);
-    page.put(b"-");
-    page.put_two_digits(date.day);
-    page.put(&[between]);
-    page.put_two_digits(date.hour);
-    page.put(b":");
-    page.put_two_digits(date.minute);
-    page.put(b":");
-    page.put_two_digits(date.second);
-}
-
-/// Adds a zone, of which the quarters of an hour east of UTC are given.
-fn put_zone(page: &mut Page, quarters: i8) {
-    page.put(if quarters < 0 { b"-" } else { b"+" });
-    let quarters = quarters.unsigned_abs();
-    page.put_two_digits(quarters / 4);
-    page.put(b":");
-    page.put_two_digits(quarters % 4 * 15);
-}
-
 /// The two decimal digits of a number below 100.
 fn two_digits(number: u8) -> [u8; 2] {
     [b'0' + number / 10 % 10, b'0' + number % 10]
@@ -333,6 +337,41 @@ fn rfc_3339(date: StampDate) -> [u8; 25] {
     [
         y1, y2, y3, y4, b'-', m1, m2, b'-', d1, d2, b'T', h1, h2, b':', n1, n2, b':', s1, s2, sign,
         z1, z2, b':', q1, q2,
+    ]
+}
+
+/// A date, a time of day and a zone, with blanks between them.
+fn date_text(date: StampDate) -> [u8; 26] {
+    let [
+        y1,
+        y2,
+        y3,
+        y4,
+        _,
+        m1,
+        m2,
+        _,
+        d1,
+        d2,
+        _,
+        h1,
+        h2,
+        _,
+        n1,
+        n2,
+        _,
+        s1,
+        s2,
+        sign,
+        z1,
+        z2,
+        _,
+        q1,
+        q2,
+    ] = rfc_3339(date);
+    [
+        y1, y2, y3, y4, b'-', m1, m2, b'-', d1, d2, b' ', h1, h2, b':', n1, n2, b':', s1, s2, b' ',
+        sign, z1, z2, b':', q1, q2,
     ]
 }
 

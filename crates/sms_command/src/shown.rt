@@ -76,10 +76,10 @@ fn put_digits(
     alloc: Global,
     shown: &Shown<'_>,
     digits: Result<&[u8], Fault>,
-    octets: &mut Vec<u8>,
+    room: &mut Vec<u8>,
     lines: &mut Lines,
 ) -> Result<(), Fault> {
-    read_octets(octets, digits?, shown.has_lines)?;
+    let octets = read_octets(room, digits?, shown.has_lines)?;
     put_octets(alloc, shown, octets, lines)
 }
 
@@ -90,14 +90,14 @@ fn put_entry(
     shown: &Shown<'_>,
     number: Option<u64>,
     digits: Result<&[u8], Fault>,
-    octets: &mut Vec<u8>,
+    room: &mut Vec<u8>,
     page: &mut Page,
 ) -> Result<bool, Fault> {
     let mut lines = Lines::new(alloc, shown.form, page.take(alloc));
     if let Some(number) = number {
         lines.put_json("line", Number(number));
     }
-    let told = put_digits(alloc, shown, digits, octets, &mut lines);
+    let told = put_digits(alloc, shown, digits, room, &mut lines);
     match told {
         Err(fault) if fault.is_of_input() => {
             *page = lines.finish_with(alloc, number, shown.is_explained, &fault)?;
@@ -119,14 +119,14 @@ fn show_one<W: Write>(
     word: &str,
     output: &mut W,
 ) -> Result<Done, Fault> {
-    let mut octets = Vec::new(alloc);
+    let mut room = Vec::new(alloc);
     let mut page = Page::new(alloc);
     let told = put_entry(
         alloc,
         shown,
         None,
         Ok(word.as_bytes()),
-        &mut octets,
+        &mut room,
         &mut page,
     );
     let written = page.write_to(output);
@@ -140,8 +140,8 @@ fn show_one<W: Write>(
 struct Showing<'a> {
     alloc: Global,
     shown: Shown<'a>,
-    /// The octets of the line, in room that is kept.
-    octets: Vec<u8>,
+    /// Room for the octets of a line, which is kept.
+    room: Vec<u8>,
     /// Whether something was shown.
     has_begun: bool,
     /// Whether a line was at fault.
@@ -160,8 +160,8 @@ impl Taker for Showing<'_> {
         }
         self.has_begun = true;
         let number = Some(number);
-        let octets = &mut self.octets;
-        if put_entry(self.alloc, &self.shown, number, line, octets, page)? {
+        let room = &mut self.room;
+        if put_entry(self.alloc, &self.shown, number, line, room, page)? {
             self.is_faulty = true;
         }
         Ok(())
@@ -182,7 +182,7 @@ fn show_many<R: Read, W: Write>(
     let mut showing = Showing {
         alloc,
         shown,
-        octets: Vec::new(alloc),
+        room: Vec::new(alloc),
         has_begun: false,
         is_faulty: false,
     };

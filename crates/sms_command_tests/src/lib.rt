@@ -6,9 +6,13 @@ mod accepted;
 #[cfg(test)]
 mod charts;
 #[cfg(test)]
+mod digits;
+#[cfg(test)]
 mod encoded;
 #[cfg(test)]
 mod ending;
+#[cfg(test)]
+mod escapes;
 #[cfg(test)]
 mod fed;
 #[cfg(test)]

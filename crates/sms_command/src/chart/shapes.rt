@@ -93,28 +93,36 @@ pub fn close_text(page: &mut Page) {
     page.put(b"</text>\n");
 }
 
-/// Adds a character of a text in XML, which has none of the last two of the plane.
-fn put_character(page: &mut Page, character: char) {
+/// What stands for a character of a text in XML, which has none of the last two of the plane; none
+/// where it stands as it is.
+fn escape_of(character: char) -> Option<&'static str> {
     match character {
-        '&' => page.put(b"&amp;"),
-        '<' => page.put(b"&lt;"),
-        '>' => page.put(b"&gt;"),
-        '\u{FFFE}' | '\u{FFFF}' => page.put("\u{FFFD}".as_bytes()),
-        _ => {
-            let mut octets = [0; 4];
-            page.put(character.encode_utf8(&mut octets).as_bytes());
-        }
+        '&' => Some("&amp;"),
+        '<' => Some("&lt;"),
+        '>' => Some("&gt;"),
+        '\u{FFFE}' | '\u{FFFF}' => Some("\u{FFFD}"),
+        _ => None,
     }
 }
 
 /// Adds the front of a text in XML, as many characters as may stand there; a longer one ends in
-/// three dots.
+/// three dots. What stands as it is goes in one piece.
 pub fn put_words(page: &mut Page, text: &str, most: usize) {
-    for (place, character) in text.chars().enumerate() {
-        if place >= most {
+    let octets = text.as_bytes();
+    let mut count = 0usize;
+    let mut start = 0;
+    for (place, character) in text.char_indices() {
+        if count >= most {
+            page.put(octets.get(start..place).unwrap_or(&[]));
             page.put("…".as_bytes());
             return;
         }
-        put_character(page, character);
+        if let Some(escape) = escape_of(character) {
+            page.put(octets.get(start..place).unwrap_or(&[]));
+            page.put(escape.as_bytes());
+            start = place.saturating_add(character.len_utf8());
+        }
+        count = count.saturating_add(1);
     }
+    page.put(octets.get(start..).unwrap_or(&[]));
 }
