@@ -142,9 +142,9 @@ impl Joining {
         Ok(())
     }
 
-    /// Drops the sets that are old at the moment of a stamp, where it is the greatest so far.
-    fn go_on(&mut self, stamp: Stamp, page: &mut Page) -> Result<(), Fault> {
-        let Some(moment) = stamp.moment() else {
+    /// Drops the sets that are old at a moment, where it is the greatest so far.
+    fn go_on(&mut self, moment: Option<u64>, page: &mut Page) -> Result<(), Fault> {
+        let Some(moment) = moment else {
             return Ok(());
         };
         if moment <= self.clock {
@@ -161,18 +161,49 @@ impl Joining {
     /// Tells the sets that are old, and forgets them.
     fn drop_old(&mut self, page: &mut Page) -> Result<(), Fault> {
         if self.is_verbose {
-            for (place, text) in self.open.iter() {
-                if text.is_old(self.clock) {
-                    put_open(self.alloc, self.form, "dropped", place, text, page)?;
-                }
-            }
+            self.tell_old(page)?;
         }
         self.open.age(self.clock);
         Ok(())
     }
 
-    /// Offers a piece, and adds what comes of it.
-    fn offer(&mut self, number: u64, piece: Piece, page: &mut Page) -> Result<(), Fault>
+    /// Tells the sets that are old, which are the ones that were opened first.
+    fn tell_old(&self, page: &mut Page) -> Result<(), Fault> {
+        let mut next = self.open.first();
+        for _ in 0..self.open.count() {
+            let Some((place, text)) = next else {
+                break;
+            };
+            if !text.is_old(self.clock) {
+                break;
+            }
+            put_open(self.alloc, self.form, "dropped", place, text, page)?;
+            next = self.open.after(text);
+        }
+        Ok(())
+    }
+
+    /// Tells all sets, the one first that was opened first.
+    fn tell_open(&self, page: &mut Page) -> Result<(), Fault> {
+        let mut next = self.open.first();
+        for _ in 0..self.open.count() {
+            let Some((place, text)) = next else {
+                break;
+            };
+            put_open(self.alloc, self.form, "open", place, text, page)?;
+            next = self.open.after(text);
+        }
+        Ok(())
+    }
+
+    /// Offers a piece, of which the moment is given, and adds what comes of it.
+    fn offer(
+        &mut self,
+        number: u64,
+        piece: Piece,
+        moment: Option<u64>,
+        page: &mut Page,
+    ) -> Result<(), Fault>
         requires { IsPlace piece.concat }
     {
         let Piece {
@@ -183,7 +214,7 @@ impl Joining {
         } = piece;
         match self.joiner.offer(self.clock, &origin, stamp, concat, units) {
             Ok(Offer::Finished(text)) => {
-                put_text(self.alloc, self.form, &origin, stamp, &text, page)?;
+                put_text(self.alloc, self.form, &origin, moment, &text, page)?;
                 drop(text);
                 self.open.close(origin, concat);
                 Ok(())
@@ -210,8 +241,9 @@ impl Joining {
     fn take_piece(&mut self, number: u64, piece: Piece, page: &mut Page) -> Result<(), Fault>
         requires { IsPlace piece.concat }
     {
-        let gone = self.go_on(piece.stamp, page);
-        let offered = self.offer(number, piece, page);
+        let moment = piece.stamp.moment();
+        let gone = self.go_on(moment, page);
+        let offered = self.offer(number, piece, moment, page);
         gone?;
         offered
     }
@@ -222,13 +254,13 @@ fn put_text(
     alloc: Global,
     form: Form,
     origin: &Address,
-    stamp: Stamp,
+    moment: Option<u64>,
     text: &str,
     page: &mut Page,
 ) -> Result<(), Fault> {
     let party = AddressText::of(alloc, origin)?;
     let from = Party::new(party.as_str(), Numbering::of(origin));
-    let moment = Moment(stamp.moment());
+    let moment = Moment(moment);
     if form == Form::Plain {
         put_values(page, moment, from, text);
     } else {
@@ -343,10 +375,7 @@ impl Taker for Joining {
     }
 
     fn finish(&mut self, page: &mut Page) -> Result<(), Fault> {
-        for (place, text) in self.open.iter() {
-            put_open(self.alloc, self.form, "open", place, text, page)?;
-        }
-        Ok(())
+        self.tell_open(page)
     }
 }
 

@@ -1,7 +1,6 @@
 //! The sets of segments that are not whole, as the answers of a joiner tell them.
 
 use indexmap::IndexMap;
-use indexmap::map::Iter;
 use sms_field::Address;
 use sms_tpdu::{Concat, Width};
 use std::alloc::{AllocError, Global};
@@ -29,6 +28,10 @@ pub struct OpenText {
     opened: u64,
     /// The sequences of those that came, in the order in which they did.
     come: Vec<u8>,
+    /// The index of the set that was opened before this one; none of the first.
+    before: Option<usize>,
+    /// The index of the set that was opened after this one; none of the last.
+    after: Option<usize>,
 }
 
 impl OpenText {
@@ -43,12 +46,15 @@ impl OpenText {
     }
 }
 
-/// The sets that are open.
+/// The sets that are open. Each knows its neighbours in the order of opening, so that none moves
+/// when another one leaves. No set is opened at an earlier moment than those before it.
 #[derive(Drop)]
 pub struct OpenTexts {
     texts: IndexMap<Place, OpenText>,
-    /// No set is old before this moment.
-    due: u64,
+    /// The index of the set that was opened first.
+    first: Option<usize>,
+    /// The index of the set that was opened last.
+    last: Option<usize>,
 }
 
 impl OpenTexts {
@@ -56,7 +62,8 @@ impl OpenTexts {
     pub fn new(alloc: Global) -> OpenTexts {
         OpenTexts {
             texts: IndexMap::new(alloc),
-            due: u64::MAX,
+            first: None,
+            last: None,
         }
     }
 
@@ -75,6 +82,33 @@ impl OpenTexts {
         let place = place_of(origin, concat);
         self.put(alloc, place, concat.sequence, now)
     }
+
+    /// How many there are.
+    pub fn count(&self) -> usize {
+        self.texts.len()
+    }
+
+    /// The set that was opened first.
+    pub fn first(&self) -> Option<(&Place, &OpenText)> {
+        self.texts.get_index(self.first?)
+    }
+
+    /// The set that was opened after another one.
+    pub fn after(&self, text: &OpenText) -> Option<(&Place, &OpenText)> {
+        self.texts.get_index(text.after?)
+    }
+
+    /// The index of the set that was opened first, where it is old at a moment.
+    fn first_old(&self, now: u64) -> Option<usize> {
+        let index = self.first?;
+        let (_, text) = self.texts.get_index(index)?;
+        text.is_old(now).then_some(index)
+    }
+
+    /// Whether a set is old at a moment.
+    pub fn has_old(&self, now: u64) -> bool {
+        self.first_old(now).is_some()
+    }
 }
 
 impl OpenTexts {
@@ -91,47 +125,84 @@ impl OpenTexts {
             drop(place);
             return Ok(put?);
         }
-        self.due = self.due.min(now.saturating_add(OLD));
         let come = vec![in alloc; sequence]?;
-        self.texts.insert(place, OpenText { opened: now, come })?;
+        let text = OpenText {
+            opened: now,
+            come,
+            before: self.last,
+            after: None,
+        };
+        let index = self.texts.len();
+        self.texts.insert(place, text)?;
+        self.set_after(self.last, Some(index));
+        self.last = Some(index);
         Ok(())
+    }
+
+    /// After a set, or at the beginning where none is given, comes this one now.
+    fn set_after(&mut self, before: Option<usize>, after: Option<usize>) {
+        let Some(index) = before else {
+            self.first = after;
+            return;
+        };
+        if let Some(text) = self.texts.get_index_mut(index) {
+            text.after = after;
+        }
+    }
+
+    /// Before a set, or at the end where none is given, comes this one now.
+    fn set_before(&mut self, after: Option<usize>, before: Option<usize>) {
+        let Some(index) = after else {
+            self.last = before;
+            return;
+        };
+        if let Some(text) = self.texts.get_index_mut(index) {
+            text.before = before;
+        }
+    }
+
+    /// The neighbours of the set at an index.
+    fn neighbours(&self, index: usize) -> Option<(Option<usize>, Option<usize>)> {
+        let (_, text) = self.texts.get_index(index)?;
+        Some((text.before, text.after))
+    }
+
+    /// Drops the set at an index, whose place in the map the last one there takes.
+    fn remove(&mut self, index: usize) {
+        let Some((before, after)) = self.neighbours(index) else {
+            return;
+        };
+        self.set_after(before, after);
+        self.set_before(after, before);
+        drop(self.texts.swap_remove_index(index));
+        if let Some((before, after)) = self.neighbours(index) {
+            self.set_after(before, Some(index));
+            self.set_before(after, Some(index));
+        }
     }
 
     /// A set is whole.
     pub fn close(&mut self, origin: Address, concat: Option<Concat>) {
-        match concat {
-            Some(concat) => {
-                let place = place_of(origin, concat);
-                drop(self.texts.shift_remove(&place));
-                drop(place);
-            }
-            None => drop(origin),
+        let Some(concat) = concat else {
+            drop(origin);
+            return;
+        };
+        let place = place_of(origin, concat);
+        let index = self.texts.get_index_of(&place);
+        drop(place);
+        if let Some(index) = index {
+            self.remove(index);
         }
     }
 
-    /// Whether a set is old at a moment.
-    pub fn has_old(&self, now: u64) -> bool {
-        self.due <= now
-    }
-
-    /// Drops the sets that are old at a moment.
+    /// Drops the sets that are old at a moment, which are the ones that were opened first.
     pub fn age(&mut self, now: u64) {
-        self.texts.retain(|_place: &Place, text: &mut OpenText| -> bool { !text.is_old(now) });
-        self.due = self.first_due();
-    }
-
-    /// When the first of the sets is old.
-    fn first_due(&self) -> u64 {
-        let mut due = u64::MAX;
-        for text in self.texts.values() {
-            due = due.min(text.opened.saturating_add(OLD));
+        for _ in 0..self.texts.len() {
+            let Some(index) = self.first_old(now) else {
+                break;
+            };
+            self.remove(index);
         }
-        due
-    }
-
-    /// The sets, the one first that was opened first.
-    pub fn iter(&self) -> Iter<'_, Place, OpenText> {
-        self.texts.iter()
     }
 }
 

@@ -26,6 +26,8 @@ mod made;
 #[cfg(test)]
 mod objects;
 #[cfg(test)]
+mod open_sets;
+#[cfg(test)]
 mod orders;
 #[cfg(test)]
 mod plays;
