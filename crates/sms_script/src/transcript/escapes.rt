@@ -1,6 +1,6 @@
 //! Texts in one line.
 
-ghost use Rattle.std.specs.Prelude.{◌≡◌, ◌↔◌, [], ◌∷◌, ◌++◌, IsTrue, OnOk};
+ghost use Rattle.std.specs.Prelude.{◌≡◌, ◌↔◌, [], ◌∷◌, ◌++◌, IsTrue, OnOk, true};
 ghost use Rattle.sms_script.specs.Transcript.Escapes.{escape, escape_as, escaped};
 
 use std::alloc::AllocError;
@@ -57,12 +57,33 @@ fn push_octet(out: &mut Vec<u8>, octet: u8) -> Result<(), AllocError>
     Ok(())
 }
 
-/// Adds a text, escaped so that it stays in one line.
-pub fn push_escaped(out: &mut Vec<u8>, text: &[u8]) -> Result<(), AllocError>
+/// Whether octets of a text stand in one line as they are.
+fn are_plain(octets: &[u8]) -> bool
+    ensures { result ≡ true → escaped octets.now ≡ octets.now }
+{
+    let mut all = true;
+    for octet in octets {
+        all &= Escape::is_plain(*octet);
+    }
+    all
+}
+
+/// Adds a text octet by octet, escaped so that it stays in one line.
+fn push_each(out: &mut Vec<u8>, text: &[u8]) -> Result<(), AllocError>
     ensures { OnOk result (out.new.items ≡ out.old.items ++ escaped text.now) }
 {
     for octet in text {
         push_octet(out, *octet)?;
     }
     Ok(())
+}
+
+/// Adds a text, escaped so that it stays in one line. Most texts stand in it as they are.
+pub fn push_escaped(out: &mut Vec<u8>, text: &[u8]) -> Result<(), AllocError>
+    ensures { OnOk result (out.new.items ≡ out.old.items ++ escaped text.now) }
+{
+    if are_plain(text) {
+        return out.extend_from_slice(text);
+    }
+    push_each(out, text)
 }
