@@ -10,6 +10,7 @@ pub mod FitLemmas
 pub mod EscapeLemmas
 pub mod HexLemmas
 pub mod PacketLemmas
+pub mod PartLemmas
 pub mod PutLemmas
 pub mod RunLemmas
 pub mod RunningLemmas

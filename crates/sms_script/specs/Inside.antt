@@ -2,3 +2,4 @@
 pub mod Events
 pub mod NextLine
 pub mod Standing
+pub mod Parts

@@ -5,5 +5,5 @@ mod source;
 mod watched;
 
 pub use sink::{Sink, write_whole};
-pub use source::{DeviceFailed, Source, next_octet};
+pub use source::{DeviceFailed, Source, copy_in_line, next_octet};
 pub use watched::Watched;

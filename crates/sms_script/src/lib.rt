@@ -11,7 +11,7 @@ mod script;
 mod transcript;
 mod words;
 
-pub use devices::{DeviceFailed, Sink, Source, Watched, write_whole};
+pub use devices::{DeviceFailed, Sink, Source, Watched, copy_in_line, write_whole};
 pub use fault::{PlayFault, ScriptFault};
 pub use lines::{LineEnd, LineFault, read_line};
 pub use meaning::{Event, Limit, Text};

@@ -1,11 +1,14 @@
 //! Lines read from a source.
 
-ghost use Rattle.std.specs.Prelude.{◌≡◌, ◌≢◌, ◌++◌, ◌∷◌, [], Ok, Err, true, false, length, nat_lt};
-ghost use Rattle.sms_script.specs.Lines.{line_limit, strip_carriage_return};
+ghost use Rattle.std.specs.Prelude.{◌≡◌, ◌≢◌, ◌<◌, ◌≤◌, ◌+◌, ◌-◌, ◌++◌, ◌∷◌, [], ℕ, List, Option, Ok, Err, IfOk, IsOk, IsErr, true, false, length, nat_lt, take};
+ghost use Rattle.std.specs.Io.KnownBytes.{Consumes};
+ghost use Rattle.std.specs.Vec.{vec_len, vec_capacity};
+ghost use Rattle.sms_script.specs.Inside.Parts.{EndsPart, TakesPart};
+ghost use Rattle.sms_script.specs.Lines.{line_limit, strip_carriage_return, HasNoLineFeed};
 ghost use Rattle.sms_script.specs.Lines.Reading.{ReadsLine};
 ghost use Rattle.sms_script.specs.declared.lines.LineFault.TheVariants.{Memory};
 
-use crate::devices::{Source, next_octet};
+use crate::devices::{DeviceFailed, Source, next_octet};
 use std::alloc::AllocFailed;
 use thiserror::Error;
 
@@ -67,22 +70,108 @@ fn is_longer(line: &[u8], octet: u8) -> bool
 /// The most octets of a line that are kept: those of a line, and a carriage return.
 const ROOM: usize = LINE_LIMIT + 1;
 
-/// Reads one line, without its line feed and the carriage return before it, from a source that must
-/// not have failed yet, nor told its end. Of a line that is too long no octet is read after the one
-/// that shows it.
-pub fn read_line<S: Source>(source: &mut S, line: &mut Vec<u8>) -> Result<LineEnd, LineFault>
+/// The most octets that are read at once.
+const PART: usize = 64;
+
+/// What follows a part of a line.
+#[derive(Clone, Copy, Debug, PartialEq, Eq)]
+enum Part {
+    /// More of the line, or its end.
+    More,
+    /// Its line feed came.
+    LineFeed,
+    /// The source told its end.
+    EndOfSource,
+}
+
+/// Adds octets, for which there is room.
+fn push_part(line: &mut Vec<u8>, octets: &[u8])
+    requires { vec_len line.old + length octets.now ≤ vec_capacity line.old }
+    ensures items { line.new.items ≡ line.old.items ++ octets.now }
+    ensures capacity { vec_capacity line.old ≤ vec_capacity line.new }
+{
+    if line.extend_from_slice(octets).is_err() {
+        unreachable!();
+    }
+}
+
+/// Adds octets that were read, of which none but the last can be a line feed, which is not kept.
+/// There is room for them.
+fn end_part(line: &mut Vec<u8>, octets: &[u8]) -> Part
+    requires room { vec_len line.old + length octets.now ≤ vec_capacity line.old }
+    requires line { HasNoLineFeed (take (length octets.now - 1) octets.now) }
+    ensures ends { EndsPart line.old.items line.new.items octets.now result }
+    ensures capacity { vec_capacity line.old ≤ vec_capacity line.new }
+{
+    let Some((last, front)) = octets.split_last() else {
+        return Part::EndOfSource;
+    };
+    if *last == b'\n' {
+        push_part(line, front);
+        return Part::LineFeed;
+    }
+    push_part(line, octets);
+    Part::More
+}
+
+/// Reads more octets of a line into a buffer, and from there into the line: up to the line feed,
+/// which is not kept. With as many octets as the buffer has, the line is not too long.
+fn read_through<S: Source>(
+    source: &mut S,
+    line: &mut Vec<u8>,
+    buffer: &mut [u8],
+) -> Result<Part, DeviceFailed>
     requires works { S.has_failed source.old ≡ false }
     requires goes_on { S.has_ended source.old ≡ false }
-    ensures reads { let old = S.remaining source.old in
-        ReadsLine old (S.remaining source.new) line.new.items result }
+    requires some { 0 < length buffer.old }
+    requires short { vec_len line.old + length buffer.old ≤ line_limit }
+    requires room { line_limit + 1 ≤ vec_capacity line.old }
+    ensures takes { let old = S.remaining source.old in
+        TakesPart old (S.remaining source.new) line.old.items line.new.items result }
+    ensures room { line_limit + 1 ≤ vec_capacity line.new }
+    ensures fails { IsErr result → S.has_failed source.new ≡ true }
+    ensures works { IsOk result → S.has_failed source.new ≡ false }
+    ensures goes_on { IfOk result (λ part. part ≢ Part.EndOfSource
+        → S.has_ended source.new ≡ false) }
+{
+    let given = source.read_in_line(buffer)?;
+    Ok(end_part(line, &buffer[..given]))
+}
+
+/// Reads more octets of a line that has fewer than a line may have, up to its line feed, which is
+/// not kept, and up to the greatest length.
+fn read_part<S: Source>(source: &mut S, line: &mut Vec<u8>) -> Result<Part, DeviceFailed>
+    requires works { S.has_failed source.old ≡ false }
+    requires goes_on { S.has_ended source.old ≡ false }
+    requires short { vec_len line.old < line_limit }
+    requires room { line_limit + 1 ≤ vec_capacity line.old }
+    ensures takes { let old = S.remaining source.old in
+        TakesPart old (S.remaining source.new) line.old.items line.new.items result }
+    ensures room { line_limit + 1 ≤ vec_capacity line.new }
+    ensures fails { IsErr result → S.has_failed source.new ≡ true }
+    ensures works { IsOk result → S.has_failed source.new ≡ false }
+    ensures goes_on { IfOk result (λ part. part ≢ Part.EndOfSource
+        → S.has_ended source.new ≡ false) }
+{
+    let mut part = [0u8; PART];
+    let count = (LINE_LIMIT - line.len()).min(PART);
+    read_through(source, line, &mut part[..count])
+}
+
+/// Reads the rest of a line octet by octet.
+fn read_rest<S: Source>(source: &mut S, line: &mut Vec<u8>) -> Result<LineEnd, LineFault>
+    requires works { S.has_failed source.old ≡ false }
+    requires goes_on { S.has_ended source.old ≡ false }
+    requires no_feed { HasNoLineFeed line.old.items }
+    requires few { length (strip_carriage_return line.old.items) ≤ line_limit }
+    requires room { line_limit + 1 ≤ vec_capacity line.old }
+    ensures reads { (start : Option (List ℕ))
+        → Consumes start (S.remaining source.old) line.old.items
+        → ReadsLine start (S.remaining source.new) line.new.items result }
     ensures fails { result ≡ Err LineFault.Read → S.has_failed source.new ≡ true }
     ensures works { result ≢ Err LineFault.Read → S.has_failed source.new ≡ false }
     ensures goes_on { result ≡ Ok LineEnd.LineFeed → S.has_ended source.new ≡ false }
 {
-    line.clear();
-    if line.reserve(ROOM).is_err() {
-        return Err(LineFault::Memory);
-    }
     loop {
         match next_octet(source) {
             Ok(Some(b'\n')) => {
@@ -104,4 +193,34 @@ pub fn read_line<S: Source>(source: &mut S, line: &mut Vec<u8>) -> Result<LineEn
             Err(_) => return Err(LineFault::Read),
         }
     }
+}
+
+/// Reads one line, without its line feed and the carriage return before it, from a source that must
+/// not have failed yet, nor told its end. Of a line that is too long no octet is read after the one
+/// that shows it.
+pub fn read_line<S: Source>(source: &mut S, line: &mut Vec<u8>) -> Result<LineEnd, LineFault>
+    requires works { S.has_failed source.old ≡ false }
+    requires goes_on { S.has_ended source.old ≡ false }
+    ensures reads { let old = S.remaining source.old in
+        ReadsLine old (S.remaining source.new) line.new.items result }
+    ensures fails { result ≡ Err LineFault.Read → S.has_failed source.new ≡ true }
+    ensures works { result ≢ Err LineFault.Read → S.has_failed source.new ≡ false }
+    ensures goes_on { result ≡ Ok LineEnd.LineFeed → S.has_ended source.new ≡ false }
+{
+    line.clear();
+    if line.reserve(ROOM).is_err() {
+        return Err(LineFault::Memory);
+    }
+    while source.gives_lines() && line.len() < LINE_LIMIT {
+        match read_part(source, line) {
+            Ok(Part::More) => {}
+            Ok(Part::LineFeed) => {
+                drop_carriage_return(line);
+                return Ok(LineEnd::LineFeed);
+            }
+            Ok(Part::EndOfSource) => return Ok(LineEnd::EndOfSource),
+            Err(_) => return Err(LineFault::Read),
+        }
+    }
+    read_rest(source, line)
 }

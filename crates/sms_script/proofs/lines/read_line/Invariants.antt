@@ -1,6 +1,6 @@
 use Rattle.std.proofs.Common.{◌≡◌, ◌≤◌, ◌+◌, ◌-◌, length, vec_len, vec_capacity, false}
 use Rattle.std.specs.Io.KnownBytes.{Consumes}
-use Rattle.sms_script.specs.Lines.{line_limit, strip_carriage_return, HasNoLineFeed}
+use Rattle.sms_script.specs.Lines.{line_limit, HasNoLineFeed}
 use Rattle.sms_script.proofs.lines.read_line.Given as goal
 
 abbrev pub invariant-loop-line : goal.invariant-loop-line
@@ -8,10 +8,10 @@ invariant-loop-line g l = record {
   works : g.S.Source.has_failed l.source ≡ false;
   goes_on : g.S.Source.has_ended l.source ≡ false;
   no_feed : HasNoLineFeed l.line.items;
-  few : length (strip_carriage_return l.line.items) ≤ line_limit;
+  few : length l.line.items ≤ line_limit;
   room : line_limit + 1 ≤ vec_capacity l.line;
   taken : Consumes (g.S.Source.remaining l.initial.source) (g.S.Source.remaining l.source) l.line.items;
 }
 
 abbrev pub decreases-loop-line : goal.decreases-loop-line
-decreases-loop-line g l = 4098 - vec_len l.line
+decreases-loop-line g l = 4096 - vec_len l.line
