@@ -4,6 +4,7 @@
 ghost use Rattle.std.specs.Prelude.{◌≡◌, ◌≤◌, length, true, false, None, IfOk, IsErr, IsOk};
 
 use crate::feed::read_some;
+use sms_script::copy_in_line;
 use sms_world::{DeviceFailed, Sink, Source};
 use std::alloc::{AllocError, Global};
 use std::cell::RefCell;
@@ -286,6 +287,28 @@ impl<R: Read, W: Write> Ear<'_, '_, '_, R, W> {
         octet
     }
 
+    /// Reads more, where no octet is left that was read and not given.
+    fn fill_empty(&mut self) -> Result<(), DeviceFailed>
+        ensures fails { IsErr result → self.new.failed ≡ true }
+        ensures works { IsOk result → self.new.failed ≡ self.old.failed }
+    {
+        if self.start < self.end {
+            return Ok(());
+        }
+        match fill(self.input, self.outlet, &mut self.room) {
+            Ok(count) => {
+                self.start = 0;
+                self.end = count;
+                Ok(())
+            }
+            Err(silence) => {
+                self.is_mute = silence == Silence::Mute;
+                self.failed = true;
+                Err(DeviceFailed)
+            }
+        }
+    }
+
     /// Gives the front of the octets that were read, more of which are read where none are left.
     #[inline(never)]
     fn read_front(&mut self, buffer: &mut [u8]) -> Result<usize, DeviceFailed>
@@ -293,19 +316,7 @@ impl<R: Read, W: Write> Ear<'_, '_, '_, R, W> {
         ensures fails { IsErr result → self.new.failed ≡ true }
         ensures works { IsOk result → self.new.failed ≡ self.old.failed }
     {
-        if self.start >= self.end {
-            match fill(self.input, self.outlet, &mut self.room) {
-                Ok(count) => {
-                    self.start = 0;
-                    self.end = count;
-                }
-                Err(silence) => {
-                    self.is_mute = silence == Silence::Mute;
-                    self.failed = true;
-                    return Err(DeviceFailed);
-                }
-            }
-        }
+        self.fill_empty()?;
         let count = match self.room.get(self.start..self.end) {
             Some(left) => copy_front(left, buffer),
             None => 0,
@@ -337,5 +348,20 @@ impl<R: Read, W: Write> Source for Ear<'_, '_, '_, R, W> {
 
     fn failed(&self) -> bool {
         self.failed
+    }
+
+    fn gives_lines(&self) -> bool {
+        true
+    }
+
+    fn read_in_line(&mut self, buffer: &mut [u8]) -> Result<usize, DeviceFailed> {
+        self.fill_empty()?;
+        let count = match self.room.get(self.start..self.end) {
+            Some(left) => copy_in_line(left, buffer),
+            None => 0,
+        };
+        self.start = self.start.saturating_add(count);
+        self.ended = count == 0 && !buffer.is_empty();
+        Ok(count)
     }
 }
