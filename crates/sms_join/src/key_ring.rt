@@ -8,11 +8,9 @@ use indexmap::IndexSet;
 use std::alloc::{AllocError, Global};
 use std::marker::Model;
 
-/// The highest limit of a ring: an index has no room for many more keys.
-pub(crate) const RING_MAX: usize = 1 << 30;
-
-/// The most keys that room is made for before they come.
-const READY: usize = 1 << 17;
+/// The highest limit of a ring. It keeps the room of the index small, and the pass short in which it
+/// clears what keys that went have left, whatever keys are picked.
+pub(crate) const RING_MAX: usize = 1 << 16;
 
 /// As many keys as the limit at most. A further one takes the place of the oldest.
 #[derive(Drop)]
@@ -43,9 +41,8 @@ fn place_after(place: usize, limit: usize) -> usize
 }
 
 impl KeyRing {
-    /// No keys, with room for the limit, up to a limit that few reach. There is twice the room: the
-    /// index is then never more than half full, and asks for none when it clears what the keys that
-    /// went have left. Beyond, the room grows with the keys.
+    /// No keys, with room for the limit. There is at least twice the room: the index is then never
+    /// more than half full, and asks for none when it clears what the keys that went have left.
     pub(crate) fn new(alloc: Global, limit: usize) -> Result<KeyRing, AllocError>
         requires some { 0 < limit }
         requires fits { limit ≤ RING_MAX }
@@ -54,7 +51,7 @@ impl KeyRing {
         Ok(KeyRing {
             limit,
             oldest: 0,
-            keys: IndexSet::with_capacity(alloc, (2 * (limit + 1)).min(READY))?,
+            keys: IndexSet::with_capacity(alloc, 2 * (limit + 1))?,
         })
     }
 
