@@ -2,10 +2,10 @@
 
 ghost use Rattle.std.specs.Prelude.{◌≡◌, ℕ, suc, ◌+◌, ◌<◌, ◌≤◌, [], ◌∷◌, ◌++◌, ◌==◌, not, nat_le, length, position, true, false, IfOk, OnOk, OnErr};
 ghost use Rattle.std.proofs.Math.ListN.{set};
-ghost use Rattle.std.specs.List.{filter, swap_remove};
+ghost use Rattle.std.specs.List.{filter, list_any, swap_remove};
 ghost use Rattle.std.specs.Str.{chars};
 ghost use Rattle.std.specs.String.{string_bytes};
-ghost use Rattle.indexmap.specs.IndexMap.{keys};
+ghost use Rattle.indexmap.specs.IndexMap.{keys, values};
 ghost use Rattle.sms_join.specs.Joiner.Finishing.{lacks_only};
 ghost use Rattle.sms_join.specs.Key.{same_key, maximum_of};
 ghost use Rattle.sms_join.specs.Inside.OpenSet.{has_set, is_in, with_piece};
@@ -57,6 +57,13 @@ fn find_key(
     slots
         .keys()
         .position(|key| key.is_of(origin, stamp, concat))
+}
+
+/// Whether any of the sets was opened too long ago.
+fn has_old(slots: &IndexMap<Key, Slot>, now: u64) -> bool
+    ensures { result ≡ list_any (λ slot. nat_le (slot.opened + 604800) now) (values slots.now) }
+{
+    slots.values().any(|slot| slot.is_old(now))
 }
 
 impl OpenSets {
@@ -173,10 +180,14 @@ impl OpenSets {
         Ok(())
     }
 
-    /// Drops those that were opened too long ago. It takes no memory.
+    /// Drops those that were opened too long ago. It takes no memory. Where there are none, as
+    /// nearly always, it moves nothing.
     pub(crate) fn age(&mut self, now: u64)
         ensures { self.new ≡ filter (λ set. not (nat_le (set.opened + 604800) now)) self.old }
     {
+        if !has_old(&self.slots, now) {
+            return;
+        }
         self.slots.retain(
             |_key: &Key, slot: &mut Slot| -> bool
                 ensures { (result ≡ not (nat_le (slot.old.opened + 604800) now))
