@@ -826,8 +826,7 @@ fn answers_after_a_refused_growth(rt: HostRuntime) -> Result<(), Fail> {
     Ok(())
 }
 
-/// The same where many keys are remembered: also an offer that finishes its set and wants memory to
-/// remember its key has changed nothing.
+/// The same where so many keys are remembered that they are found by their hashes.
 #[test]
 fn remembers_after_a_refused_growth(rt: HostRuntime) -> Result<(), Fail> {
     let other = match differs_remembering(rt.alloc()) {
