@@ -18,6 +18,9 @@ const POOL: usize = 1_000;
 /// The most lines of a script.
 const SCRIPT: u64 = 100_000;
 
+/// The most lines of a script that is drawn.
+const DRAWN: u64 = 40_000;
+
 /// Lines in the order of one joiner's narrow limits.
 const NARROW: Shape = Shape {
     flights: 8,
@@ -139,9 +142,24 @@ fn play(alloc: Global, seed: u64, count: u64, digest: &mut Digest) -> Result<()>
 }
 
 /// Draws a script.
-fn chart(alloc: Global, seed: u64, count: u64, digest: &mut Digest) -> Result<()> {
-    let script = script(alloc, seed, count)?;
+fn chart_one(alloc: Global, seed: u64, lines: u64, digest: &mut Digest) -> Result<()> {
+    let script = script(alloc, seed, lines)?;
     run_on(alloc, &["sms", "chart"], script, digest);
+    Ok(())
+}
+
+/// Draws scripts one after another.
+fn chart(alloc: Global, seed: u64, count: u64, digest: &mut Digest) -> Result<()> {
+    let mut left = count;
+    for number in 0..count {
+        let lines = left.min(DRAWN);
+        if lines == 0 {
+            break;
+        }
+        left -= lines;
+        let own = seed.wrapping_add(number.wrapping_mul(1_000_003));
+        chart_one(alloc, own, lines, digest)?;
+    }
     Ok(())
 }
 
