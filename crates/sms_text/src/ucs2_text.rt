@@ -7,6 +7,7 @@ ghost use Rattle.std.specs.Char.Utf16.{utf16_lossy_chars};
 ghost use Rattle.sms_text.specs.Utf16.{units_high_first};
 
 use crate::four_units::put_four;
+use crate::pairs::put_pair;
 use crate::spelled::unit_word;
 use crate::ucs2::{text_of_ucs2, unit, units_of_octets};
 use crate::written::{put_word, text_of_utf8};
@@ -14,7 +15,7 @@ use std::alloc::{AllocError, Global};
 
 /// Writes the text of octets from a place on, a unit at a time, and stops where at most so many
 /// octets are left, or one, which it returns with the place after the text; none where there is a
-/// half of a pair.
+/// half of a pair without the other.
 #[inline(always)]
 fn put_each<'a>(
     out: &mut [u8],
@@ -38,17 +39,21 @@ fn put_each<'a>(
         let [high, low, others @ ..] = rest else {
             break;
         };
-        let Some(word) = unit_word(unit(*high, *low)) else {
-            return None;
-        };
-        place = put_word(out, place, word);
-        rest = others;
+        if let Some(word) = unit_word(unit(*high, *low)) {
+            place = put_word(out, place, word);
+            rest = others;
+        } else {
+            let Some(after) = put_pair(out, place, rest) else {
+                return None;
+            };
+            (place, rest) = after;
+        }
     }
     Some((place, rest))
 }
 
 /// Writes the text of octets from the front on, and returns where it ends; none where there is a
-/// half of a pair.
+/// half of a pair without the other.
 #[inline(never)]
 fn put_ucs2(out: &mut [u8], octets: &[u8]) -> Option<usize>
     requires { 3 * (length octets.now / 2) + 16 ≤ length out.old }
@@ -73,7 +78,7 @@ fn put_ucs2(out: &mut [u8], octets: &[u8]) -> Option<usize>
     Some(at)
 }
 
-/// The text of octets without halves of pairs.
+/// The text of octets, where no half of a pair is without the other.
 fn text_of_whole(alloc: Global, octets: &[u8]) -> Result<Option<String>, AllocError>
     ensures { IfOk result (λ found. IfSome found (λ text.
         chars (string_bytes text) ≡ utf16_lossy_chars (units_high_first octets.now))) }

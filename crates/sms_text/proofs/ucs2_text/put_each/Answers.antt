@@ -6,8 +6,8 @@ use Rattle.std.proofs.Math.Utf8.{scalar_cases}
 use Rattle.sms_text.proofs.Ucs2Text.{unit_spelled}
 use Rattle.sms_text.proofs.ucs2_text.put_each.Goals as goal
 
-pub loop-rest-preserved : goal.loop-rest-preserved
-loop-rest-preserved c =
+pub loop-rest-preserved-in-Some : goal.loop-rest-preserved-in-Some
+loop-rest-preserved-in-Some c =
     let rest : List ℕ = c.loop-rest.rest.now in
     let before : List ℕ = take c.loop-rest.place c.loop-rest.out in
     let spelled = c.in-Some.ensures.0 in
@@ -18,3 +18,10 @@ loop-rest-preserved c =
       text = subst IsUtf8 (sym (new ∙ ap (λ (l : List ℕ). before ++ l) spelled.octets)) (IsUtf8-append _ _ c.loop-rest.invariant.text (IsUtf8-encode c.unit.result scalar));
       room = omega (arith, spelled.few, c.loop-rest.invariant.room, length-take (length rest - 2) (drop 2 rest), length-drop 2 rest);
     }
+
+pub loop-rest-preserved : goal.loop-rest-preserved
+loop-rest-preserved c = record {
+  so_far = c.in-Some-put_pair.ensures.text ∙ c.loop-rest.invariant.so_far;
+  text = c.in-Some-put_pair.ensures.utf8 c.loop-rest.invariant.text;
+  room = omega (arith, c.in-Some-put_pair.ensures.place, c.in-Some-put_pair.ensures.left, c.put_pair.auto.out, c.loop-rest.invariant.room);
+}
