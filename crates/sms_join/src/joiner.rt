@@ -16,7 +16,7 @@ use crate::key::Key;
 use crate::last_keys::LastKeys;
 use crate::offer::{Offer, OfferFault};
 use crate::open_sets::OpenSets;
-use crate::reading::read_units;
+use crate::reading::text_of_one;
 use crate::units::Units;
 use sms_field::{Address, Stamp};
 use sms_tpdu::Concat;
@@ -193,7 +193,7 @@ impl Joiner {
         ensures refused { OnErr result (self.new ≡ self.old) }
     {
         if size_of(concat) == 1 {
-            let text = read_units(self.alloc, &[units])?;
+            let text = text_of_one(self.alloc, units)?;
             let key = Key::of(self.alloc, origin, stamp, concat);
             self.finished.push(key)?;
             return Ok(Offer::Finished(text));
