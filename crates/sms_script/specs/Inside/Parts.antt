@@ -1,3 +1,5 @@
+-- A reader may pass this by: contracts of private functions, and proofs, alone cite it.
+--
 -- What reading a part of a line takes from the octets that a source has left, and adds to the line.
 use Rattle.std.specs.Prelude.{◌≡◌, ℕ, ◌<◌, ◌≤◌, List, [], ◌∷◌, ◌++◌, length, Option, Result, Ok, Err}
 use Rattle.std.specs.Io.KnownBytes.{Consumes, IsAtEnd}
