@@ -31,6 +31,7 @@ pub mod SegmentTexts
 pub mod Sendable
 pub mod Places
 pub mod KeyRings
+pub mod KeyTags
 pub mod Swapped
 pub mod Offers
 pub mod Finishing

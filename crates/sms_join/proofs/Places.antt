@@ -1,5 +1,5 @@
 -- Lists around one of their places.
-use Rattle.std.proofs.Common.{◌≡◌, ℕ, zero, suc, ◌+◌, ◌-◌, ◌<◌, ◌≤◌, ◌⊎◌, inl, inr, Bool, true, false, cond, not, ◌||◌, ltb, List, [], ◌∷◌, ◌++◌, take, drop, length, reverse, get_or, Some, None, refl, sym, ap, ◌∙◌, subst, arith, length-drop}
+use Rattle.std.proofs.Common.{◌≡◌, ℕ, zero, suc, ◌+◌, ◌-◌, ◌<◌, ◌≤◌, ◌⊎◌, inl, inr, Bool, true, false, cond, not, ◌||◌, ltb, List, [], ◌∷◌, ◌++◌, take, drop, length, reverse, get_or, Some, None, refl, sym, ap, ◌∙◌, arith, length-drop}
 use Rattle.std.proofs.Math.ListN.{set}
 use Rattle.std.proofs.lemmas.Bool.{ltb-false, cases_lt}
 use Rattle.std.proofs.lemmas.List.{take_all, take_at, take-append-drop, length-reverse, reverse-append}
@@ -8,9 +8,6 @@ use Rattle.circular_buffer.specs.Buffer.{Buffer, buffer, keep_last}
 use Rattle.sms_join.specs.declared.key.Key.{Key}
 use Rattle.sms_join.specs.Key.{same_key}
 use Rattle.sms_join.specs.Joiner.{is_among}
-use Rattle.sms_join.specs.declared.last_keys.Remembered.TheVariants.{Few}
-use Rattle.sms_join.specs.Inside.LastKeys.{LastKeysValue}
-use Rattle.sms_join.specs.Inside.Remembered.{last_keys}
 use Rattle.sms_join.specs.Inside.OpenSet.{SetValue, AreOpen, has_set, all_pieces, pieces_in}
 use Rattle.sms_join.specs.Joiner.Sets.{is_open}
 use Rattle.sms_join.proofs.SameKeys.{same_key_true}
@@ -110,11 +107,3 @@ ring_pushed b c k e = (
   ap (λ (r : Buffer Key). reverse r.items) e
       ∙ (last_first b.capacity (b.items ++ k ∷ []) ∙ ap (take b.capacity) (reverse-append b.items (k ∷ []))),
 )
-
--- a row after a key more
-pub row_pushed : (v : LastKeysValue) (b c : Buffer Key) (k : Key) → last_keys (Few b) ≡ v → c ≡ buffer (keep_last b.capacity (b.items ++ k ∷ [])) b.capacity
-    → last_keys (Few c) ≡ record { limit = v.limit; keys = take v.limit (k ∷ v.keys) }
-row_pushed v b c k view e =
-    let p = ring_pushed b c k e in
-    subst (λ (w : LastKeysValue). last_keys (Few c) ≡ record { limit = w.limit; keys = take w.limit (k ∷ w.keys) }) view
-    (λ i. record { limit = p.0 i; keys = p.1 i })

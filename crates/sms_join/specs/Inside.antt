@@ -1,5 +1,6 @@
 -- What a reader may pass by: no public contract cites it.
 pub mod KeyRings
+pub mod KeyTags
 pub mod LastKeys
 pub mod OpenSet
 pub mod Remembered

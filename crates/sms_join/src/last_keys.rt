@@ -1,14 +1,12 @@
 //! The keys of the last sets that finished.
 
 ghost use Rattle.std.specs.Prelude.{◌≡◌, ◌<◌, ◌≤◌, [], ◌∷◌, false, take, IfOk, IsOk, OnOk, OnErr};
-ghost use Rattle.std.specs.List.{list_any};
-ghost use Rattle.sms_join.specs.Key.{same_key};
 ghost use Rattle.sms_join.specs.Joiner.{is_among};
 ghost use Rattle.sms_join.specs.Piece.{key_of};
 
 use crate::key::Key;
 use crate::key_ring::{KeyRing, RING_MAX};
-use circular_buffer::HeapCircularBuffer;
+use crate::key_row::KeyRow;
 use sms_field::{Address, Stamp};
 use sms_tpdu::Concat;
 use std::alloc::{AllocError, Global};
@@ -21,8 +19,8 @@ pub(crate) const FEW_KEYS: usize = 32;
 /// Where the keys lie.
 #[derive(Drop)]
 pub(crate) enum Remembered {
-    /// In a row: the newest is the last.
-    Few(HeapCircularBuffer<Key>),
+    /// Where they are looked through one by one.
+    Few(KeyRow),
     /// Where they are found by their hashes.
     Many(KeyRing),
 }
@@ -44,17 +42,19 @@ impl Model for LastKeys {
     ghost invariant = { λ l. HasLimit l.keys };
 }
 
-/// Whether the key of such a message or segment is there.
-fn has_key(
-    keys: &HeapCircularBuffer<Key>,
+/// Whether the key of such a message or segment is in the ring. It stands by itself: a key is made
+/// for it, whose room the answer of a row would else clear too.
+#[inline(never)]
+fn is_in_ring(
+    ring: &KeyRing,
+    alloc: Global,
     origin: &Address,
     stamp: Stamp,
     concat: Option<Concat>,
 ) -> bool
-    ensures { result
-        ≡ list_any (λ key. same_key key (key_of origin.now stamp concat)) keys.now.items }
+    ensures { result ≡ is_among ring.now.keys (key_of origin.now stamp concat) }
 {
-    keys.iter().any(|key| key.is_of(origin, stamp, concat))
+    ring.contains(&Key::of(alloc, origin, stamp, concat))
 }
 
 impl LastKeys {
@@ -69,7 +69,7 @@ impl LastKeys {
                 keys: Remembered::Many(ring),
             });
         }
-        let row = HeapCircularBuffer::with_capacity(alloc, limit)?;
+        let row = KeyRow::new(alloc, limit)?;
         Ok(LastKeys {
             keys: Remembered::Few(row),
         })
@@ -86,8 +86,8 @@ impl LastKeys {
         ensures { result ≡ is_among self.now.keys (key_of origin.now stamp concat) }
     {
         match &self.keys {
-            Remembered::Few(row) => has_key(row, origin, stamp, concat),
-            Remembered::Many(ring) => ring.contains(&Key::of(alloc, origin, stamp, concat)),
+            Remembered::Few(row) => row.contains(origin, stamp, concat),
+            Remembered::Many(ring) => is_in_ring(ring, alloc, origin, stamp, concat),
         }
     }
 
@@ -104,7 +104,7 @@ impl LastKeys {
     {
         match &mut self.keys {
             Remembered::Few(row) => {
-                row.push_back(key);
+                row.push(key);
                 Ok(())
             }
             Remembered::Many(ring) => ring.push(key),

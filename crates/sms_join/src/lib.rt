@@ -5,6 +5,8 @@ mod cut;
 mod joiner;
 mod key;
 mod key_ring;
+mod key_row;
+mod key_tag;
 mod last_keys;
 pub mod laws;
 mod offer;

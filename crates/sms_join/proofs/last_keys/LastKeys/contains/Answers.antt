@@ -3,18 +3,14 @@ use Rattle.sms_join.specs.Piece.{key_of}
 use Rattle.sms_join.specs.Joiner.{is_among}
 use Rattle.sms_join.specs.Inside.LastKeys.{LastKeysValue}
 use Rattle.sms_join.specs.Inside.Remembered.{last_keys}
-use Rattle.sms_join.proofs.Places.{among_any, among_reversed}
 use Rattle.sms_join.proofs.last_keys.LastKeys.contains.Goals as goal
 
 pub returns-in-Few : goal.returns-in-Few
 returns-in-Few c =
-    c.has_key.ensures
-    ∙ (among_any c.in-Few.row.items (key_of c.args.origin.now c.args.stamp c.args.concat)
-    ∙ (sym (among_reversed c.in-Few.row.items (key_of c.args.origin.now c.args.stamp c.args.concat))
-    ∙ ap (λ (l : LastKeysValue). is_among l.keys (key_of c.args.origin.now c.args.stamp c.args.concat)) (ap last_keys (sym c.in-Few.is) ∙ c.self.view_is)))
+    c.contains.ensures
+    ∙ ap (λ (l : LastKeysValue). is_among l.keys (key_of c.args.origin.now c.args.stamp c.args.concat)) (ap last_keys (sym c.in-Few.is) ∙ c.self.view_is)
 
 pub returns-in-Many : goal.returns-in-Many
 returns-in-Many c =
-    c.contains.ensures
-    ∙ (ap (is_among c.in-Many.ring.keys) c.of.ensures
-    ∙ ap (λ (l : LastKeysValue). is_among l.keys (key_of c.args.origin.now c.args.stamp c.args.concat)) (ap last_keys (sym c.in-Many.is) ∙ c.self.view_is))
+    c.is_in_ring.ensures
+    ∙ ap (λ (l : LastKeysValue). is_among l.keys (key_of c.args.origin.now c.args.stamp c.args.concat)) (ap last_keys (sym c.in-Many.is) ∙ c.self.view_is)
