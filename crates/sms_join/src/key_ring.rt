@@ -8,8 +8,8 @@ use indexmap::IndexSet;
 use std::alloc::{AllocError, Global};
 use std::marker::Model;
 
-/// The highest limit of a ring. It keeps the room of the index small, and the pass short in which it
-/// clears what keys that went have left, whatever keys are picked.
+/// The highest limit of a ring. It keeps the room of the index small, and the pass short in which
+/// it clears what keys that went have left, whatever keys are picked.
 pub(crate) const RING_MAX: usize = 1 << 16;
 
 /// As many keys as the limit at most. A further one takes the place of the oldest.

@@ -1,4 +1,4 @@
-//! Keys in a row that are looked through one by one.
+//! Keys in a row that are looked through where one has the tag of the key that is asked for.
 
 ghost use Rattle.std.specs.Prelude.{◌≡◌, [], ◌∷◌, ◌==◌, length, take, IfOk};
 ghost use Rattle.std.specs.List.{list_any};

@@ -12,14 +12,14 @@ use sms_tpdu::Concat;
 use std::alloc::{AllocError, Global};
 use std::marker::Model;
 
-/// Up to which limit keys are looked through one by one, which then takes no more time than to
-/// hash a key.
+/// Up to which limit keys lie in a row, where all their tags are compared at once: that takes no
+/// more time than to hash a key.
 pub(crate) const FEW_KEYS: usize = 32;
 
 /// Where the keys lie.
 #[derive(Drop)]
 pub(crate) enum Remembered {
-    /// Where they are looked through one by one.
+    /// Where they are found by their tags, or looked through one by one.
     Few(KeyRow),
     /// Where they are found by their hashes.
     Many(KeyRing),
