@@ -20,33 +20,6 @@ pub struct Telephone {
 }
 
 impl Telephone {
-    /// What stands before the digits: a `+` where the type of number is 1.
-    fn before(type_of_number: u8) -> Telephone {
-        let mut telephone = Telephone {
-            characters: [0; CHARACTERS_MAX],
-            count: 0,
-        };
-        if type_of_number == 1 {
-            telephone.push(b'+');
-        }
-        telephone
-    }
-
-    /// Adds a character, where there is room.
-    fn push(&mut self, character: u8) {
-        if let Some(place) = self.characters.get_mut(self.count) {
-            *place = character;
-            self.count = self.count.saturating_add(1);
-        }
-    }
-
-    /// Adds the character of a digit.
-    fn push_digit(&mut self, digit: u8) {
-        if let Some(character) = CHARACTERS.get(usize::from(digit)) {
-            self.push(*character);
-        }
-    }
-
     /// The text.
     fn as_str(&self) -> &str {
         let characters = self.characters.get(..self.count).unwrap_or(&[]);
@@ -54,24 +27,48 @@ impl Telephone {
     }
 }
 
+/// The character of a digit, 0 to 14.
+#[inline(always)]
+fn character_of(digit: u8) -> u8 {
+    match CHARACTERS.get(usize::from(digit)) {
+        Some(character) => *character,
+        None => b' ',
+    }
+}
+
+/// How many characters stand before the digits: a `+` where the type of number is 1.
+fn before(type_of_number: u8) -> usize {
+    if type_of_number == 1 { 1 } else { 0 }
+}
+
 /// The digits that lie in octets, after a `+` where the type of number is 1.
 fn telephone_seen(type_of_number: u8, digits: &DigitsView<'_>) -> Telephone {
-    let mut telephone = Telephone::before(type_of_number);
-    for index in 0..digits.count() {
+    let mut characters = [b'+'; CHARACTERS_MAX];
+    let start = before(type_of_number);
+    let room = characters.get_mut(start..).unwrap_or(&mut []);
+    for (index, place) in (0..digits.count()).zip(room) {
         if let Some(digit) = digits.digit(index) {
-            telephone.push_digit(digit);
+            *place = character_of(digit);
         }
     }
-    telephone
+    Telephone {
+        characters,
+        count: start.saturating_add(usize::from(digits.count())),
+    }
 }
 
 /// Digits after a `+` where the type of number is 1.
 fn telephone_of(type_of_number: u8, digits: &[u8]) -> Telephone {
-    let mut telephone = Telephone::before(type_of_number);
-    for digit in digits {
-        telephone.push_digit(*digit);
+    let mut characters = [b'+'; CHARACTERS_MAX];
+    let start = before(type_of_number);
+    let room = characters.get_mut(start..).unwrap_or(&mut []);
+    for (digit, place) in digits.iter().zip(room) {
+        *place = character_of(*digit);
     }
-    telephone
+    Telephone {
+        characters,
+        count: start.saturating_add(digits.len()),
+    }
 }
 
 /// The text of an address. A telephone number takes no memory.

@@ -117,7 +117,7 @@ impl Joining {
             page.put_decimal(number);
             page.put(b": ");
             page.put(told.as_bytes());
-            page.put(b"\n");
+            page.put_one(b'\n');
             return;
         }
         let mut lines = Lines::new(self.alloc, self.form, page.take(self.alloc));
@@ -277,11 +277,11 @@ fn put_text(
 /// Adds the line of a text that is whole.
 fn put_values(page: &mut Page, moment: Moment, from: Party<'_>, text: &str) {
     moment.plain(page);
-    page.put(b" ");
+    page.put_one(b' ');
     from.plain(page);
-    page.put(b" ");
+    page.put_one(b' ');
     put_escaped(page, text);
-    page.put(b"\n");
+    page.put_one(b'\n');
 }
 
 /// A set of segments that is not whole.
@@ -309,13 +309,13 @@ impl Printed for OpenSet<'_, '_, '_> {
             u64::from(self.place.reference),
             u64::from(self.place.maximum),
         ] {
-            page.put(b" ");
+            page.put_one(b' ');
             page.put_decimal(number);
         }
         page.put(b" missing");
         for sequence in 1..=self.place.maximum {
             if !self.text.has(sequence) {
-                page.put(b" ");
+                page.put_one(b' ');
                 page.put_decimal(u64::from(sequence));
             }
         }

@@ -117,10 +117,9 @@ impl Lines {
         self.open_awaited();
         match &mut self.out {
             Out::Plain(page) => {
-                page.put(name.as_bytes());
-                page.put(b": ");
+                page.put_name(name.as_bytes());
                 value.plain(page);
-                page.put(b"\n");
+                page.put_one(b'\n');
             }
             Out::Json(object) => {
                 object.name(name);

@@ -29,39 +29,44 @@ impl Object {
     /// The page with what was written, and the end of a line after it.
     pub fn into_line(self) -> Page {
         let Object { mut page, .. } = self;
-        page.put(b"\n");
+        page.put_one(b'\n');
         page
     }
 
-    /// Adds a token, after a comma where a value stands before it.
-    fn put(&mut self, token: &[u8]) {
+    /// Adds a comma where a value stands before what comes.
+    fn part(&mut self) {
         if self.has_value {
-            self.page.put(b",");
+            self.page.put_one(b',');
         }
-        self.page.put(token);
+    }
+
+    /// Adds a token of one character, after a comma where a value stands before it.
+    fn put_one(&mut self, token: u8) {
+        self.part();
+        self.page.put_one(token);
     }
 
     /// Begins an object.
     pub fn open(&mut self) {
-        self.put(b"{");
+        self.put_one(b'{');
         self.has_value = false;
     }
 
     /// Ends an object.
     pub fn close(&mut self) {
-        self.page.put(b"}");
+        self.page.put_one(b'}');
         self.has_value = true;
     }
 
     /// Begins a list.
     pub fn open_list(&mut self) {
-        self.put(b"[");
+        self.put_one(b'[');
         self.has_value = false;
     }
 
     /// Ends a list.
     pub fn close_list(&mut self) {
-        self.page.put(b"]");
+        self.page.put_one(b']');
         self.has_value = true;
     }
 
@@ -73,9 +78,7 @@ impl Object {
 
     /// A number.
     pub fn number(&mut self, number: u64) {
-        if self.has_value {
-            self.page.put(b",");
-        }
+        self.part();
         self.page.put_decimal(number);
         self.has_value = true;
     }
@@ -92,7 +95,7 @@ impl Object {
 
     /// A text that has characters to escape: those between them in one piece.
     fn put_escaped(&mut self, octets: &[u8]) {
-        self.put(b"\"");
+        self.put_one(b'"');
         let mut start = 0;
         for (place, octet) in octets.iter().enumerate() {
             if !is_plain(*octet) {
@@ -102,27 +105,33 @@ impl Object {
             }
         }
         self.page.put(octets.get(start..).unwrap_or(&[]));
-        self.page.put(b"\"");
+        self.page.put_one(b'"');
         self.has_value = true;
     }
 
     /// What is so or not.
     pub fn flag(&mut self, flag: bool) {
-        self.put(if flag { "true" } else { "false" }.as_bytes());
+        self.part();
+        if flag {
+            self.page.put_few(b"true");
+        } else {
+            self.page.put_few(b"false");
+        }
         self.has_value = true;
     }
 
     /// What is not there.
     pub fn nothing(&mut self) {
-        self.put(b"null");
+        self.part();
+        self.page.put_few(b"null");
         self.has_value = true;
     }
 
     /// Octets in upper case hexadecimal digits, as a text.
     pub fn octets(&mut self, octets: &[u8]) {
-        self.put(b"\"");
+        self.put_one(b'"');
         self.page.put_digits(octets);
-        self.page.put(b"\"");
+        self.page.put_one(b'"');
         self.has_value = true;
     }
 
@@ -201,18 +210,18 @@ fn are_few_plain(octets: &[u8]) -> bool {
 /// Adds the escape of an octet that does not stand in JSON as it is.
 fn put_escape(page: &mut Page, octet: u8) {
     match octet {
-        b'"' => page.put(b"\\\""),
-        b'\\' => page.put(b"\\\\"),
-        8 => page.put(b"\\b"),
-        12 => page.put(b"\\f"),
-        b'\n' => page.put(b"\\n"),
-        b'\r' => page.put(b"\\r"),
-        b'\t' => page.put(b"\\t"),
+        b'"' => page.put_few(b"\\\""),
+        b'\\' => page.put_few(b"\\\\"),
+        8 => page.put_few(b"\\b"),
+        12 => page.put_few(b"\\f"),
+        b'\n' => page.put_few(b"\\n"),
+        b'\r' => page.put_few(b"\\r"),
+        b'\t' => page.put_few(b"\\t"),
         _ => {
             let digits = b"0123456789abcdef";
             let high = digits[usize::from(octet / 16)];
             let low = digits[usize::from(octet % 16)];
-            page.put(&[b'\\', b'u', b'0', b'0', high, low]);
+            page.put_few(&[b'\\', b'u', b'0', b'0', high, low]);
         }
     }
 }

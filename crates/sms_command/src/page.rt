@@ -72,6 +72,28 @@ impl Page {
         }
     }
 
+    /// Adds one octet.
+    #[inline(always)]
+    pub fn put_one(&mut self, octet: u8) {
+        match self.octets.as_mut_slice().get_mut(self.count) {
+            Some(place) if !self.is_cut => {
+                *place = octet;
+                self.count = self.count.saturating_add(1);
+            }
+            _ => self.put(&[octet]),
+        }
+    }
+
+    /// Adds a few octets whose number is known, in one copy of that size.
+    #[inline(always)]
+    pub fn put_few<const N: usize>(&mut self, octets: &[u8; N]) {
+        if !self.is_cut && put_few_at(self.octets.as_mut_slice(), self.count, octets) {
+            self.count = self.count.saturating_add(N);
+        } else {
+            self.put(octets);
+        }
+    }
+
     /// Adds octets for which no room was made ahead, and makes some behind them, where there is
     /// memory for it already.
     #[cold]
@@ -97,16 +119,44 @@ impl Page {
             let count = octets.len().saturating_add(around);
             self.count = self.count.saturating_add(count);
         } else {
-            self.put(if has_comma { ",\"" } else { "\"" }.as_bytes());
-            self.put(octets);
-            self.put(if has_colon { "\":" } else { "\"" }.as_bytes());
+            self.put_quoted_beyond(has_comma, octets, has_colon);
         }
+    }
+
+    /// Adds octets in quotes for which no room was made ahead.
+    #[cold]
+    #[inline(never)]
+    fn put_quoted_beyond(&mut self, has_comma: bool, octets: &[u8], has_colon: bool) {
+        self.put(if has_comma { ",\"" } else { "\"" }.as_bytes());
+        self.put(octets);
+        self.put(if has_colon { "\":" } else { "\"" }.as_bytes());
+    }
+
+    /// Adds the name of a line, and a colon and a blank behind it.
+    pub fn put_name(&mut self, name: &[u8]) {
+        if !self.is_cut && put_name_at(self.octets.as_mut_slice(), self.count, name) {
+            self.count = self.count.saturating_add(name.len()).saturating_add(2);
+        } else {
+            self.put_name_beyond(name);
+        }
+    }
+
+    /// Adds the name of a line for which no room was made ahead.
+    #[cold]
+    #[inline(never)]
+    fn put_name_beyond(&mut self, name: &[u8]) {
+        self.put(name);
+        self.put(b": ");
     }
 
     /// Adds a number in decimal digits.
     pub fn put_decimal(&mut self, number: u64) {
         if number < 10 {
-            self.put(&[b'0' + number as u8]);
+            self.put_one(b'0' + number as u8);
+            return;
+        }
+        if number < 100 {
+            self.put_few(&[b'0' + (number / 10) as u8, b'0' + (number % 10) as u8]);
             return;
         }
         let mut digits = itoa::Buffer::new();
@@ -115,7 +165,7 @@ impl Page {
 
     /// Adds an octet in two upper case hexadecimal digits.
     pub fn put_octet(&mut self, octet: u8) {
-        self.put(&digits_of(octet));
+        self.put_few(&digits_of(octet));
     }
 
     /// Adds octets in upper case hexadecimal digits.
@@ -141,7 +191,7 @@ impl Page {
     /// Adds octets in upper case hexadecimal digits, none as `-`.
     pub fn put_hexadecimal(&mut self, octets: &[u8]) {
         if octets.is_empty() {
-            self.put(b"-");
+            self.put_one(b'-');
         } else {
             self.put_digits(octets);
         }
@@ -189,8 +239,17 @@ fn put_whole(room: &mut [u8], octets: &[u8])
         4..=7 => put_ends::<4>(room, octets),
         8..=15 => put_ends::<8>(room, octets),
         16..=32 => put_ends::<16>(room, octets),
-        _ => room.copy_from_slice(octets),
+        _ => put_long(room, octets),
     }
+}
+
+/// Copies octets into room for as many. It stands by itself, so that a short copy needs no room on
+/// the stack.
+#[inline(never)]
+fn put_long(room: &mut [u8], octets: &[u8])
+    requires { length room.old ≡ length octets.now }
+{
+    room.copy_from_slice(octets);
 }
 
 /// Copies octets to a place of a page, and says whether there was room for all.
@@ -203,6 +262,36 @@ fn put_at(page: &mut [u8], place: usize, octets: &[u8]) -> bool {
         return false;
     }
     put_whole(room, octets);
+    true
+}
+
+/// Copies a few octets to a place of a page, and says whether there was room for all.
+#[inline(always)]
+fn put_few_at<const N: usize>(page: &mut [u8], place: usize, octets: &[u8; N]) -> bool {
+    let Some(room) = page.get_mut(place..) else {
+        return false;
+    };
+    let Some(room) = room.first_chunk_mut::<N>() else {
+        return false;
+    };
+    *room = *octets;
+    true
+}
+
+/// Copies a name, a colon and a blank to a place of a page, and says whether there was room for
+/// all.
+#[inline(always)]
+fn put_name_at(page: &mut [u8], place: usize, name: &[u8]) -> bool {
+    let count = name.len();
+    let Some(room) = page.get_mut(place..) else {
+        return false;
+    };
+    if room.len() < 2 || room.len() - 2 < count {
+        return false;
+    }
+    put_whole(&mut room[..count], name);
+    room[count] = b':';
+    room[count + 1] = b' ';
     true
 }
 

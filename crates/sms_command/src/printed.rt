@@ -14,7 +14,11 @@ pub struct Answer(pub bool);
 
 impl Printed for Answer {
     fn plain(&self, page: &mut Page) {
-        page.put(if self.0 { "yes" } else { "no" }.as_bytes());
+        if self.0 {
+            page.put_few(b"yes");
+        } else {
+            page.put_few(b"no");
+        }
     }
 
     fn json(&self, object: &mut Object) {
@@ -166,13 +170,13 @@ fn put_parts(page: &mut Page, octets: &[u8]) {
 /// Adds an octet of a text in one line.
 fn put_escaped_octet(page: &mut Page, octet: u8) {
     match Escape::of(octet) {
-        Escape::Plain => page.put(&[octet]),
-        Escape::Letter(letter) => page.put(&[b'\\', letter]),
+        Escape::Plain => page.put_one(octet),
+        Escape::Letter(letter) => page.put_few(&[b'\\', letter]),
         Escape::Digits => {
             let digits = b"0123456789abcdef";
             let high = digits[usize::from(octet / 16)];
             let low = digits[usize::from(octet % 16)];
-            page.put(&[b'\\', b'x', high, low]);
+            page.put_few(&[b'\\', b'x', high, low]);
         }
     }
 }
@@ -212,7 +216,7 @@ impl Printed for Moment {
     fn plain(&self, page: &mut Page) {
         match self.0 {
             Some(seconds) => page.put_decimal(seconds),
-            None => page.put(b"-"),
+            None => page.put_one(b'-'),
         }
     }
 
@@ -230,7 +234,7 @@ pub struct Nobody;
 
 impl Printed for Nobody {
     fn plain(&self, page: &mut Page) {
-        page.put(b"none");
+        page.put_few(b"none");
     }
 
     fn json(&self, object: &mut Object) {
@@ -271,7 +275,7 @@ impl Numbering {
 impl Printed for Numbering {
     fn plain(&self, page: &mut Page) {
         page.put_decimal(u64::from(self.type_of_number));
-        page.put(b" ");
+        page.put_one(b' ');
         page.put_decimal(u64::from(self.plan));
     }
 
@@ -291,9 +295,9 @@ pub struct StampText(pub Stamp);
 impl Printed for StampText {
     fn plain(&self, page: &mut Page) {
         match self.0.date() {
-            Some(date) => page.put(&date_text(date)),
+            Some(date) => page.put_few(&date_text(date)),
             None => {
-                page.put(b"raw ");
+                page.put_few(b"raw ");
                 page.put_hexadecimal(&self.0.octets());
             }
         }
@@ -382,11 +386,11 @@ pub struct ValidityText(pub Validity);
 impl Printed for ValidityText {
     fn plain(&self, page: &mut Page) {
         match self.0 {
-            Validity::Absent => page.put(b"none"),
+            Validity::Absent => page.put_few(b"none"),
             Validity::Relative(octet) => {
                 page.put(b"relative ");
                 page.put_decimal(u64::from(octet));
-                page.put(b" ");
+                page.put_one(b' ');
                 page.put_decimal(seconds_of(octet));
             }
             Validity::Enhanced(octets) => {
@@ -447,11 +451,11 @@ pub fn bits_of(width: Width) -> u64 {
 impl Printed for ConcatText {
     fn plain(&self, page: &mut Page) {
         page.put_decimal(bits_of(self.0.width));
-        page.put(b" ");
+        page.put_one(b' ');
         page.put_decimal(u64::from(self.0.reference));
-        page.put(b" ");
+        page.put_one(b' ');
         page.put_decimal(u64::from(self.0.maximum));
-        page.put(b" ");
+        page.put_one(b' ');
         page.put_decimal(u64::from(self.0.sequence));
     }
 
@@ -514,7 +518,7 @@ pub struct TransactionText {
 
 impl Printed for TransactionText {
     fn plain(&self, page: &mut Page) {
-        page.put(if self.flag { b"1 " } else { b"0 " });
+        page.put_few(if self.flag { b"1 " } else { b"0 " });
         page.put_decimal(u64::from(self.value));
     }
 

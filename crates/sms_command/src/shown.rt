@@ -156,7 +156,7 @@ impl Taker for Showing<'_> {
         page: &mut Page,
     ) -> Result<(), Fault> {
         if self.has_begun && self.shown.form == Form::Plain {
-            page.put(b"\n");
+            page.put_one(b'\n');
         }
         self.has_begun = true;
         let number = Some(number);
