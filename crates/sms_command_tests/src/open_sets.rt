@@ -8,8 +8,8 @@ use std::alloc::Global;
 use std::process::Abort;
 use std::test::Fail;
 
-/// How many hours after its first segment a set is old.
-const OLD: usize = 168;
+/// How many seconds after its first segment a set is old.
+const OLD: u64 = 604_800;
 
 /// How many sets there are segments of at a time.
 const WINDOW: usize = 40;
@@ -18,8 +18,8 @@ const WINDOW: usize = 40;
 #[derive(Drop)]
 struct OpenSet {
     reference: usize,
-    /// The hour in which it was opened.
-    opened: usize,
+    /// When it was opened, in seconds since the beginning of 2024.
+    opened: u64,
     /// Which of its segments came.
     come: [bool; 3],
 }
@@ -28,35 +28,89 @@ struct OpenSet {
 #[derive(Drop)]
 struct Listed {
     sets: Vec<OpenSet>,
+    /// The greatest moment so far.
+    clock: u64,
+    is_json: bool,
     told: String,
 }
 
-/// Adds a line that tells a set.
-fn push_told(alloc: Global, told: &mut String, name: &str, set: &OpenSet) -> Result<(), Fail> {
-    let front = format!(in alloc; "{name}: +1003 16 {} 3 missing", set.reference)?;
-    told.push_str(&front)?;
-    let [first, second, third] = set.come;
-    told.push_str(if first { "" } else { " 1" })?;
-    told.push_str(if second { "" } else { " 2" })?;
-    told.push_str(if third { "" } else { " 3" })?;
-    told.push('\n')?;
-    Ok(())
+/// The numbers of the segments of a set that did not come, with this between them.
+fn missing_of(alloc: Global, set: &OpenSet, between: &str) -> Result<String, Fail> {
+    let mut missing = String::new(alloc);
+    for (place, has_come) in set.come.iter().enumerate() {
+        if !*has_come {
+            let number = format!(in alloc; "{}", place.saturating_add(1))?;
+            missing.push_str(if missing.is_empty() { "" } else { between })?;
+            missing.push_str(&number)?;
+        }
+    }
+    Ok(missing)
+}
+
+/// The line that tells a set.
+fn plain_line(alloc: Global, name: &str, set: &OpenSet) -> Result<String, Fail> {
+    let missing = missing_of(alloc, set, " ")?;
+    Ok(format!(in alloc; "{name}: +1003 16 {} 3 missing {missing}\n", set.reference)?)
+}
+
+/// The object that tells a set.
+fn object_line(alloc: Global, name: &str, set: &OpenSet) -> Result<String, Fail> {
+    let missing = missing_of(alloc, set, ",")?;
+    let number = format!(in alloc; "{}", set.reference)?;
+    let parts = [
+        "{\"",
+        name,
+        "\":{\"origin\":{\"text\":\"+1003\",\"type\":1,\"plan\":1},\"width\":16,\"reference\":",
+        number.as_str(),
+        ",\"maximum\":3,\"missing\":[",
+        missing.as_str(),
+        "]}}\n",
+    ];
+    Ok(parts.concat(alloc)?)
 }
 
 impl Listed {
-    /// Tells the sets that are old in an hour, and takes them out.
-    fn age(&mut self, alloc: Global, hour: usize) -> Result<(), Fail> {
+    /// None.
+    fn new(alloc: Global, is_json: bool) -> Listed {
+        Listed {
+            sets: Vec::new(alloc),
+            clock: 0,
+            is_json,
+            told: String::new(alloc),
+        }
+    }
+
+    /// Tells the sets that are old, or all.
+    fn tell(&mut self, alloc: Global, name: &str, are_all: bool) -> Result<(), Fail> {
         for set in &self.sets {
-            if set.opened.saturating_add(OLD) <= hour {
-                push_told(alloc, &mut self.told, "dropped", set)?;
+            if are_all || set.opened.saturating_add(OLD) <= self.clock {
+                let line = if self.is_json {
+                    object_line(alloc, name, set)?
+                } else {
+                    plain_line(alloc, name, set)?
+                };
+                self.told.push_str(&line)?;
             }
         }
-        self.sets.retain(|set: &OpenSet| -> bool { set.opened.saturating_add(OLD) > hour });
+        Ok(())
+    }
+
+    /// Goes on to a moment, where it is the greatest so far, and takes out the sets that are old.
+    fn go_on(&mut self, alloc: Global, moment: Option<u64>) -> Result<(), Fail> {
+        let Some(moment) = moment else {
+            return Ok(());
+        };
+        if moment <= self.clock {
+            return Ok(());
+        }
+        self.clock = moment;
+        self.tell(alloc, "dropped", false)?;
+        self.sets.retain(|set: &OpenSet| -> bool { set.opened.saturating_add(OLD) > moment });
         Ok(())
     }
 
     /// The place of the set of a reference, which is opened where it is not there.
-    fn place_of(&mut self, reference: usize, hour: usize) -> Result<usize, Fail> {
+    fn place_of(&mut self, reference: usize) -> Result<usize, Fail> {
         for (place, set) in self.sets.iter().enumerate() {
             if set.reference == reference {
                 return Ok(place);
@@ -65,7 +119,7 @@ impl Listed {
         let place = self.sets.len();
         self.sets.push(OpenSet {
             reference,
-            opened: hour,
+            opened: self.clock,
             come: [false; 3],
         })?;
         Ok(place)
@@ -84,38 +138,101 @@ impl Listed {
     }
 
     /// A segment comes.
-    fn take(&mut self, reference: usize, sequence: usize, hour: usize) -> Result<(), Fail> {
-        let place = self.place_of(reference, hour)?;
+    fn take(&mut self, reference: usize, sequence: usize) -> Result<(), Fail> {
+        let place = self.place_of(reference)?;
         if self.note(place, sequence) && place < self.sets.len() {
             drop(self.sets.remove(place));
         }
         Ok(())
     }
 
-    /// Tells all sets.
-    fn tell(&mut self, alloc: Global) -> Result<(), Fail> {
-        for set in &self.sets {
-            push_told(alloc, &mut self.told, "open", set)?;
+    /// When the set at a place was opened; now where there is none.
+    fn opened_at(&self, place: usize) -> u64 {
+        match self.sets.get(place) {
+            Some(set) => set.opened,
+            None => self.clock,
         }
-        Ok(())
     }
 }
 
-/// Two decimal digits, the second one first.
-fn swapped(alloc: Global, number: usize) -> Result<String, Fail> {
-    Ok(format!(in alloc; "{}{}", number % 10, number / 10 % 10)?)
+/// How the stamps of segments follow one another.
+#[derive(Clone, Copy, Debug, PartialEq, Eq)]
+enum Order {
+    /// Each is an hour after the one before.
+    Rising,
+    /// They stay, fall and rise, or have no date.
+    Made,
 }
 
-/// The stamp of an hour of June 2024.
-fn stamp_of(alloc: Global, hour: usize) -> Result<String, Fail> {
-    let day = swapped(alloc, hour / 24 + 1)?;
-    let hour = swapped(alloc, hour % 24)?;
-    Ok(format!(in alloc; "4260{day}{hour}000000")?)
+/// The moment of the stamp that follows: some are just before, at and after the moment at which one
+/// of the first sets is old.
+fn made_moment(made: &mut Made, listed: &Listed) -> Option<u64> {
+    let now = listed.clock;
+    match made.below(16) {
+        0 => None,
+        1..=4 => Some(now),
+        5 => Some(now.saturating_sub(1)),
+        6 => Some(now.saturating_sub(60 * made.below(30_000) as u64)),
+        7 => Some(now.saturating_add(1)),
+        8 => {
+            let opened = listed.opened_at(made.below(4));
+            let due = opened.saturating_add(OLD).saturating_sub(1);
+            Some(due.saturating_add(made.below(3) as u64))
+        }
+        _ => Some(now.saturating_add(made.below(7_200) as u64)),
+    }
+}
+
+impl Order {
+    /// The moment of the stamp that follows.
+    fn next(self, made: &mut Made, listed: &Listed) -> Option<u64> {
+        match self {
+            Order::Rising => Some(listed.clock.saturating_add(3_600)),
+            Order::Made => made_moment(made, listed),
+        }
+    }
+}
+
+/// How many days the months of 2024 have.
+static MONTHS: [u64; 12] = [31, 29, 31, 30, 31, 30, 31, 31, 30, 31, 30, 31];
+
+/// The month and the day in it, after as many days of 2024.
+fn month_and_day(days: u64) -> (u64, u64) {
+    let mut day = days;
+    let mut month = 1u64;
+    for length in MONTHS {
+        if day < length {
+            break;
+        }
+        day = day.saturating_sub(length);
+        month = month.saturating_add(1);
+    }
+    (month, day.saturating_add(1))
+}
+
+/// The stamp of a moment of 2024, or one without a date.
+fn stamp_of(alloc: Global, moment: Option<u64>) -> Result<String, Fail> {
+    let Some(moment) = moment else {
+        return Ok(format!(in alloc; "FFFFFFFFFFFFFF")?);
+    };
+    let (month, day) = month_and_day(moment / 86_400);
+    let hour = moment / 3_600 % 24;
+    let mut stamp = String::new(alloc);
+    for number in [24, month, day, hour, moment / 60 % 60, moment % 60, 0] {
+        let digits = format!(in alloc; "{}{}", number % 10, number / 10 % 10)?;
+        stamp.push_str(&digits)?;
+    }
+    Ok(stamp)
 }
 
 /// The line of a segment, whose sequence counts from 0.
-fn line_of(alloc: Global, reference: usize, sequence: usize, hour: usize) -> Result<String, Fail> {
-    let stamp = stamp_of(alloc, hour)?;
+fn line_of(
+    alloc: Global,
+    reference: usize,
+    sequence: usize,
+    moment: Option<u64>,
+) -> Result<String, Fail> {
+    let stamp = stamp_of(alloc, moment)?;
     let place = format!(in alloc; "{reference:04X}03{:02X}", sequence.saturating_add(1))?;
     Ok(format!(in alloc; "44049101300008{stamp}09060804{place}0061\n")?)
 }
@@ -176,29 +293,29 @@ impl Coming {
 }
 
 /// The lines of an input, and the sets that it leaves open.
-fn filled(alloc: Global, seed: u64, input: &mut String) -> Result<Listed, Fail> {
+fn filled(alloc: Global, seed: u64, order: Order, listed: &mut Listed) -> Result<String, Fail> {
     let mut coming = Coming::new(seed);
-    let mut listed = Listed {
-        sets: Vec::new(alloc),
-        told: String::new(alloc),
-    };
-    for hour in 0..720 {
+    let mut made = Made::new(seed);
+    let mut input = String::new(alloc);
+    for _ in 0..720 {
         if let Some((reference, sequence)) = coming.next() {
-            let line = line_of(alloc, reference, sequence, hour)?;
+            let moment = order.next(&mut made, listed);
+            let line = line_of(alloc, reference, sequence, moment)?;
             input.push_str(&line)?;
-            listed.age(alloc, hour)?;
-            listed.take(reference, sequence, hour)?;
+            listed.go_on(alloc, moment)?;
+            listed.take(reference, sequence)?;
         }
     }
-    listed.tell(alloc)?;
-    Ok(listed)
+    listed.tell(alloc, "open", true)?;
+    Ok(input)
 }
 
 /// The lines of an output that tell sets.
 fn lines_of_sets(alloc: Global, output: &str) -> Result<String, Fail> {
     let mut lines = String::new(alloc);
     for line in output.lines() {
-        if line.starts_with("dropped: ") || line.starts_with("open: ") {
+        let name = line.trim_start_matches("{\"");
+        if name.starts_with("dropped") || name.starts_with("open") {
             lines.push_str(line)?;
             lines.push('\n')?;
         }
@@ -206,13 +323,27 @@ fn lines_of_sets(alloc: Global, output: &str) -> Result<String, Fail> {
     Ok(lines)
 }
 
+/// The words that ask for lines or for objects.
+fn words_of(is_json: bool) -> &'static [&'static str] {
+    if is_json {
+        &["sms", "join", "--verbose", "--open", "1000", "--json"]
+    } else {
+        &["sms", "join", "--verbose", "--open", "1000"]
+    }
+}
+
 /// Sets that open, close and grow old are told as the list tells them.
-fn are_told(rt: &impl Abort, alloc: Global, seed: u64) -> Result<(), Fail> {
-    let mut input = String::new(alloc);
-    let listed = filled(alloc, seed, &mut input)?;
-    let words = ["sms", "join", "--verbose", "--open", "1000"];
-    let (status, output) = fed_with(alloc, &words, &input)?;
-    holds(rt, &"status", status == 0);
+fn are_told(
+    rt: &impl Abort,
+    alloc: Global,
+    seed: u64,
+    order: Order,
+    is_json: bool,
+) -> Result<(), Fail> {
+    let mut listed = Listed::new(alloc, is_json);
+    let input = filled(alloc, seed, order, &mut listed)?;
+    let (status, output) = fed_with(alloc, words_of(is_json), &input)?;
+    holds(rt, &(seed, order), status == 0);
     let lines = lines_of_sets(alloc, &output)?;
     holds(rt, &lines, lines.as_str() == listed.told.as_str());
     Ok(())
@@ -221,7 +352,16 @@ fn are_told(rt: &impl Abort, alloc: Global, seed: u64) -> Result<(), Fail> {
 #[test]
 fn tells_sets_in_the_order_of_opening(rt: HostRuntime) -> Result<(), Fail> {
     for seed in 0..5 {
-        are_told(&rt, rt.alloc(), seed)?;
+        are_told(&rt, rt.alloc(), seed, Order::Rising, seed % 2 == 1)?;
+    }
+    Ok(())
+}
+
+#[test]
+fn tells_sets_whose_stamps_fall(rt: HostRuntime) -> Result<(), Fail> {
+    for seed in 0..8 {
+        are_told(&rt, rt.alloc(), seed, Order::Made, false)?;
+        are_told(&rt, rt.alloc(), seed, Order::Made, true)?;
     }
     Ok(())
 }
