@@ -43,8 +43,13 @@ fn number_of(octet: u8) -> Option<u8> {
     }
 }
 
-/// Adds the octets of digits one by one, which blanks may part, and finds the first that is wrong.
-fn read_one_by_one(octets: &mut Vec<u8>, digits: &[u8]) -> Result<Option<usize>, Fail> {
+/// Adds the octets of digits one by one, which blanks may part where they are allowed, and finds
+/// the first that is wrong.
+fn read_one_by_one(
+    octets: &mut Vec<u8>,
+    digits: &[u8],
+    has_blanks: bool,
+) -> Result<Option<usize>, Fail> {
     let mut high = None;
     for (place, octet) in digits.iter().enumerate() {
         match (number_of(*octet), high) {
@@ -53,7 +58,7 @@ fn read_one_by_one(octets: &mut Vec<u8>, digits: &[u8]) -> Result<Option<usize>,
                 high = None;
             }
             (Some(number), None) => high = Some(number),
-            (None, None) if *octet == b' ' || *octet == b'\t' => {}
+            (None, None) if has_blanks && (*octet == b' ' || *octet == b'\t') => {}
             _ => return Ok(Some(place)),
         }
     }
@@ -208,7 +213,7 @@ fn is_as_read(
 /// Whether the digits of a line are read as they are one by one.
 fn is_read(alloc: Global, line: &[u8]) -> Result<bool, Fail> {
     let mut octets = Vec::new(alloc);
-    let wrong = read_one_by_one(&mut octets, line.trim_ascii())?;
+    let wrong = read_one_by_one(&mut octets, line.trim_ascii(), true)?;
     let words = ["sms", "show", "deliver", "--lines", "--explain"];
     let mut input = line;
     let (_, answer) = fed_from(alloc, &words, &mut input)?;
@@ -278,6 +283,106 @@ fn finds_a_missing_digit(rt: HostRuntime) -> Result<(), Fail> {
         if length % 2 == 1 {
             holds(&rt, &length, is_read(rt.alloc(), line)?);
         }
+    }
+    Ok(())
+}
+
+/// The front of an SMS-DELIVER-REPORT whose user data are octets, up to their number.
+const REPORT: &str = "00070004";
+
+/// How many octets come before its user data.
+const BEFORE_USER: usize = 5;
+
+/// A word of as many digits, in either case: those of a report, or the front of them.
+fn word_of(alloc: Global, length: usize, made: &mut Made) -> Result<String, Fail> {
+    let count = (length / 2).saturating_sub(BEFORE_USER);
+    let octets = made_octets(alloc, count, made)?;
+    let mut digits = Vec::new(alloc);
+    digits.extend_from_slice(REPORT.as_bytes())?;
+    push_digits(&mut digits, &[u8::try_from(count).unwrap_or(0)])?;
+    push_digits(&mut digits, &octets)?;
+    digits.push(digit_of(made.octet()))?;
+    digits.truncate(length);
+    lower_some(digits.as_mut_slice(), made);
+    Ok(String::from_utf8(digits)?)
+}
+
+/// What a word is shown as.
+fn shown_word(alloc: Global, word: &str) -> Result<String, Fail> {
+    let (_, answer) = answer_to(alloc, &["sms", "show", "deliver-ack", "--explain", word])?;
+    Ok(answer)
+}
+
+/// What the digits of a word are shown as where they stand in a line, with a blank after each
+/// octet; none as `-`.
+fn shown_line(alloc: Global, word: &str) -> Result<String, Fail> {
+    let digits = with_blanks(alloc, word)?;
+    let line = if word.is_empty() { "-" } else { &digits };
+    let words = ["sms", "show", "deliver-ack", "--lines", "--explain"];
+    let (_, answer) = fed_with(alloc, &words, line)?;
+    Ok(answer)
+}
+
+/// Whether a line is shown as a word is, but for its number, which stands before a fault.
+fn is_same_answer(alloc: Global, word: &str, line: &str) -> Result<bool, Fail> {
+    let (front, back) = line.split_once("line 1: ").unwrap_or((line, ""));
+    let answer = [front, back].concat(alloc)?;
+    Ok(answer.as_str() == word)
+}
+
+/// The end of what a report with these octets is shown as; of fewer octets than come before its
+/// user data none is known.
+fn user_of(alloc: Global, octets: &[u8]) -> Result<String, Fail> {
+    match octets.get(BEFORE_USER..) {
+        Some(user) if user.is_empty() => Ok(format!(in alloc; "\nuser: -\n")?),
+        Some(user) => end_of(alloc, b"\nuser: ", user, b"\n"),
+        None => Ok(String::new(alloc)),
+    }
+}
+
+/// Whether a word is read as its digits are one by one: it says the place at which they are wrong,
+/// or else shows their octets, as the line does that has blanks.
+fn is_word_read(alloc: Global, word: &str) -> Result<bool, Fail> {
+    let mut octets = Vec::new(alloc);
+    let wrong = read_one_by_one(&mut octets, word.as_bytes(), false)?;
+    let answer = shown_word(alloc, word)?;
+    if let Some(place) = wrong {
+        let front = format!(in alloc; "bad hex at {place}: ")?;
+        return Ok(answer.starts_with(front.as_str()));
+    }
+    let end = user_of(alloc, &octets)?;
+    let line = shown_line(alloc, word)?;
+    Ok(answer.ends_with(end.as_str()) && is_same_answer(alloc, &answer, &line)?)
+}
+
+/// A word with an octet in place of a digit.
+fn with_octet(alloc: Global, word: &str, place: usize, octet: u8) -> Result<String, Fail> {
+    let mut digits = word.as_bytes().to_vec(alloc)?;
+    if let Some(own) = digits.get_mut(place) {
+        *own = octet;
+    }
+    Ok(String::from_utf8(digits)?)
+}
+
+/// A word is read as its digits are one by one, whichever of them is wrong.
+fn word_is_read(rt: &impl Abort, alloc: Global, word: &str, made: &mut Made) -> Result<(), Fail> {
+    holds(rt, &word, is_word_read(alloc, word)?);
+    for place in 0..word.len() {
+        let octet = WRONG[made.below(9) % 9];
+        let wrong = with_octet(alloc, word, place, octet)?;
+        holds(rt, &(place, word.len()), is_word_read(alloc, &wrong)?);
+        drop(wrong);
+    }
+    Ok(())
+}
+
+#[test]
+fn reads_words_of_each_length(rt: HostRuntime) -> Result<(), Fail> {
+    let mut made = Made::new(6);
+    for length in 0..=80 {
+        let word = word_of(rt.alloc(), length, &mut made)?;
+        word_is_read(&rt, rt.alloc(), &word, &mut made)?;
+        drop(word);
     }
     Ok(())
 }
