@@ -6,6 +6,8 @@ mod found;
 #[cfg(test)]
 mod lines;
 #[cfg(test)]
+mod parts;
+#[cfg(test)]
 mod playing;
 #[cfg(test)]
 mod script;

@@ -4,6 +4,7 @@ ghost use Rattle.std.specs.Prelude.{◌≡◌, ◌≤◌, codes, length, replica
 ghost use Rattle.sms_script.specs.Play.Runs.{nothing_ended};
 
 use crate::found::{holds, same};
+use crate::parts::Parts;
 use sms_field::Address;
 use sms_script::{
     Entry, Event, Limits, Network, Packet, PlayFault, ScriptFault, Sink, Source, Watched, play,
@@ -434,6 +435,119 @@ fn writes_that_fail(rt: HostRuntime) {
             wanted_of(calls),
         );
     }
+}
+
+/// Octets of which a script has some at the end of a part, and whether they are no UTF-8.
+#[derive(Clone, Copy, Debug)]
+struct Cut {
+    octets: &'static [u8],
+    is_faulty: bool,
+}
+
+static CUTS: [Cut; 6] = [
+    Cut {
+        octets: b"\xC3\xA9\xE2\x82\xAC\xF0\x9F\x98\x80",
+        is_faulty: false,
+    },
+    Cut {
+        octets: b"\xF0\x9F\x98\x80",
+        is_faulty: false,
+    },
+    Cut {
+        octets: b"\xF0\x9F\x98",
+        is_faulty: true,
+    },
+    Cut {
+        octets: b"\x9F\x98\x80",
+        is_faulty: true,
+    },
+    Cut {
+        octets: b"\xF0\x9F\x98a",
+        is_faulty: true,
+    },
+    Cut {
+        octets: b"\xED\xA0\x80\xC3",
+        is_faulty: true,
+    },
+];
+
+/// A script that has these octets after as many others.
+fn script_with(alloc: Global, before: usize, octets: &[u8]) -> Result<Vec<u8>, AllocError> {
+    let mut script = Vec::new(alloc);
+    for _ in 0..before / 8 {
+        script.extend_from_slice(b"carry 1\n")?;
+    }
+    for _ in 0..before % 8 {
+        script.push(b'#')?;
+    }
+    script.extend_from_slice(octets)?;
+    script.extend_from_slice(b"\ncarry 1\n")?;
+    Ok(script)
+}
+
+/// Plays a script that comes in parts of a size.
+fn played_by_parts(alloc: Global, script: &[u8], size: usize) -> Outcome {
+    let mut source = Parts {
+        octets: script,
+        size,
+        left: 0,
+        failed: false,
+        ended: false,
+    };
+    let mut sink = Watched::new(Vec::new(alloc));
+    let result = play::<Silent, Parts<'_>, Watched<Vec<u8>>>(alloc, &mut source, &mut sink);
+    Outcome {
+        result,
+        written: sink.into_inner(),
+        failed: source.failed,
+    }
+}
+
+/// Whether a script is refused since a line is no UTF-8.
+fn is_no_text(found: Result<(), PlayFault>) -> bool {
+    match found {
+        Err(PlayFault::Script { why, .. }) => why == ScriptFault::NotUtf8,
+        _ => false,
+    }
+}
+
+/// A script that comes in parts of a size is played as octet by octet.
+fn is_played_alike(rt: &impl Abort, alloc: Global, script: &[u8], size: usize) -> bool {
+    let found = played_by_parts(alloc, script, size);
+    let single = played(alloc, script);
+    let wanted = Wanted {
+        result: single.result,
+        written: single.written.as_slice(),
+        failed: single.failed,
+    };
+    is(rt, size, &found, wanted);
+    is_no_text(single.result)
+}
+
+/// Some octets are played as octet by octet wherever the end of a part of a size cuts them.
+fn cut_is_played(rt: &impl Abort, alloc: Global, cut: &Cut, size: usize) -> Result<(), Fail> {
+    for after in 0..=cut.octets.len() {
+        let script = script_with(alloc, size.saturating_sub(after), cut.octets)?;
+        let is_faulty = is_played_alike(rt, alloc, &script, size);
+        holds(rt, cut, is_faulty == cut.is_faulty);
+    }
+    Ok(())
+}
+
+/// All are played as octet by octet around the end of a part of a size.
+fn size_is_played(rt: &impl Abort, alloc: Global, size: usize) -> Result<(), Fail> {
+    for cut in CUTS.as_slice() {
+        cut_is_played(rt, alloc, cut, size)?;
+    }
+    Ok(())
+}
+
+#[test]
+fn characters_across_parts(rt: HostRuntime) -> Result<(), Fail> {
+    for size in [1, 2, 63, 64, 65, 4_096, 8_192] {
+        size_is_played(&rt, rt.alloc(), size)?;
+    }
+    Ok(())
 }
 
 /// A fault, and its text.
