@@ -136,7 +136,7 @@ fn last_line<'a>(chart: &'a str) -> &'a str {
 /// A script in which a text is typed and comes.
 fn script_with(alloc: Global, text: &str) -> Result<String, Fail> {
     let mut script = format!(in alloc; "phone a +1\nphone b +2\ntype a +2 {text}\n")?;
-    for packet in 1..50 {
+    for packet in 1..24 {
         let lines = format!(in alloc; "carry {packet}\npush b\n")?;
         script.push_str(&lines)?;
     }
