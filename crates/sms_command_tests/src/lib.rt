@@ -30,6 +30,8 @@ mod open_sets;
 #[cfg(test)]
 mod orders;
 #[cfg(test)]
+mod pages;
+#[cfg(test)]
 mod plays;
 #[cfg(test)]
 mod relays;
