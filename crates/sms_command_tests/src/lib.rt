@@ -32,6 +32,8 @@ mod orders;
 #[cfg(test)]
 mod pages;
 #[cfg(test)]
+mod parts;
+#[cfg(test)]
 mod plays;
 #[cfg(test)]
 mod relays;

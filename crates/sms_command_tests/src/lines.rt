@@ -62,10 +62,10 @@ fn shows_a_listing_of_27_units(rt: HostRuntime) -> Result<(), Fail> {
 
 /// Gives at most so many octets at a time, and is interrupted before each time.
 #[derive(Drop)]
-struct Slow<'a> {
-    octets: &'a [u8],
-    most: usize,
-    is_interrupted: bool,
+pub struct Slow<'a> {
+    pub octets: &'a [u8],
+    pub most: usize,
+    pub is_interrupted: bool,
 }
 
 impl Read for Slow<'_> {
