@@ -193,6 +193,20 @@ fn front_of(alloc: Global, count: usize) -> Result<Vec<u8>, AllocError> {
     Ok(octets)
 }
 
+/// A front, the end of its last line, and the last line of all.
+fn octets_of(
+    alloc: Global,
+    front: &[u8],
+    ending: &[u8],
+    tail: &Tail,
+) -> Result<Vec<u8>, AllocError> {
+    let mut octets = front.to_vec(alloc)?;
+    octets.extend_from_slice(ending)?;
+    octets.resize(octets.len().saturating_add(tail.letters), b'b')?;
+    octets.extend_from_slice(tail.ending)?;
+    Ok(octets)
+}
+
 /// A front with each end of its last line, and one of some other lines after it, is read alike.
 fn endings_are_alike(
     rt: &impl Abort,
@@ -202,8 +216,7 @@ fn endings_are_alike(
     size: usize,
 ) -> Result<(), Fail> {
     for (ending, tail) in ENDINGS.iter().zip(tails) {
-        let letters = vec![in alloc; b'b'; tail.letters]?;
-        let octets = [front, *ending, letters.as_slice(), tail.ending].concat(alloc)?;
+        let octets = octets_of(alloc, front, ending, tail)?;
         lines_are_alike(rt, alloc, &octets, size);
     }
     Ok(())
