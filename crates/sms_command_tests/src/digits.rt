@@ -20,7 +20,7 @@ static WRONG: [u8; 11] = [
 ];
 
 /// The upper case hexadecimal digit of a number below 16.
-fn digit_of(number: u8) -> u8 {
+pub fn digit_of(number: u8) -> u8 {
     b"0123456789ABCDEF"[usize::from(number % 16)]
 }
 

@@ -40,9 +40,13 @@ mod relays;
 #[cfg(test)]
 mod reports;
 #[cfg(test)]
+mod rooms;
+#[cfg(test)]
 mod splits;
 #[cfg(test)]
 mod statuses;
+#[cfg(test)]
+mod telephones;
 #[cfg(test)]
 mod told;
 #[cfg(test)]

@@ -172,7 +172,7 @@ fn made_moment(made: &mut Made, listed: &Listed) -> Option<u64> {
         0 => None,
         1..=4 => Some(now),
         5 => Some(now.saturating_sub(1)),
-        6 => Some(now.saturating_sub(60 * made.below(30_000) as u64)),
+        6 => Some(now.saturating_sub((made.below(30_000) as u64).saturating_mul(60))),
         7 => Some(now.saturating_add(1)),
         8 => {
             let opened = listed.opened_at(made.below(4));
