@@ -101,13 +101,23 @@ impl Page {
     fn put_beyond(&mut self, octets: &[u8]) {
         self.octets.truncate(self.count);
         if self.octets.extend_from_slice(octets).is_err() {
-            self.is_cut = true;
+            self.put_last(octets);
             return;
         }
         self.count = self.octets.len();
         let spare = self.octets.capacity().saturating_sub(self.count);
         let ahead = AHEAD.get(..spare).unwrap_or(AHEAD.as_slice());
         let _ = self.octets.extend_from_slice(ahead);
+    }
+
+    /// Adds as many octets as there is memory for already. Nothing more is collected.
+    fn put_last(&mut self, octets: &[u8]) {
+        self.is_cut = true;
+        let spare = self.octets.capacity().saturating_sub(self.count);
+        let _ = self
+            .octets
+            .extend_from_slice(octets.get(..spare).unwrap_or(octets));
+        self.count = self.octets.len();
     }
 
     /// Adds octets in quotes, after a comma or none, and before a colon or none.
