@@ -18,6 +18,7 @@ use sms_tpdu::View;
 use std::alloc::Global;
 
 /// What the octets of a CP-DATA are read as.
+#[inline(always)]
 fn relay_in<'a>(octets: &'a [u8]) -> InnerView<'a>
     ensures { IsReadAs octets.now (seen_inner result) }
 {
@@ -28,6 +29,7 @@ fn relay_in<'a>(octets: &'a [u8]) -> InnerView<'a>
 }
 
 /// The CP message at the front of the octets, and what is found in it, where they lie.
+#[inline(always)]
 pub fn unwrap_view<'a>(octets: &'a [u8]) -> Result<(CpView<'a>, InnerView<'a>), Fault<RelayFault>>
     ensures outer { IfOk result (λ x. (used : ℕ) × Reads cp_message x.0 octets.now used) }
     ensures inner { IfOk result (λ x. Holds x.0.body (seen_inner x.1)) }

@@ -196,6 +196,7 @@ impl<'a> View<'a> for RpView<'a> {
 
 impl<'a> RpView<'a> {
     /// Sees a message at the front of the octets, and says how many it takes.
+    #[inline(always)]
     pub fn read(input: &'a [u8]) -> Result<(RpView<'a>, usize), Fault<RelayFault>>
         ensures found { IfOk result (λ x. Reads rp_message x.0 input.now x.1) }
         ensures refused { IfErr result (IsFaultOf rp_message Short input.now) }
