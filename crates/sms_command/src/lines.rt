@@ -113,6 +113,7 @@ impl Lines {
     }
 
     /// Adds a member.
+    #[inline(always)]
     pub fn put<V: Printed>(&mut self, name: &str, value: V) {
         self.open_awaited();
         match &mut self.out {

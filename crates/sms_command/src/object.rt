@@ -71,6 +71,7 @@ impl Object {
     }
 
     /// The name of a member, whose value comes next. It has no character that JSON escapes.
+    #[inline(always)]
     pub fn name(&mut self, name: &str) {
         self.page.put_quoted(self.has_value, name.as_bytes(), true);
         self.has_value = false;

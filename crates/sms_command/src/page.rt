@@ -121,6 +121,7 @@ impl Page {
     }
 
     /// Adds octets in quotes, after a comma or none, and before a colon or none.
+    #[inline(always)]
     pub fn put_quoted(&mut self, has_comma: bool, octets: &[u8], has_colon: bool) {
         let is_put = !self.is_cut
             && put_quoted_at(self.octets.as_mut_slice(), self.count, has_comma, octets);
@@ -143,6 +144,7 @@ impl Page {
     }
 
     /// Adds the name of a line, and a colon and a blank behind it.
+    #[inline(always)]
     pub fn put_name(&mut self, name: &[u8]) {
         if !self.is_cut && put_name_at(self.octets.as_mut_slice(), self.count, name) {
             self.count = self.count.saturating_add(name.len()).saturating_add(2);
