@@ -1,5 +1,8 @@
 //! Blocks of octets by vectors: their hexadecimal digits, and whether they are plain.
 
+ghost use Rattle.std.specs.Prelude.{◌<◌, length};
+
+use crate::page::put_whole;
 use std::simd::prelude::*;
 
 /// How many octets a block has.
@@ -68,4 +71,14 @@ pub fn is_plain_in_json(octets: &[u8; BLOCK]) -> bool {
         | octets.simd_eq(u8x16::splat(b'"'))
         | octets.simd_eq(u8x16::splat(b'\\'));
     is_escaped.to_bitmask() == 0
+}
+
+/// Octets, fewer than a block has, and digits behind them that fill the block.
+#[inline(always)]
+pub fn filled(octets: &[u8]) -> [u8; BLOCK]
+    requires { length octets.now < BLOCK }
+{
+    let mut block = [b'0'; BLOCK];
+    put_whole(&mut block[..octets.len()], octets);
+    block
 }

@@ -1,7 +1,7 @@
 //! JSON that is written a token at a time.
 
 use crate::address_text::AddressText;
-use crate::blocks::{BLOCK, is_plain_in_json};
+use crate::blocks::{BLOCK, filled, is_plain_in_json};
 use crate::page::Page;
 use sms_field::Address;
 use std::alloc::Global;
@@ -180,11 +180,12 @@ fn is_plain(octet: u8) -> bool {
     (octet >= b' ') & (octet != b'"') & (octet != b'\\')
 }
 
-/// Whether octets of a text stand in JSON as they are. The last block may lie over the one before.
+/// Whether octets of a text stand in JSON as they are. The last block may lie over the one before;
+/// fewer octets than a block has are tested in one that is filled up.
 fn are_plain(octets: &[u8]) -> bool {
     match octets.last_chunk::<BLOCK>() {
         Some(last) => is_plain_in_json(last) && have_plain_blocks(octets),
-        None => are_few_plain(octets),
+        None => is_plain_in_json(&filled(octets)),
     }
 }
 
@@ -197,15 +198,6 @@ fn have_plain_blocks(octets: &[u8]) -> bool {
         }
     }
     true
-}
-
-/// Whether octets, of which there are few, stand in JSON as they are.
-fn are_few_plain(octets: &[u8]) -> bool {
-    let mut all = true;
-    for octet in octets {
-        all &= is_plain(*octet);
-    }
-    all
 }
 
 /// Adds the escape of an octet that does not stand in JSON as it is.

@@ -241,7 +241,7 @@ fn put_ends<const N: usize>(room: &mut [u8], octets: &[u8])
 
 /// Copies octets into room for as many, few of them without a loop.
 #[inline(always)]
-fn put_whole(room: &mut [u8], octets: &[u8])
+pub fn put_whole(room: &mut [u8], octets: &[u8])
     requires { length room.old ≡ length octets.now }
 {
     match octets.len() {

@@ -1,6 +1,6 @@
 //! How values are printed.
 
-use crate::blocks::{BLOCK, is_plain};
+use crate::blocks::{BLOCK, filled, is_plain};
 use crate::lines::Printed;
 use crate::object::Object;
 use crate::page::Page;
@@ -125,11 +125,11 @@ pub fn put_escaped(page: &mut Page, text: &str) {
 }
 
 /// Whether octets of a text stand in one line as they are. The last block may lie over the one
-/// before.
+/// before; fewer octets than a block has are tested in one that is filled up.
 fn are_plain(octets: &[u8]) -> bool {
     match octets.last_chunk::<BLOCK>() {
         Some(last) => is_plain(last) && have_plain_blocks(octets),
-        None => are_few_plain(octets),
+        None => is_plain(&filled(octets)),
     }
 }
 
@@ -142,15 +142,6 @@ fn have_plain_blocks(octets: &[u8]) -> bool {
         }
     }
     true
-}
-
-/// Whether octets, of which there are few, stand in one line as they are.
-fn are_few_plain(octets: &[u8]) -> bool {
-    let mut all = true;
-    for octet in octets {
-        all &= Escape::is_plain(*octet);
-    }
-    all
 }
 
 /// Adds the octets of a text in one line: those that stand as they are in one piece up to the next
