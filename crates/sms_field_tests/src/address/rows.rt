@@ -220,7 +220,7 @@ pub struct Bad {
     pub fault: AddressFault,
 }
 
-pub static SPELLED: [Spelled; 12] = [
+pub static SPELLED: [Spelled; 14] = [
     Spelled {
         text: "",
         octets: b"\x00\x81",
@@ -236,6 +236,14 @@ pub static SPELLED: [Spelled; 12] = [
     Spelled {
         text: "+1002",
         octets: b"\x04\x91\x01\x20",
+    },
+    Spelled {
+        text: "+0123456789",
+        octets: b"\x0A\x91\x10\x32\x54\x76\x98",
+    },
+    Spelled {
+        text: "12*3",
+        octets: b"\x04\x81\x21\x3A",
     },
     Spelled {
         text: "*#abc",
