@@ -21,7 +21,7 @@ loop-rest-preserved-in-Some c =
 
 pub loop-rest-preserved : goal.loop-rest-preserved
 loop-rest-preserved c = record {
-  so_far = c.in-Some-put_pair.ensures.text ∙ c.loop-rest.invariant.so_far;
-  text = c.in-Some-put_pair.ensures.utf8 c.loop-rest.invariant.text;
-  room = omega (arith, c.in-Some-put_pair.ensures.place, c.in-Some-put_pair.ensures.left, c.put_pair.auto.out, c.loop-rest.invariant.room);
+  so_far = c.put_half.ensures.text ∙ c.loop-rest.invariant.so_far;
+  text = c.put_half.ensures.utf8 c.loop-rest.invariant.text;
+  room = omega (arith, c.put_half.ensures.room, c.put_half.auto.out, c.loop-rest.invariant.room);
 }
