@@ -30,7 +30,14 @@ pub mod TextUnits
 pub mod SegmentTexts
 pub mod Sendable
 pub mod Places
-pub mod KeyRings
+pub mod RingPlaces
+pub mod RingChains
+pub mod RingTurns
+pub mod RingKeys
+pub mod RingSearch
+pub mod RingUnlinked
+pub mod RingPushed
+pub mod RingRelinked
 pub mod KeyTags
 pub mod Swapped
 pub mod Offers

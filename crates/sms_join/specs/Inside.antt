@@ -1,4 +1,5 @@
 -- What a reader may pass by: no public contract cites it.
+pub mod KeyHashes
 pub mod KeyRings
 pub mod KeyTags
 pub mod LastKeys

@@ -116,7 +116,7 @@ impl Joiner {
         ensures limits { SameLimits self.new self.old }
         ensures refused { OnErr result (self.new ≡ self.old) }
     {
-        if self.finished.contains(self.alloc, origin, stamp, concat) {
+        if self.finished.contains(origin, stamp, concat) {
             return Ok(Offer::Repeat);
         }
         let Some(index) = self.sets.find(self.alloc, origin, stamp, concat) else {
@@ -132,7 +132,7 @@ impl Joiner {
         }
         let text = self.sets.text_with(self.alloc, index, units)?;
         let key = Key::of(self.alloc, origin, stamp, concat);
-        self.finished.push(key)?;
+        self.finished.push(key);
         self.sets.remove(index);
         Ok(Offer::Finished(text))
     }
@@ -153,7 +153,7 @@ impl Joiner {
             → result
             ≡ would_finish self.now.holds (piece_of now origin.now stamp concat units) }
     {
-        if self.finished.contains(self.alloc, origin, stamp, concat) {
+        if self.finished.contains(origin, stamp, concat) {
             return false;
         }
         let Some(index) = self.sets.find(self.alloc, origin, stamp, concat) else {
@@ -195,7 +195,7 @@ impl Joiner {
         if size_of(concat) == 1 {
             let text = text_of_one(self.alloc, units)?;
             let key = Key::of(self.alloc, origin, stamp, concat);
-            self.finished.push(key)?;
+            self.finished.push(key);
             return Ok(Offer::Finished(text));
         }
         if self.sets.count() >= self.open_max {

@@ -1,35 +1,54 @@
-//! Keys in a ring that are found by their hashes.
+//! Keys in a ring, and chains of the places of those that share a head.
 
-ghost use Rattle.std.specs.Prelude.{◌≡◌, ◌+◌, ◌<◌, ◌≤◌, ◌==◌, [], ◌∷◌, false, take, if◌then◌else◌, IfOk, OnOk, OnErr};
+ghost use Rattle.std.specs.Prelude.{◌≡◌, ◌+◌, ◌-◌, ◌<◌, ◌≤◌, ◌^◌, ◌==◌, [], ◌∷◌, take, if◌then◌else◌, IfOk, bit_and, length, replicate, slice_set, slice_index, slice_index_or};
 ghost use Rattle.sms_join.specs.Joiner.{is_among};
+ghost use Rattle.sms_join.specs.Piece.{key_of};
+ghost use Rattle.sms_join.specs.Inside.KeyHashes.{hash_of};
+ghost use Rattle.sms_join.specs.Inside.KeyRings.{laid, entries, newer, LieIn, LieApart, AreLinked};
+ghost use Rattle.sms_join.specs.Inside.KeyRings as rings;
 
 use crate::key::Key;
-use indexmap::IndexSet;
+use crate::key_hash::{hash_of, key_hash};
+use circular_buffer::HeapCircularBuffer;
+use sms_field::{Address, Stamp};
+use sms_tpdu::Concat;
 use std::alloc::{AllocError, Global};
 use std::marker::Model;
 
-/// The highest limit of a ring. It keeps the room of the index small, and the pass short in which
-/// it clears what keys that went have left, whatever keys are picked.
-pub(crate) const RING_MAX: usize = 1 << 16;
+/// No place.
+const NONE: u32 = u32::MAX;
 
-/// As many keys as the limit at most. A further one takes the place of the oldest.
+/// How many places a ring has at most: four octets tell one.
+pub(crate) const PLACES_MAX: usize = 1 << 31;
+
+/// As many keys as the limit at most. A further one takes the place of the oldest. All room is made
+/// at once, and written only as keys come: the heads are doubled where the keys are more.
 #[derive(Drop)]
 pub(crate) struct KeyRing {
-    limit: usize,
-    /// Where the oldest key stands. Those after it are newer, and then those from the first on.
+    /// The newest is the last.
+    keys: HeapCircularBuffer<Key>,
+    /// The place of the oldest, once there are as many as the limit; 0 before.
     oldest: usize,
-    keys: IndexSet<Key>,
+    /// For each place that has been taken the next older one whose key has the same head.
+    next: Vec<u32>,
+    /// For each head the place of its newest key.
+    heads: Vec<u32>,
 }
 
 impl Model for KeyRing {
+    ghost use Rattle.std.specs.Prelude.{◌≡◌, ◌*◌, ◌≤◌, reverse};
+    ghost use Rattle.std.specs.Vec.{vec_capacity};
     ghost use Rattle.sms_join.specs.Inside.LastKeys.{LastKeysValue};
-    ghost use Rattle.sms_join.specs.Inside.KeyRings.{newest_first, IsRing};
+    ghost use Rattle.sms_join.specs.Inside.KeyHashes.{hash_of};
+    ghost use Rattle.sms_join.specs.Inside.KeyRings.{laid, IsChained};
 
     ghost Value = { LastKeysValue };
 
-    ghost view = { λ r. record { limit = r.limit; keys = newest_first r.oldest r.keys.keys } };
+    ghost view = { λ r. record { limit = r.keys.capacity; keys = reverse r.keys.items } };
 
-    ghost invariant = { λ r. IsRing r.limit r.oldest r.keys.keys };
+    ghost invariant = { λ r. IsChained hash_of r.keys.capacity r.oldest (laid r.oldest r.keys.items)
+        r.next.items r.heads.items × (vec_capacity r.next ≡ r.keys.capacity)
+        × (2 * r.keys.capacity ≤ vec_capacity r.heads) };
 }
 
 /// The place after this one, round the ring.
@@ -40,47 +59,152 @@ fn place_after(place: usize, limit: usize) -> usize
     if place + 1 == limit { 0 } else { place + 1 }
 }
 
+/// The head of a hash, of as many heads, which are a power of two.
+fn head_of(hash: u64, heads: usize) -> usize
+    requires { 0 < heads }
+    ensures is { result ≡ bit_and hash (heads - 1) }
+    ensures within { result < heads }
+{
+    hash as usize & (heads - 1)
+}
+
+/// The key at a place, where the oldest lies at another.
+fn key_at(keys: &HeapCircularBuffer<Key>, oldest: usize, place: usize) -> &Key
+    requires oldest { oldest ≤ length keys.now.items }
+    requires place { place < length keys.now.items }
+    ensures { result.now ≡ slice_index_or (laid oldest keys.now.items) place result.now }
+{
+    let index = if place >= oldest {
+        place - oldest
+    } else {
+        keys.len() - oldest + place
+    };
+    keys.get(index).unwrap()
+}
+
+/// Puts the place in front of the chain of a head.
+fn link(heads: &mut [u32], next: &mut [u32], head: usize, place: usize)
+    requires head { head < length heads.old }
+    requires place { place < length next.old }
+    requires fits { place < 2 ^ 32 }
+    ensures next { next.new ≡ slice_set next.old place (slice_index heads.old head) }
+    ensures heads { heads.new ≡ slice_set heads.old head place }
+{
+    next[place] = heads[head];
+    heads[head] = place as u32;
+}
+
+/// Takes the place of the oldest key out of its chain, whose last it is.
+fn unlink(keys: &HeapCircularBuffer<Key>, oldest: usize, heads: &mut [u32], next: &mut [u32])
+    requires there { oldest < length keys.now.items }
+    requires heads { 0 < length heads.old }
+    requires next { length keys.now.items ≤ length next.old }
+    requires small { length next.old < NONE }
+    requires lie { LieIn (laid oldest keys.now.items) (entries oldest (laid oldest keys.now.items)) }
+    requires apart { LieApart (entries oldest (laid oldest keys.now.items)) }
+    requires linked { AreLinked (rings.head_of hash_of (length heads.old))
+        next.old heads.old (entries oldest (laid oldest keys.now.items)) }
+    ensures { AreLinked (rings.head_of hash_of (length heads.old))
+        next.new heads.new (newer oldest (laid oldest keys.now.items)) }
+{
+    let head = head_of(key_hash(key_at(keys, oldest, oldest)), heads.len());
+    let mut place = heads[head] as usize;
+    if place == oldest {
+        heads[head] = next[oldest];
+        return;
+    }
+    while next[place] as usize != oldest {
+        place = next[place] as usize;
+    }
+    next[place] = next[oldest];
+}
+
+/// Links all places anew, from that of the oldest on, where the oldest lies at the first.
+fn relink(keys: &HeapCircularBuffer<Key>, heads: &mut [u32], next: &mut [u32])
+    requires some { 0 < length heads.old }
+    requires none { heads.old ≡ replicate (length heads.old) NONE }
+    requires next { length next.old ≡ length keys.now.items }
+    requires small { length next.old < NONE }
+    ensures { AreLinked (rings.head_of hash_of (length heads.old))
+        next.new heads.new (entries 0 keys.now.items) }
+{
+    for place in 0..keys.len() {
+        let head = head_of(key_hash(key_at(keys, 0, place)), heads.len());
+        link(heads, next, head, place);
+    }
+}
+
 impl KeyRing {
-    /// No keys, with room for the limit. There is at least twice the room: the index is then never
-    /// more than half full, and asks for none when it clears what the keys that went have left.
+    /// No keys, with room for the limit.
     pub(crate) fn new(alloc: Global, limit: usize) -> Result<KeyRing, AllocError>
         requires some { 0 < limit }
-        requires fits { limit ≤ RING_MAX }
+        requires few { limit ≤ PLACES_MAX }
         ensures { IfOk result (λ ring. ring ≡ record { limit = limit; keys = [] }) }
     {
+        let keys = HeapCircularBuffer::with_capacity(alloc, limit)?;
+        let next = Vec::with_capacity(alloc, limit)?;
+        let mut heads = Vec::with_capacity(alloc, 2 * limit)?;
+        heads.push_reserved(NONE);
         Ok(KeyRing {
-            limit,
+            keys,
             oldest: 0,
-            keys: IndexSet::with_capacity(alloc, 2 * (limit + 1))?,
+            next,
+            heads,
         })
     }
 
-    /// Whether the key is among them.
+    /// Whether the key of such a message or segment is among them.
     ///
-    /// The hasher has a fixed seed: whoever picks keys of one hash makes it look through them one
+    /// The hasher has a fixed seed: whoever picks keys of one head makes it look through them one
     /// by one.
-    pub(crate) fn contains(&self, key: &Key) -> bool
-        ensures { result ≡ is_among self.now.keys key.now }
+    pub(crate) fn contains(&self, origin: &Address, stamp: Stamp, concat: Option<Concat>) -> bool
+        ensures { result ≡ is_among self.now.keys (key_of origin.now stamp concat) }
     {
-        self.keys.contains(key)
+        let mut place = self.heads[head_of(hash_of(origin, stamp, concat), self.heads.len())];
+        while place != NONE {
+            if key_at(&self.keys, self.oldest, place as usize).is_of(origin, stamp, concat) {
+                return true;
+            }
+            place = self.next[place as usize];
+        }
+        false
     }
 
-    /// Adds a key that is not there. If memory runs out, nothing has changed.
-    pub(crate) fn push(&mut self, key: Key) -> Result<(), AllocError>
-        requires { is_among self.old.keys key ≡ false }
-        ensures ok { OnOk result (self.new ≡ record {
+    /// Adds a key. It takes no memory.
+    pub(crate) fn push(&mut self, key: Key)
+        ensures { self.new ≡ record {
           limit = self.old.limit;
           keys = take self.old.limit (key ∷ self.old.keys);
-        }) }
-        ensures limit { self.new.limit ≡ self.old.limit }
-        ensures err { OnErr result (self.new ≡ self.old) }
+        } }
     {
-        self.keys.insert(key)?;
-        if self.keys.len() <= self.limit {
-            return Ok(());
+        let head = head_of(key_hash(&key), self.heads.len());
+        let limit = self.keys.capacity();
+        let count = self.keys.len();
+        if count < limit {
+            self.next.push_reserved(self.heads[head]);
+            self.heads[head] = count as u32;
+            self.keys.push_back(key);
+            self.spread();
+            return;
         }
-        let _replaced = self.keys.swap_remove_index(self.oldest);
-        self.oldest = place_after(self.oldest, self.limit);
-        Ok(())
+        let place = self.oldest;
+        unlink(&self.keys, place, &mut self.heads, &mut self.next);
+        link(&mut self.heads, &mut self.next, head, place);
+        self.keys.push_back(key);
+        self.oldest = place_after(place, limit);
+    }
+
+    /// Doubles the heads, where the keys are more and the ring has not turned. All keys are linked
+    /// anew then, half of which have come since the last time.
+    fn spread(&mut self)
+        ensures { self.new ≡ self.old }
+    {
+        let count = self.heads.len();
+        if self.oldest > 0 || self.keys.len() <= count {
+            return;
+        }
+        self.heads.clear();
+        self.heads.resize(2 * count, NONE).unwrap();
+        relink(&self.keys, &mut self.heads, &mut self.next);
     }
 }

@@ -10,7 +10,7 @@ use sms_tpdu::Concat;
 
 /// The digits of an address, or the septets of its name.
 #[inline(always)]
-fn symbols_of(origin: &Address) -> &[u8]
+pub(crate) fn symbols_of(origin: &Address) -> &[u8]
     ensures { result.now ≡ symbols_of origin.now }
 {
     match &origin.symbols {

@@ -1,11 +1,11 @@
 //! The keys of the last sets that finished.
 
-ghost use Rattle.std.specs.Prelude.{◌≡◌, ◌<◌, ◌≤◌, [], ◌∷◌, false, take, IfOk, IsOk, OnOk, OnErr};
+ghost use Rattle.std.specs.Prelude.{◌≡◌, ◌<◌, [], ◌∷◌, take, IfOk};
 ghost use Rattle.sms_join.specs.Joiner.{is_among};
 ghost use Rattle.sms_join.specs.Piece.{key_of};
 
 use crate::key::Key;
-use crate::key_ring::{KeyRing, RING_MAX};
+use crate::key_ring::{KeyRing, PLACES_MAX};
 use crate::key_row::KeyRow;
 use sms_field::{Address, Stamp};
 use sms_tpdu::Concat;
@@ -14,7 +14,7 @@ use std::marker::Model;
 
 /// Up to which limit keys lie in a row, where all their tags are compared at once: that takes no
 /// more time than to hash a key.
-pub(crate) const FEW_KEYS: usize = 32;
+const FEW_KEYS: usize = 32;
 
 /// Where the keys lie.
 #[derive(Drop)]
@@ -33,28 +33,11 @@ pub(crate) struct LastKeys {
 
 impl Model for LastKeys {
     ghost use Rattle.sms_join.specs.Inside.LastKeys.{LastKeysValue};
-    ghost use Rattle.sms_join.specs.Inside.Remembered.{last_keys, HasLimit};
+    ghost use Rattle.sms_join.specs.Inside.Remembered.{last_keys};
 
     ghost Value = { LastKeysValue };
 
     ghost view = { λ l. last_keys l.keys };
-
-    ghost invariant = { λ l. HasLimit l.keys };
-}
-
-/// Whether the key of such a message or segment is in the ring. It stands by itself: a key is made
-/// for it, whose room the answer of a row would else clear too.
-#[inline(never)]
-fn is_in_ring(
-    ring: &KeyRing,
-    alloc: Global,
-    origin: &Address,
-    stamp: Stamp,
-    concat: Option<Concat>,
-) -> bool
-    ensures { result ≡ is_among ring.now.keys (key_of origin.now stamp concat) }
-{
-    ring.contains(&Key::of(alloc, origin, stamp, concat))
 }
 
 impl LastKeys {
@@ -63,50 +46,37 @@ impl LastKeys {
         requires { 0 < limit }
         ensures { IfOk result (λ keys. keys ≡ record { limit = limit; keys = [] }) }
     {
-        if limit > FEW_KEYS && limit <= RING_MAX {
-            let ring = KeyRing::new(alloc, limit)?;
+        if limit <= FEW_KEYS || limit > PLACES_MAX {
+            let row = KeyRow::new(alloc, limit)?;
             return Ok(LastKeys {
-                keys: Remembered::Many(ring),
+                keys: Remembered::Few(row),
             });
         }
-        let row = KeyRow::new(alloc, limit)?;
+        let ring = KeyRing::new(alloc, limit)?;
         Ok(LastKeys {
-            keys: Remembered::Few(row),
+            keys: Remembered::Many(ring),
         })
     }
 
-    /// Whether the key of such a message or segment is among them. It takes no memory.
-    pub(crate) fn contains(
-        &self,
-        alloc: Global,
-        origin: &Address,
-        stamp: Stamp,
-        concat: Option<Concat>,
-    ) -> bool
+    /// Whether the key of such a message or segment is among them.
+    pub(crate) fn contains(&self, origin: &Address, stamp: Stamp, concat: Option<Concat>) -> bool
         ensures { result ≡ is_among self.now.keys (key_of origin.now stamp concat) }
     {
         match &self.keys {
             Remembered::Few(row) => row.contains(origin, stamp, concat),
-            Remembered::Many(ring) => is_in_ring(ring, alloc, origin, stamp, concat),
+            Remembered::Many(ring) => ring.contains(origin, stamp, concat),
         }
     }
 
-    /// Adds a key that is not there: where the limit is low it takes no memory. If memory runs
-    /// out, nothing has changed.
-    pub(crate) fn push(&mut self, key: Key) -> Result<(), AllocError>
-        requires { is_among self.old.keys key ≡ false }
-        ensures ok { OnOk result (self.new ≡ record {
+    /// Adds a key. It takes no memory.
+    pub(crate) fn push(&mut self, key: Key)
+        ensures { self.new ≡ record {
           limit = self.old.limit;
           keys = take self.old.limit (key ∷ self.old.keys);
-        }) }
-        ensures low { self.old.limit ≤ FEW_KEYS → IsOk result }
-        ensures err { OnErr result (self.new ≡ self.old) }
+        } }
     {
         match &mut self.keys {
-            Remembered::Few(row) => {
-                row.push(key);
-                Ok(())
-            }
+            Remembered::Few(row) => row.push(key),
             Remembered::Many(ring) => ring.push(key),
         }
     }

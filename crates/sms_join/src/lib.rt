@@ -4,6 +4,7 @@
 mod cut;
 mod joiner;
 mod key;
+mod key_hash;
 mod key_ring;
 mod key_row;
 mod key_tag;

@@ -1,17 +1,10 @@
 -- A reader may pass this by: contracts of private functions, and proofs, alone cite it.
 --
 -- What is remembered, wherever it lies.
-use Rattle.std.specs.Prelude.{◌<◌}
 use Rattle.sms_join.specs.Inside.LastKeys.{LastKeysValue}
-use Rattle.sms_join.specs.declared.last_keys.TheConstants.{FEW_KEYS}
 use Rattle.sms_join.specs.declared.last_keys.Remembered.{Remembered}
 use Rattle.sms_join.specs.declared.last_keys.Remembered.TheVariants.{Few, Many}
 
 abbrev pub last_keys : Remembered → LastKeysValue
 last_keys (Few row) = row
 last_keys (Many ring) = ring
-
--- A ring is for many.
-abbrev pub HasLimit : Remembered → Type 0
-HasLimit (Few row) = Unit {0}
-HasLimit (Many ring) = FEW_KEYS < ring.limit

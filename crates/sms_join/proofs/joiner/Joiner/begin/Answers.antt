@@ -15,11 +15,6 @@ use Rattle.sms_join.proofs.Outcomes.{joiner_of}
 use Rattle.sms_join.proofs.Offers.{in_place, size_is, says_keeping, says_full, kept_memory, whole_memory, says_text, first_alone, first_kept, first_refused, opened_set}
 use Rattle.sms_join.proofs.joiner.Joiner.begin.Goals as goal
 
-pub returns-in_err-push-clause-says : goal.returns-in_err-push-clause-says
-returns-in_err-push-clause-says c =
-    let p = err_from_is_err_and c.from_residual-in_err-push.result c.from_residual-in_err-push.ensures.1 in
-    rw (p.1, p.2) (whole_memory c.args.self.now.open_max c.args.self.now.holds (piece_of c.args.now c.args.origin.now c.args.stamp c.args.concat c.args.units) (c.args.units ∷ []) (first_alone c.self.inside.open_max c.self.inside.finished c.self.inside.sets c.self.invariant.0 (piece_of c.args.now c.args.origin.now c.args.stamp c.args.concat c.args.units) (in_place c.args.now c.args.origin.now c.args.stamp c.args.concat c.args.units c.requires.place) c.args.self.now c.self.view_is c.requires.fresh c.requires.closed (let e = size_is c.args.origin.now c.args.stamp c.args.concat in sym e ∙ (sym c.size_of.ensures ∙ c.if-size_of-eq1.true))).0)
-
 pub returns-in_err-text-clause-says : goal.returns-in_err-text-clause-says
 returns-in_err-text-clause-says c =
     let p = err_from_is_err_and c.from_residual.result c.from_residual.ensures.1 in
@@ -32,7 +27,7 @@ returns-then-size_of-eq1-clause-says c =
 pub returns-then-size_of-eq1-clause-holds : goal.returns-then-size_of-eq1-clause-holds
 returns-then-size_of-eq1-clause-holds c =
     subst (λ (ks : List Key). IsSame (joiner_of c.self.inside.sets ks) (offered c.args.self.now.open_max c.args.self.now.remembered c.args.self.now.holds (piece_of c.args.now c.args.origin.now c.args.stamp c.args.concat c.args.units)))
-    (sym (ap (λ (l : LastKeysValue). l.keys) c.in_ok-push.ensures.ok ∙ ap (λ (k : Key). take c.self.inside.finished.limit (k ∷ c.self.inside.finished.keys)) c.of-key.ensures))
+    (sym (ap (λ (l : LastKeysValue). l.keys) c.push.ensures ∙ ap (λ (k : Key). take c.self.inside.finished.limit (k ∷ c.self.inside.finished.keys)) c.of-key.ensures))
     (first_alone c.self.inside.open_max c.self.inside.finished c.self.inside.sets c.self.invariant.0 (piece_of c.args.now c.args.origin.now c.args.stamp c.args.concat c.args.units) (in_place c.args.now c.args.origin.now c.args.stamp c.args.concat c.args.units c.requires.place) c.args.self.now c.self.view_is c.requires.fresh c.requires.closed (let e = size_is c.args.origin.now c.args.stamp c.args.concat in sym e ∙ (sym c.size_of.ensures ∙ c.if-size_of-eq1.true))).1
 
 pub returns-then-count-self-clause-says : goal.returns-then-count-self-clause-says

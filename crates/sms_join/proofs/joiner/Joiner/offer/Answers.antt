@@ -117,18 +117,6 @@ returns-in_err-text-clause-says c =
     c.contains.result c.contains.ensures c.if-contains.false c.sequence_of-sequence.ensures)
     c.args.self.now c.self.view_is c.has.result c.has.ensures c.if-has.false c.lacks_one.result c.lacks_one.ensures c.if-not-lacks_one.false))
 
-pub returns-in_err-push-clause-says : goal.returns-in_err-push-clause-says
-returns-in_err-push-clause-says c =
-    let p = err_from_is_err_and c.from_residual-in_err-push.result c.from_residual-in_err-push.ensures.1 in
-    rw (p.1, p.2) (whole_memory c.args.self.now.open_max c.args.self.now.holds (piece_of c.args.now c.args.origin.now c.args.stamp c.args.concat c.args.units) (with_piece (knows c.self.inside.finished c.self.inside.sets (piece_of c.args.now c.args.origin.now c.args.stamp c.args.concat c.args.units) c.in-Some.index c.sequence_of-sequence.result c.self.invariant.0
-    (in_place c.args.now c.args.origin.now c.args.stamp c.args.concat c.args.units c.requires) c.find.result c.in-Some.is c.find.ensures
-    c.contains.result c.contains.ensures c.if-contains.false c.sequence_of-sequence.ensures).own (sequence_of c.args.concat) c.args.units).units
-    (known_whole c.self.inside.open_max c.self.inside.finished c.self.inside.sets (piece_of c.args.now c.args.origin.now c.args.stamp c.args.concat c.args.units) c.in-Some.index c.sequence_of-sequence.result
-    (knows c.self.inside.finished c.self.inside.sets (piece_of c.args.now c.args.origin.now c.args.stamp c.args.concat c.args.units) c.in-Some.index c.sequence_of-sequence.result c.self.invariant.0
-    (in_place c.args.now c.args.origin.now c.args.stamp c.args.concat c.args.units c.requires) c.find.result c.in-Some.is c.find.ensures
-    c.contains.result c.contains.ensures c.if-contains.false c.sequence_of-sequence.ensures)
-    c.args.self.now c.self.view_is c.has.result c.has.ensures c.if-has.false c.lacks_one.result c.lacks_one.ensures c.if-not-lacks_one.false))
-
 pub invariant_of-self-2 : goal.invariant_of-self-2
 invariant_of-self-2 c = (
   (known_finish c.self.inside.open_max c.self.inside.finished c.self.inside.sets (piece_of c.args.now c.args.origin.now c.args.stamp c.args.concat c.args.units) c.in-Some.index c.sequence_of-sequence.result
@@ -161,7 +149,7 @@ returns-clause-says c =
 pub returns-clause-holds : goal.returns-clause-holds
 returns-clause-holds c =
     subst (λ (ks : List Key). IsSame (joiner_of c.remove.new.self ks) (offered c.args.self.now.open_max c.args.self.now.remembered c.args.self.now.holds (piece_of c.args.now c.args.origin.now c.args.stamp c.args.concat c.args.units)))
-    (sym (ap (λ (l : LastKeysValue). l.keys) c.in_ok-push.ensures.ok ∙ ap (λ (k : Key). take c.self.inside.finished.limit (k ∷ c.self.inside.finished.keys)) c.of-key.ensures))
+    (sym (ap (λ (l : LastKeysValue). l.keys) c.push.ensures ∙ ap (λ (k : Key). take c.self.inside.finished.limit (k ∷ c.self.inside.finished.keys)) c.of-key.ensures))
     (known_finish c.self.inside.open_max c.self.inside.finished c.self.inside.sets (piece_of c.args.now c.args.origin.now c.args.stamp c.args.concat c.args.units) c.in-Some.index c.sequence_of-sequence.result
     (knows c.self.inside.finished c.self.inside.sets (piece_of c.args.now c.args.origin.now c.args.stamp c.args.concat c.args.units) c.in-Some.index c.sequence_of-sequence.result c.self.invariant.0
     (in_place c.args.now c.args.origin.now c.args.stamp c.args.concat c.args.units c.requires) c.find.result c.in-Some.is c.find.ensures

@@ -1,40 +1,76 @@
-use Rattle.std.proofs.Common.{◌≡◌, ℕ, ◌<◌, ◌≤◌, List, ◌∷◌, [], ◌++◌, length, take, ap, ◌∙◌, subst, arith}
+use Rattle.std.proofs.Common.{◌≡◌, ℕ, ◌+◌, ◌*◌, ◌≤◌, cond, eqb, List, ◌∷◌, ◌++◌, take, drop, length, reverse, refl, sym, ap, ◌∙◌, subst, arith}
+use Rattle.std.proofs.Math.ListN.{set}
 use Rattle.sms_join.specs.declared.key.Key.{Key}
-use Rattle.sms_join.specs.Joiner.{is_among}
-use Rattle.sms_join.specs.Inside.KeyRings.{newest_first, IsRing}
 use Rattle.sms_join.specs.Inside.LastKeys.{LastKeysValue}
-use Rattle.sms_join.proofs.KeyRings.{inserted, room_pushed, full_pushed, gone, pushed_value}
+use Rattle.sms_join.specs.Inside.KeyHashes.{hash_of}
+use Rattle.sms_join.specs.Inside.KeyRings.{laid, newer, head_of, IsChained, AreLinked}
+use Rattle.sms_join.proofs.Places.{ring_pushed}
+use Rattle.sms_join.proofs.RingPlaces.{head_at}
+use Rattle.sms_join.proofs.RingPushed.{pushed_room, pushed_full, refilled, unlinked, written_next, written_heads, same_capacity, pushed_items}
 use Rattle.sms_join.proofs.key_ring.KeyRing.push.Goals as goal
 
-pub returns-then-len-self-clause-ok : goal.returns-then-len-self-clause-ok
-returns-then-len-self-clause-ok c =
-    let ks : List Key = c.self.inside.keys.keys in
-    let ls : List Key = c.insert.new.self.keys in
-    let last : ls ≡ ks ++ c.args.key ∷ [] =
-    inserted c.self.inside.oldest ks ls c.args.key (ap (λ (v : LastKeysValue). is_among v.keys c.args.key) c.self.view_is ∙ c.requires) c.in_ok-insert.ensures.keys in
-    pushed_value c.args.self.now c.self.inside.limit (newest_first c.self.inside.oldest ks) (newest_first c.self.inside.oldest ls) c.args.key c.self.view_is
-    (room_pushed c.self.inside.limit c.self.inside.oldest ks ls c.args.key c.self.invariant last
-    (subst (λ (n : ℕ). n ≤ c.self.inside.limit) c.len.ensures.len c.if-len-self.true)).1
-
-turned : (c : goal.After-self-1) → IsRing c.self.inside.limit c.place_after-self-inside.result c.swap_remove_index-replaced.new.self.keys
-    × (newest_first c.place_after-self-inside.result c.swap_remove_index-replaced.new.self.keys
-    ≡ take c.self.inside.limit (c.args.key ∷ newest_first c.self.inside.oldest c.self.inside.keys.keys))
-turned c =
-    let ks : List Key = c.self.inside.keys.keys in
-    let ls : List Key = c.insert.new.self.keys in
-    let last : ls ≡ ks ++ c.args.key ∷ [] =
-    inserted c.self.inside.oldest ks ls c.args.key (ap (λ (v : LastKeysValue). is_among v.keys c.args.key) c.self.view_is ∙ c.requires) c.in_ok-insert.ensures.keys in
-    let more : c.self.inside.limit < length ls = subst (λ (n : ℕ). c.self.inside.limit < n) c.len.ensures.len c.if-len-self.false in
-    let turns : c.self.inside.oldest < c.self.inside.limit = c.self.invariant.turns in
-    let g = gone ls c.swap_remove_index-replaced.new.self.keys c.self.inside.oldest c.swap_remove_index-replaced.result c.swap_remove_index-replaced.ensures.key
-    (omega arith) c.swap_remove_index-replaced.ensures.keys in
-    full_pushed c.self.inside.limit c.self.inside.oldest c.place_after-self-inside.result ks ls c.swap_remove_index-replaced.new.self.keys c.args.key g.0
-    c.self.invariant last more g.1 c.place_after-self-inside.ensures
+pub invariant_of-self : goal.invariant_of-self
+invariant_of-self c =
+    let s = c.self.inside in
+    let same : c.push_back.new.self.capacity ≡ s.keys.capacity = same_capacity s.keys c.push_back.new.self c.args.key c.push_back.ensures.items in
+    let ring : IsChained hash_of s.keys.capacity s.oldest (laid s.oldest c.push_back.new.self.items) c.push_reserved.new.self.items (set s.heads.items c.head_of-head.result c.len-count.result) =
+    pushed_room s.keys.items c.self.invariant.0 c.args.key c.len-count.result c.head_of-head.result c.len.result c.index.result.now c.push_back.new.self.items c.push_reserved.new.self.items
+    (set s.heads.items c.head_of-head.result c.len-count.result)
+    (omega (arith, c.if-count-limit.true, c.len-count.ensures.len, c.capacity-limit.ensures.capacity))
+    c.len-count.ensures.len
+    (head_at c.head_of-head.result c.len.result c.key_hash.result (hash_of c.args.key) c.head_of-head.ensures.is c.key_hash.ensures) c.head_of-head.ensures.within (c.len.ensures ∙ s.heads.ok.0)
+    c.index.ensures (pushed_items s.keys c.push_back.new.self c.args.key c.push_back.ensures.items) c.push_reserved.ensures.items refl in (
+      subst (λ (n : ℕ). IsChained hash_of n s.oldest (laid s.oldest c.push_back.new.self.items) c.push_reserved.new.self.items (set s.heads.items c.head_of-head.result c.len-count.result)) (sym same) ring,
+      c.push_reserved.ensures.capacity ∙ (c.self.invariant.1 ∙ sym same),
+      subst (λ (n : ℕ). 2 * n ≤ s.heads.cap) (sym same) c.self.invariant.2,
+    )
 
 pub invariant_of-self-2 : goal.invariant_of-self-2
-invariant_of-self-2 c = (turned c).0
+invariant_of-self-2 c =
+    let s = c.self.inside in
+    let same : c.push_back-2.new.self.capacity ≡ s.keys.capacity = same_capacity s.keys c.push_back-2.new.self c.args.key c.push_back-2.ensures.items in
+    let next : List ℕ = take s.next.len (c.unlink.new.next ++ drop (length c.unlink.new.next) s.next.items) in
+    let heads : List ℕ = take s.heads.len (c.unlink.new.heads ++ drop (length c.unlink.new.heads) s.heads.items) in
+    let same_next : length c.unlink.new.next ≡ length s.next.items = c.unlink.auto.next ∙ ap (λ (l : List ℕ). length l) c.deref_mut-2.ensures.value in
+    let same_heads : length c.unlink.new.heads ≡ length s.heads.items = c.unlink.auto.heads ∙ ap (λ (l : List ℕ). length l) c.deref_mut.ensures.value in
+    let next_is : next ≡ c.unlink.new.next = refilled s.next.len s.next.items c.unlink.new.next s.next.ok.0 same_next in
+    let heads_is : heads ≡ c.unlink.new.heads = refilled s.heads.len s.heads.items c.unlink.new.heads s.heads.ok.0 same_heads in
+    let as_long : length next ≡ length s.next.items = ap (λ (l : List ℕ). length l) next_is ∙ same_next in
+    let as_many : length heads ≡ length s.heads.items = ap (λ (l : List ℕ). length l) heads_is ∙ same_heads in
+    let linked : AreLinked (head_of hash_of (length s.heads.items)) next heads (newer s.oldest (laid s.oldest s.keys.items)) =
+    unlinked hash_of (newer s.oldest (laid s.oldest s.keys.items)) s.heads.items c.deref_mut.result.now c.unlink.new.next next c.unlink.new.heads heads
+    c.deref_mut.ensures.value next_is heads_is c.unlink.ensures in
+    let ns : List ℕ = take s.next.len (c.link.new.next ++ drop (length c.link.new.next) next) in
+    let hs : List ℕ = take s.heads.len (c.link.new.heads ++ drop (length c.link.new.heads) heads) in
+    let o : ℕ = c.place_after-self-inside.result in
+    let ring : IsChained hash_of s.keys.capacity o (laid o c.push_back-2.new.self.items) ns hs =
+    pushed_full s.keys.items c.self.invariant.0 c.args.key c.head_of-head.result c.len.result o c.push_back-2.new.self.items next heads ns hs
+    (omega (arith, c.if-count-limit.false, c.len-count.ensures.len, c.capacity-limit.ensures.capacity))
+    (head_at c.head_of-head.result c.len.result c.key_hash.result (hash_of c.args.key) c.head_of-head.ensures.is c.key_hash.ensures) c.head_of-head.ensures.within (c.len.ensures ∙ s.heads.ok.0)
+    linked as_long as_many (pushed_items s.keys c.push_back-2.new.self c.args.key c.push_back-2.ensures.items)
+    (c.place_after-self-inside.ensures ∙ ap (λ (n : ℕ). cond (eqb (s.oldest + 1) n) 0 (s.oldest + 1)) c.capacity-limit.ensures.capacity)
+    (written_next s.next.len next heads c.link.new.next c.deref_mut-4.result.now c.deref_mut-3.result.now s.oldest c.head_of-head.result (s.next.ok.0 ∙ sym as_long)
+    c.deref_mut-4.ensures.value c.deref_mut-3.ensures.value c.link.ensures.next)
+    (written_heads s.heads.len heads c.link.new.heads c.deref_mut-3.result.now s.oldest c.head_of-head.result (s.heads.ok.0 ∙ sym as_many)
+    c.deref_mut-3.ensures.value c.link.ensures.heads) in (
+      subst (λ (n : ℕ). IsChained hash_of n o (laid o c.push_back-2.new.self.items) ns hs) (sym same) ring,
+      c.self.invariant.1 ∙ sym same,
+      subst (λ (n : ℕ). 2 * n ≤ s.heads.cap) (sym same) c.self.invariant.2,
+    )
 
-pub returns-clause-ok : goal.returns-clause-ok
-returns-clause-ok c =
-    pushed_value c.args.self.now c.self.inside.limit (newest_first c.self.inside.oldest c.self.inside.keys.keys)
-    (newest_first c.place_after-self-inside.result c.swap_remove_index-replaced.new.self.keys) c.args.key c.self.view_is (turned c).1
+abbrev value : ℕ → List Key → LastKeysValue
+value limit ks = record { limit = limit; keys = ks }
+
+pub returns-then-count-limit : goal.returns-then-count-limit
+returns-then-count-limit c =
+    let p = ring_pushed c.self.inside.keys c.push_back.new.self c.args.key c.push_back.ensures.items in
+    let pushed : value c.push_back.new.self.capacity (reverse c.push_back.new.self.items) ≡ value c.self.inside.keys.capacity (take c.self.inside.keys.capacity (c.args.key ∷ reverse c.self.inside.keys.items)) = λ i. record { limit = p.0 i; keys = p.1 i } in
+    c.spread.ensures
+    ∙ (pushed
+    ∙ ap (λ (v : LastKeysValue). record { limit = v.limit; keys = take v.limit (c.args.key ∷ v.keys) }) c.self.view_is)
+
+pub returns : goal.returns
+returns c =
+    let p = ring_pushed c.self.inside.keys c.push_back-2.new.self c.args.key c.push_back-2.ensures.items in
+    (λ i. record { limit = p.0 i; keys = p.1 i })
+    ∙ ap (λ (v : LastKeysValue). record { limit = v.limit; keys = take v.limit (c.args.key ∷ v.keys) }) c.self.view_is

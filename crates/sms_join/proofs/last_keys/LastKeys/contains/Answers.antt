@@ -12,5 +12,5 @@ returns-in-Few c =
 
 pub returns-in-Many : goal.returns-in-Many
 returns-in-Many c =
-    c.is_in_ring.ensures
+    c.contains-in-Many.ensures
     ∙ ap (λ (l : LastKeysValue). is_among l.keys (key_of c.args.origin.now c.args.stamp c.args.concat)) (ap last_keys (sym c.in-Many.is) ∙ c.self.view_is)
