@@ -39,6 +39,7 @@ pub mod RingUnlinked
 pub mod RingPushed
 pub mod RingRelinked
 pub mod KeyTags
+pub mod MostSets
 pub mod Swapped
 pub mod Offers
 pub mod Finishing

@@ -3,6 +3,7 @@ pub mod KeyHashes
 pub mod KeyRings
 pub mod KeyTags
 pub mod LastKeys
+pub mod MostSets
 pub mod OpenSet
 pub mod Remembered
 pub mod SegmentsAt

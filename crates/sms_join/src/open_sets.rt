@@ -11,6 +11,7 @@ ghost use Rattle.sms_join.specs.Key.{same_key, maximum_of};
 ghost use Rattle.sms_join.specs.Inside.OpenSet.{has_set, is_in, with_piece};
 ghost use Rattle.sms_join.specs.Piece.{key_of};
 ghost use Rattle.sms_join.specs.Reading.{text_of_segments};
+ghost use Rattle.sms_join.specs.Inside.MostSets.{Follows};
 ghost use Rattle.sms_join.specs.Inside.Slots.{At, HasPlace};
 
 use crate::key::Key;
@@ -26,22 +27,28 @@ use std::marker::Model;
 /// key.
 const FEW_SETS: usize = 16;
 
+/// How many times as many sets as there are may have been there since room was last given back.
+const MOST_PER_SET: usize = 16;
+
 /// The open sets, each known by its key.
 #[derive(Drop)]
 pub(crate) struct OpenSets {
     slots: IndexMap<Key, Slot>,
+    /// The most sets that have been there since room was last given back.
+    most: usize,
 }
 
 impl Model for OpenSets {
-    ghost use Rattle.std.specs.Prelude.{List};
+    ghost use Rattle.std.specs.Prelude.{List, length};
     ghost use Rattle.sms_join.specs.Inside.OpenSet.{SetValue};
+    ghost use Rattle.sms_join.specs.Inside.MostSets.{Follows};
     ghost use Rattle.sms_join.specs.Inside.Slots.{AreSlots, sets_of};
 
     ghost Value = { List SetValue };
 
     ghost view = { λ o. sets_of o.slots.entries };
 
-    ghost invariant = { λ o. AreSlots o.slots.entries };
+    ghost invariant = { λ o. AreSlots o.slots.entries × Follows (length o.slots.entries) o.most };
 }
 
 /// Which of the sets such a message or segment is of.
@@ -66,6 +73,26 @@ fn has_old(slots: &IndexMap<Key, Slot>, now: u64) -> bool
     slots.values().any(|slot| slot.is_old(now))
 }
 
+/// Where few are left of the most sets that have been there, gives back the room of the others,
+/// and says how many count as the most from then on.
+///
+/// The map makes its index anew for it, in room that it has, so that no look-up passes groups any
+/// more that were full of sets which have gone. That takes as long as the sets need that are left,
+/// and more than these have gone since the last time. It never fails: what cannot be given back
+/// stays. But sets that are opened later ask for that room again, and may be refused it.
+fn give_room_back(slots: &mut IndexMap<Key, Slot>, most: usize) -> usize
+    requires { length slots.old.entries ≤ most }
+    ensures entries { slots.new.entries ≡ slots.old.entries }
+    ensures most { Follows (length slots.old.entries) result }
+{
+    let few = slots.len().max(FEW_SETS);
+    if most / MOST_PER_SET <= few {
+        return most;
+    }
+    slots.shrink_to(2 * few);
+    few
+}
+
 impl OpenSets {
     /// None.
     pub(crate) fn new(alloc: Global) -> OpenSets
@@ -73,6 +100,7 @@ impl OpenSets {
     {
         OpenSets {
             slots: IndexMap::new(alloc),
+            most: 0,
         }
     }
 
@@ -85,8 +113,9 @@ impl OpenSets {
 
     /// Which of them such a message or segment is of. It takes no memory.
     ///
-    /// The hasher has a fixed seed: whoever picks keys of one hash makes it look through them one
-    /// by one, as it does where they are few.
+    /// The hasher has a fixed seed: whoever picks keys of one hash makes it look through them, and
+    /// through groups of the index that were full when they came and are not any more. As room is
+    /// given back, the index never has more than some seven groups for each set that is open.
     pub(crate) fn find(
         &self,
         alloc: Global,
@@ -147,12 +176,13 @@ impl OpenSets {
         self.slots[index].text_with(alloc, &units)
     }
 
-    /// Drops the set. The last one takes its place.
+    /// Drops the set. The last one takes its place. Where few are left, room is given back.
     pub(crate) fn remove(&mut self, index: usize)
         requires { index < length self.old }
         ensures { At self.old index (λ set. self.new ≡ swap_remove self.old index set) }
     {
         let _dropped = self.slots.swap_remove_index(index);
+        self.most = give_room_back(&mut self.slots, self.most);
     }
 
     /// Opens a set with its first piece. If memory runs out, nothing has changed.
@@ -177,11 +207,12 @@ impl OpenSets {
     {
         let slot = Slot::new(alloc, now, key.maximum(), sequence, units)?;
         self.slots.insert(key, slot)?;
+        self.most = self.slots.len().max(self.most);
         Ok(())
     }
 
     /// Drops those that were opened too long ago. It takes no memory. Where there are none, as
-    /// nearly always, it moves nothing.
+    /// nearly always, it moves nothing. Where few are left, room is given back.
     pub(crate) fn age(&mut self, now: u64)
         ensures { self.new ≡ filter (λ set. not (nat_le (set.opened + 604800) now)) self.old }
     {
@@ -194,5 +225,6 @@ impl OpenSets {
                     × (slot.new ≡ slot.old) }
             { !slot.is_old(now) },
         );
+        self.most = give_room_back(&mut self.slots, self.most);
     }
 }

@@ -6,10 +6,12 @@ use Rattle.indexmap.proofs.CallerLemmas.{filter-RetainsPairs}
 use Rattle.sms_join.specs.declared.key.Key.{Key}
 use Rattle.sms_join.specs.Inside.OpenSet.{SetValue}
 use Rattle.sms_join.specs.Inside.Slots.{SlotValue, AreSlots, sets_of}
+use Rattle.sms_join.proofs.MostSets.{follows_same}
 use Rattle.sms_join.proofs.Slots.{sets_filtered, slots_filtered}
+use Rattle.sms_join.proofs.open_sets.OpenSets.age.Goals.{After-self-1}
 use Rattle.sms_join.proofs.open_sets.OpenSets.age.Goals as goal
 
-kept : (c : goal.After-retain) → c.retain.new.self.entries ≡ filter (λ (e : Key × SlotValue). not (nat_le (e.1.opened + 604800) c.args.now)) c.self.inside.slots.entries
+kept : (c : After-self-1) → c.retain.new.self.entries ≡ filter (λ (e : Key × SlotValue). not (nat_le (e.1.opened + 604800) c.args.now)) c.self.inside.slots.entries
 kept c = filter-RetainsPairs _ _ _ (λ k v b w g call. search rules) _ _ c.retain.ensures.filtered
 
 -- where none is old, all stay
@@ -28,12 +30,15 @@ returns-then-not-has_old c =
     (none_goes c.args.now c.self.inside.slots.entries none))
 
 pub invariant_of-self : goal.invariant_of-self
-invariant_of-self c =
-    subst AreSlots (sym (kept c))
-    (slots_filtered (λ (e : Key × SlotValue). not (nat_le (e.1.opened + 604800) c.args.now)) c.self.inside.slots.entries c.self.invariant)
+invariant_of-self c = (
+  subst AreSlots (sym (c.give_room_back-self-inside.ensures.entries ∙ kept c))
+      (slots_filtered (λ (e : Key × SlotValue). not (nat_le (e.1.opened + 604800) c.args.now)) c.self.inside.slots.entries c.self.invariant.0),
+  follows_same c.retain.new.self.entries c.give_room_back-self-inside.new.slots.entries c.give_room_back-self-inside.result
+      c.give_room_back-self-inside.ensures.entries c.give_room_back-self-inside.ensures.most,
+)
 
 pub returns : goal.returns
 returns c =
-    ap sets_of (kept c)
+    ap sets_of (c.give_room_back-self-inside.ensures.entries ∙ kept c)
     ∙ (sets_filtered (λ (s : SetValue). not (nat_le (s.opened + 604800) c.args.now)) c.self.inside.slots.entries
     ∙ ap (filter (λ (s : SetValue). not (nat_le (s.opened + 604800) c.args.now))) c.self.view_is)

@@ -11,11 +11,11 @@ index-requires c =
 
 pub has-requires-clause-last : goal.has-requires-clause-last
 has-requires-clause-last c =
-    place_at c.self.inside.slots.entries c.args.index c.index.result.now c.args.sequence c.self.invariant c.index.ensures
+    place_at c.self.inside.slots.entries c.args.index c.index.result.now c.args.sequence c.self.invariant.0 c.index.ensures
     (subst (λ (l : List SetValue). HasPlace l c.args.index c.args.sequence) (sym c.self.view_is) c.requires)
 
 pub returns : goal.returns
 returns c =
     subst (λ (l : List SetValue). At l c.args.index (λ s. c.has.result ≡ is_in c.args.sequence s.sequences)) c.self.view_is
     (at_slot c.self.inside.slots.entries c.args.index c.index.result.now (λ s. c.has.result ≡ is_in c.args.sequence s.sequences)
-    c.self.invariant c.index.ensures (λ k e. c.has.ensures))
+    c.self.invariant.0 c.index.ensures (λ k e. c.has.ensures))

@@ -13,6 +13,6 @@ pub returns : goal.returns
 returns c =
     subst (λ (l : List SetValue). At l c.args.index (λ s. c.lacks_one.result ≡ eqb (suc (length s.sequences)) (maximum_of s.key))) c.self.view_is
     (at_slot c.self.inside.slots.entries c.args.index c.index.result.now (λ s. c.lacks_one.result ≡ eqb (suc (length s.sequences)) (maximum_of s.key))
-    c.self.invariant c.index.ensures
+    c.self.invariant.0 c.index.ensures
     (λ k e. c.lacks_one.ensures ∙ (ap (eqb (suc (length (filled c.index.result.now.places)))) e
     ∙ ap (λ (n : ℕ). eqb (suc n) (maximum_of k)) (sym (as_many 1 c.index.result.now.places)))))

@@ -23,6 +23,6 @@ returns c =
     (λ text h. subst (λ (l : List SetValue). At l c.args.index (λ s. (n : ℕ) → 0 < n → n ≤ maximum_of s.key → lacks_only s n ≡ true
     → chars (string_bytes text) ≡ text_of_segments (with_piece s n c.args.units).units)) c.self.view_is
     (at_slot c.self.inside.slots.entries c.args.index c.index.result.now (λ s. (n : ℕ) → 0 < n → n ≤ maximum_of s.key → lacks_only s n ≡ true
-    → chars (string_bytes text) ≡ text_of_segments (with_piece s n c.args.units).units) c.self.invariant c.index.ensures
+    → chars (string_bytes text) ≡ text_of_segments (with_piece s n c.args.units).units) c.self.invariant.0 c.index.ensures
     (λ k e n a b l. h ∙ ap text_of_segments (text_more k c.index.result.now n c.args.units e a b l))))
     c.text_with.ensures
