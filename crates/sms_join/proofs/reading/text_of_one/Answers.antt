@@ -10,7 +10,7 @@ use Rattle.sms_join.proofs.reading.text_of_one.Goals as goal
 
 pub returns-in-Gsm : goal.returns-in-Gsm
 returns-in-Gsm c =
-    subst (λ l. IfOk c.text_from_gsm.result (λ text. chars (string_bytes text) ≡ l)) (ap text_of_septets c.into_vec.ensures.same ∙ sym (ap (λ u. text_of_segments (u ∷ [])) c.in-Gsm.is ∙ one_read _)) c.text_from_gsm.ensures
+    subst (λ l. IfOk c.text_of_list.result (λ text. chars (string_bytes text) ≡ l)) (ap text_of_septets c.into_vec.ensures.same ∙ sym (ap (λ u. text_of_segments (u ∷ [])) c.in-Gsm.is ∙ one_read _)) c.text_of_list.ensures
 
 pub returns-in-Ucs2 : goal.returns-in-Ucs2
 returns-in-Ucs2 c =
