@@ -28,7 +28,7 @@ struct Piece {
 
 /// What is answered to a piece.
 #[derive(Clone, Copy, Debug, PartialEq, Eq)]
-enum Told {
+pub enum Told {
     Repeat,
     Kept,
     Finished,
@@ -140,11 +140,11 @@ impl Plain {
 
 /// Numbers that a seed gives.
 #[derive(Drop)]
-struct Chance(u64);
+pub struct Chance(pub u64);
 
 impl Chance {
     /// A number below a limit.
-    fn below(&mut self, limit: u64) -> u64 {
+    pub fn below(&mut self, limit: u64) -> u64 {
         self.0 = self
             .0
             .wrapping_mul(6_364_136_223_846_793_005)
@@ -229,7 +229,7 @@ fn whole_text(alloc: Global, mark: Mark) -> Result<String, AllocError> {
 }
 
 /// What a joiner answered, where a set that is whole must have its text.
-fn told_of(answer: &Result<Offer, OfferFault>, text: &str) -> Told {
+pub fn told_of(answer: &Result<Offer, OfferFault>, text: &str) -> Told {
     match answer {
         Ok(Offer::Repeat) => Told::Repeat,
         Ok(Offer::Kept) => Told::Kept,

@@ -10,6 +10,12 @@ mod found;
 #[cfg(test)]
 mod joiner;
 #[cfg(test)]
+mod left;
+#[cfg(test)]
 mod reading;
+#[cfg(test)]
+mod remembered;
+#[cfg(test)]
+mod room;
 #[cfg(test)]
 mod segment;
