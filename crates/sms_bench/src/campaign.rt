@@ -1,17 +1,17 @@
-//! A campaign: texts that are cut and written as SMS-SUBMIT, and SMS-DELIVERs of which the texts are
-//! taken, by the calls of the library.
+//! A campaign: texts that are cut and written as SMS-SUBMIT by the calls of the library.
 
 ghost use Rattle.std.specs.Prelude.{◌≡◌, IfOk, All};
 ghost use Rattle.sms_join.specs.Segments.User.{IsSendable};
 ghost use Rattle.sms_tpdu.specs.declared.user_data.concat.Width.TheVariants.{Eight};
 
+use crate::answers::Answers;
 use crate::chance::Chance;
-use crate::digest::Digest;
+use crate::counts::add_one;
 use crate::texts::{long_text, short_text};
 use anyhow::Result;
-use sms_field::{Address, Validity, alphabet_of};
+use sms_field::{Address, Validity};
 use sms_join::{SegmentView, Segments, cut_text};
-use sms_tpdu::{Deliver, DeliverView, SubmitFront, Unit, UserData, Width};
+use sms_tpdu::{SubmitFront, Width};
 use std::alloc::Global;
 
 /// The octets of the SMS-SUBMIT of a segment.
@@ -35,17 +35,17 @@ fn written(alloc: Global, segment: &SegmentView<'_>, target: Address, number: u8
 fn write_segments(
     alloc: Global,
     segments: &Segments,
-    target: &str,
+    target: &Address,
     number: u8,
-    digest: &mut Digest,
+    answers: &mut Answers,
 ) -> Result<()>
     requires { All (IsSendable Eight) segments.now }
 {
     for place in 0..segments.len() {
         if let Some(segment) = segments.get(place) {
-            let address = Address::from_text(alloc, target)?;
-            let octets = written(alloc, &segment, address, number)?;
-            digest.take(&octets);
+            let octets = written(alloc, &segment, target.copy(alloc)?, number)?;
+            add_one(&mut answers.counts.written);
+            answers.digest.take(&octets);
         }
     }
     Ok(())
@@ -57,10 +57,11 @@ fn write_text(
     text: &str,
     target: &str,
     number: u8,
-    digest: &mut Digest,
+    answers: &mut Answers,
 ) -> Result<()> {
     let segments = cut_text(alloc, text, Width::Eight)?;
-    write_segments(alloc, &segments, target, number, digest)
+    let target = Address::from_text(alloc, target)?;
+    write_segments(alloc, &segments, &target, number, answers)
 }
 
 /// A text for each of a campaign's many targets: one of four is long.
@@ -83,7 +84,7 @@ fn texts_of(alloc: Global, chance: &mut Chance) -> Result<Vec<String>> {
 }
 
 /// Cuts and writes so many texts, each to a target of its own and with its number in front.
-pub fn write(alloc: Global, chance: &mut Chance, count: u64, digest: &mut Digest) -> Result<()> {
+pub fn write(alloc: Global, chance: &mut Chance, count: u64, answers: &mut Answers) -> Result<()> {
     let texts = texts_of(alloc, chance)?;
     let mut text = String::new(alloc);
     let mut target = String::new(alloc);
@@ -100,36 +101,8 @@ pub fn write(alloc: Global, chance: &mut Chance, count: u64, digest: &mut Digest
             text.as_str(),
             target.as_str(),
             (number % 256) as u8,
-            digest,
+            answers,
         )?;
-    }
-    Ok(())
-}
-
-/// The text of a unit that is read as a value.
-fn read(alloc: Global, octets: &[u8]) -> Result<Option<String>> {
-    let (deliver, _) = Deliver::read(alloc, octets)?;
-    let Deliver { dcs, user, .. } = deliver;
-    let UserData { body, .. } = user;
-    Ok(body.into_text(alloc, alphabet_of(dcs))?)
-}
-
-/// The text of a unit that is seen where it lies.
-fn see(alloc: Global, octets: &[u8]) -> Result<Option<String>> {
-    let (deliver, _) = DeliverView::read(octets)?;
-    Ok(deliver.text(alloc)?)
-}
-
-/// Takes the text of a unit, which is read as a value or seen where it lies.
-pub fn take_text(alloc: Global, octets: &[u8], is_seen: bool, digest: &mut Digest) -> Result<()> {
-    let text = if is_seen {
-        see(alloc, octets)?
-    } else {
-        read(alloc, octets)?
-    };
-    match text {
-        Some(text) => digest.take(text.as_bytes()),
-        None => digest.take(b"-"),
     }
     Ok(())
 }

@@ -1,6 +1,6 @@
 //! Numbers that a seed gives.
 
-ghost use Rattle.std.specs.Prelude.{◌≤◌};
+ghost use Rattle.std.specs.Prelude.{◌≡◌, ◌≤◌, false};
 
 use rand_core::{Rng, SeedableRng};
 use rand_xoshiro::Xoshiro256PlusPlus;
@@ -30,8 +30,10 @@ impl Chance {
         }
     }
 
-    /// Whether it happens, once in so many times.
-    pub fn once_in(&mut self, times: usize) -> bool {
-        self.below(times) == 0
+    /// Whether it happens, once in so many times; never at 0.
+    pub fn once_in(&mut self, times: usize) -> bool
+        ensures { times ≡ 0 → result ≡ false }
+    {
+        times != 0 && self.below(times) == 0
     }
 }

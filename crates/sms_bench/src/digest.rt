@@ -1,7 +1,6 @@
 //! A digest of octets that are written.
 
 use std::fmt;
-use std::io::{self, Write};
 
 /// An odd number with many bits.
 const FACTOR: u64 = 0x9E37_79B9_7F4A_7C15;
@@ -64,6 +63,12 @@ impl Digest {
             .wrapping_add((words.len() as u64).wrapping_mul(8));
     }
 
+    /// Takes a word by itself, whatever octets are carried.
+    pub fn take_number(&mut self, number: u64) {
+        self.take_word(number);
+        self.count = self.count.wrapping_add(8);
+    }
+
     /// Takes octets.
     pub fn take(&mut self, octets: &[u8]) {
         let count = match self.carried() {
@@ -75,17 +80,6 @@ impl Digest {
         let (words, last) = rest.as_chunks::<8>();
         self.take_words(words);
         self.take_octets(last);
-    }
-}
-
-impl Write for Digest {
-    fn write(&mut self, octets: &[u8]) -> io::Result<usize> {
-        self.take(octets);
-        Ok(octets.len())
-    }
-
-    fn flush(&mut self) -> io::Result<()> {
-        Ok(())
     }
 }
 

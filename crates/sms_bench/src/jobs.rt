@@ -1,16 +1,18 @@
 //! The jobs, each over an input that its seed makes.
 
-use crate::campaign::{take_text, write};
+use crate::answers::Answers;
+use crate::campaign::write;
 use crate::chance::Chance;
-use crate::digest::Digest;
+use crate::counts::Form;
 use crate::lines::{Made, Maker};
 use crate::pool::{Units, pool_of};
 use crate::scripts::{Script, texts_of};
 use crate::traffic::{Shape, Traffic};
+use crate::units::{take_units, units_of};
 use anyhow::{Result, bail};
-use hex::decode;
 use sms_command::command;
 use std::alloc::Global;
+use std::collections::VecDeque;
 
 /// How many texts the traffic has, each again and again under other keys.
 const POOL: usize = 1_000;
@@ -21,19 +23,30 @@ const SCRIPT: u64 = 100_000;
 /// The most lines of a script that is drawn.
 const DRAWN: u64 = 40_000;
 
-/// Lines in the order of one joiner's narrow limits.
+/// The most lines of a crowd.
+const CROWDED: u64 = 40_000;
+
+/// Lines in the order of one joiner's narrow limits, some 300 in a week.
 const NARROW: Shape = Shape {
     flights: 8,
     origins: 10_000,
     fault: 100,
+    repeat: 50,
+    recent: 32,
+    lost: 40,
+    pace: 1_801,
     has_centre: false,
 };
 
-/// Segments of thousands of texts among each other.
+/// Segments of thousands of texts among each other, within a day.
 const CROWD: Shape = Shape {
     flights: 9_000,
     origins: 1_000_000,
     fault: 100,
+    repeat: 50,
+    recent: 10_000,
+    lost: 100,
+    pace: 1,
     has_centre: false,
 };
 
@@ -42,6 +55,10 @@ const CAPTURE: Shape = Shape {
     flights: 8,
     origins: 10_000,
     fault: 10,
+    repeat: 0,
+    recent: 0,
+    lost: 0,
+    pace: 61,
     has_centre: false,
 };
 
@@ -50,15 +67,25 @@ const LISTING: Shape = Shape {
     flights: 8,
     origins: 10_000,
     fault: 10,
+    repeat: 0,
+    recent: 0,
+    lost: 0,
+    pace: 61,
     has_centre: true,
 };
 
+/// The seed of the input of a number.
+fn seed_of(seed: u64, number: u64) -> u64 {
+    seed.wrapping_mul(1_000).wrapping_add(number)
+}
+
 /// Runs the command on lines that are made, and takes its output and status.
-fn run_on<M: Maker>(alloc: Global, words: &[&str], maker: M, digest: &mut Digest) {
+fn run_on<M: Maker>(alloc: Global, words: &[&str], form: Form, maker: M, answers: &mut Answers) {
     let mut input = Made::new(alloc, maker);
-    let status = command(alloc, words, &mut input, digest);
+    answers.begin(form);
+    let status = command(alloc, words, &mut input, answers);
     drop(input);
-    digest.take(&[status]);
+    answers.finish(status);
 }
 
 /// Traffic of a shape.
@@ -70,6 +97,7 @@ fn traffic(alloc: Global, shape: Shape, seed: u64, count: u64) -> Result<Traffic
         chance,
         pool,
         flights: Vec::new(alloc),
+        sent: VecDeque::new(alloc),
         left: count,
         clock: 1,
         begun: 0,
@@ -78,28 +106,64 @@ fn traffic(alloc: Global, shape: Shape, seed: u64, count: u64) -> Result<Traffic
     Ok(traffic)
 }
 
-/// Joins traffic.
-fn join(
+/// Joins traffic as objects, and as much other traffic as lines, of which all is told.
+fn join(alloc: Global, seed: u64, count: u64, answers: &mut Answers) -> Result<()> {
+    let half = count / 2;
+    let objects = traffic(alloc, NARROW, seed_of(seed, 0), half)?;
+    let words = ["sms", "join", "--json"];
+    run_on(alloc, &words, Form::JoinedJson, objects, answers);
+    let lines = traffic(alloc, NARROW, seed_of(seed, 1), half)?;
+    let words = ["sms", "join", "--verbose"];
+    run_on(alloc, &words, Form::Joined, lines, answers);
+    Ok(())
+}
+
+/// Joins a crowd's segments. Of each second crowd, the first too, all is told.
+fn crowd_one(
     alloc: Global,
-    words: &[&str],
-    shape: Shape,
     seed: u64,
-    count: u64,
-    digest: &mut Digest,
+    number: u64,
+    lines: u64,
+    answers: &mut Answers,
 ) -> Result<()> {
-    let lines = traffic(alloc, shape, seed, count)?;
-    run_on(alloc, words, lines, digest);
+    let own = traffic(alloc, CROWD, seed_of(seed, number), lines)?;
+    let words = [
+        "sms",
+        "join",
+        "--open",
+        "10000",
+        "--remembered",
+        "10000",
+        "--verbose",
+    ];
+    let told = if number % 2 == 0 { 7 } else { 6 };
+    run_on(alloc, &words[..told], Form::Joined, own, answers);
+    Ok(())
+}
+
+/// Joins crowds one after another.
+fn crowd(alloc: Global, seed: u64, count: u64, answers: &mut Answers) -> Result<()> {
+    let mut left = count;
+    for number in 0..count {
+        let lines = left.min(CROWDED);
+        if lines == 0 {
+            break;
+        }
+        left -= lines;
+        crowd_one(alloc, seed, number, lines, answers)?;
+    }
     Ok(())
 }
 
 /// Shows a capture as JSON, and a listing as lines.
-fn show(alloc: Global, seed: u64, count: u64, digest: &mut Digest) -> Result<()> {
-    let capture = traffic(alloc, CAPTURE, seed, count / 2)?;
+fn show(alloc: Global, seed: u64, count: u64, answers: &mut Answers) -> Result<()> {
+    let half = count / 2;
+    let capture = traffic(alloc, CAPTURE, seed_of(seed, 0), half)?;
     let words = ["sms", "show", "deliver", "--lines", "--json"];
-    run_on(alloc, &words, capture, digest);
-    let listing = traffic(alloc, LISTING, seed.wrapping_add(1), count / 2)?;
+    run_on(alloc, &words, Form::ShownJson, capture, answers);
+    let listing = traffic(alloc, LISTING, seed_of(seed, 1), half)?;
     let words = ["sms", "show", "any", "--sca", "--lines"];
-    run_on(alloc, &words, listing, digest);
+    run_on(alloc, &words, Form::Shown, listing, answers);
     Ok(())
 }
 
@@ -111,24 +175,25 @@ fn script(alloc: Global, seed: u64, lines: u64) -> Result<Script> {
 }
 
 /// Plays a script, plainly or as its number says.
-fn play_one(alloc: Global, seed: u64, number: u64, lines: u64, digest: &mut Digest) -> Result<()> {
-    let script = script(alloc, seed.wrapping_mul(1_000).wrapping_add(number), lines)?;
+fn play_one(
+    alloc: Global,
+    seed: u64,
+    number: u64,
+    lines: u64,
+    answers: &mut Answers,
+) -> Result<()> {
+    let script = script(alloc, seed_of(seed, number), lines)?;
+    let words = ["sms", "play", "--orderly", "--accepted", "--json"];
     match number % 3 {
-        0 => run_on(alloc, &["sms", "play"], script, digest),
-        1 => {
-            let words = ["sms", "play", "--orderly", "--accepted"];
-            run_on(alloc, &words, script, digest);
-        }
-        _ => {
-            let words = ["sms", "play", "--orderly", "--accepted", "--json"];
-            run_on(alloc, &words, script, digest);
-        }
+        0 => run_on(alloc, &words[..2], Form::Played, script, answers),
+        1 => run_on(alloc, &words[..4], Form::Played, script, answers),
+        _ => run_on(alloc, &words, Form::PlayedJson, script, answers),
     }
     Ok(())
 }
 
 /// Plays scripts one after another.
-fn play(alloc: Global, seed: u64, count: u64, digest: &mut Digest) -> Result<()> {
+fn play(alloc: Global, seed: u64, count: u64, answers: &mut Answers) -> Result<()> {
     let mut left = count;
     for number in 0..count {
         let lines = left.min(SCRIPT);
@@ -136,20 +201,28 @@ fn play(alloc: Global, seed: u64, count: u64, digest: &mut Digest) -> Result<()>
             break;
         }
         left -= lines;
-        play_one(alloc, seed, number, lines, digest)?;
+        play_one(alloc, seed, number, lines, answers)?;
+    }
+    Ok(())
+}
+
+/// Plays a script in each way.
+fn ways(alloc: Global, seed: u64, count: u64, answers: &mut Answers) -> Result<()> {
+    for number in 0..3 {
+        play_one(alloc, seed, number, count, answers)?;
     }
     Ok(())
 }
 
 /// Draws a script.
-fn chart_one(alloc: Global, seed: u64, lines: u64, digest: &mut Digest) -> Result<()> {
+fn chart_one(alloc: Global, seed: u64, lines: u64, answers: &mut Answers) -> Result<()> {
     let script = script(alloc, seed, lines)?;
-    run_on(alloc, &["sms", "chart"], script, digest);
+    run_on(alloc, &["sms", "chart"], Form::Drawn, script, answers);
     Ok(())
 }
 
 /// Draws scripts one after another.
-fn chart(alloc: Global, seed: u64, count: u64, digest: &mut Digest) -> Result<()> {
+fn chart(alloc: Global, seed: u64, count: u64, answers: &mut Answers) -> Result<()> {
     let mut left = count;
     for number in 0..count {
         let lines = left.min(DRAWN);
@@ -158,104 +231,32 @@ fn chart(alloc: Global, seed: u64, count: u64, digest: &mut Digest) -> Result<()
         }
         left -= lines;
         let own = seed.wrapping_add(number.wrapping_mul(1_000_003));
-        chart_one(alloc, own, lines, digest)?;
+        chart_one(alloc, own, lines, answers)?;
     }
     Ok(())
 }
 
-/// The octets of the units of some texts.
-fn units(alloc: Global, chance: &mut Chance) -> Result<Vec<Vec<u8>>> {
-    let mut units = Vec::new(alloc);
-    for text in &pool_of(alloc, chance, POOL)? {
-        add_units(alloc, text, &mut units)?;
-    }
-    Ok(units)
-}
-
-/// Adds the octets of a text's units.
-fn add_units(alloc: Global, text: &Units, units: &mut Vec<Vec<u8>>) -> Result<()> {
-    for line in &text.lines {
-        units.push(decode(alloc, line.as_bytes())?)?;
-    }
-    Ok(())
-}
-
-/// Puts six digits of a number in an origin's.
-fn put_digits(unit: &mut Vec<u8>, number: u64) {
-    let mut left = number;
-    for octet in unit.as_mut_slice().get_mut(5..8).into_iter().flatten() {
-        *octet = (left % 10 * 16 + left / 10 % 10) as u8;
-        left /= 100;
-    }
-}
-
-/// Takes the texts of units, each with an origin of its own.
-fn take_texts(
-    alloc: Global,
-    units: &mut Vec<Vec<u8>>,
-    count: u64,
-    digest: &mut Digest,
-) -> Result<()> {
-    let mut place = 0;
-    for number in 0..count {
-        if place >= units.len() {
-            place = 0;
-        }
-        if let Some(unit) = units.as_mut_slice().get_mut(place) {
-            put_digits(unit, number);
-            take_text(alloc, unit, number % 2 == 0, digest)?;
-        }
-        place = place.saturating_add(1);
-    }
-    Ok(())
-}
-
-/// Writes a campaign's units, and takes the texts of twice as many units.
-fn texts(alloc: Global, seed: u64, count: u64, digest: &mut Digest) -> Result<()> {
+/// Writes a campaign's units, and takes twice as many units.
+fn texts(alloc: Global, seed: u64, count: u64, answers: &mut Answers) -> Result<()> {
     let mut chance = Chance::new(seed);
-    let mut units = units(alloc, &mut chance)?;
-    write(alloc, &mut chance, count, digest)?;
-    take_texts(alloc, &mut units, count.saturating_mul(2), digest)
+    let mut units = units_of(alloc, &mut chance, POOL)?;
+    write(alloc, &mut chance, count, answers)?;
+    take_units(alloc, &mut units, count.saturating_mul(2), answers)
 }
 
-/// Joins a crowd's segments.
-fn crowd(alloc: Global, seed: u64, count: u64, digest: &mut Digest) -> Result<()> {
-    let words = ["sms", "join", "--open", "10000", "--remembered", "10000"];
-    join(alloc, &words, CROWD, seed, count, digest)
-}
-
-/// Runs each job, and plays a script in each way.
-fn all(alloc: Global, seed: u64, count: u64, digest: &mut Digest) -> Result<()> {
-    join(
-        alloc,
-        &["sms", "join", "--json"],
-        NARROW,
-        seed,
-        count,
-        digest,
-    )?;
-    crowd(alloc, seed, count, digest)?;
-    show(alloc, seed, count, digest)?;
-    for number in 0..3 {
-        play_one(alloc, seed, number, count, digest)?;
-    }
-    chart(alloc, seed, count, digest)?;
-    texts(alloc, seed, count, digest)
-}
-
-/// Runs a job, and gives the digest of its answers.
-pub fn run(alloc: Global, name: &str, seed: u64, count: u64) -> Result<Digest> {
-    let mut digest = Digest::new();
-    let told = &mut digest;
+/// Runs a job, and gives its answers.
+pub fn run(alloc: Global, name: &str, seed: u64, count: u64) -> Result<Answers> {
+    let mut answers = Answers::new(alloc);
+    let told = &mut answers;
     match name {
-        "join" => join(alloc, &["sms", "join", "--json"], NARROW, seed, count, told)?,
+        "join" => join(alloc, seed, count, told)?,
         "crowd" => crowd(alloc, seed, count, told)?,
         "show" => show(alloc, seed, count, told)?,
         "play" => play(alloc, seed, count, told)?,
+        "ways" => ways(alloc, seed, count, told)?,
         "chart" => chart(alloc, seed, count, told)?,
         "texts" => texts(alloc, seed, count, told)?,
-        "all" => all(alloc, seed, count, told)?,
         _ => bail!("no such job"),
     }
-    Ok(digest)
+    Ok(answers)
 }

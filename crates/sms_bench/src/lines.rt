@@ -1,6 +1,6 @@
 //! Lines that are made as they are read.
 
-ghost use Rattle.std.specs.Prelude.{◌≤◌, length};
+ghost use Rattle.std.specs.Prelude.{◌≡◌, length, min};
 
 use std::alloc::{AllocError, Global};
 use std::io::{self, ErrorKind, Read};
@@ -46,7 +46,7 @@ impl<M: Maker> Made<M> {
 
 /// Copies as many octets to the front of a buffer as it has room for, and says how many.
 fn copy_front(octets: &[u8], buffer: &mut [u8]) -> usize
-    ensures { result ≤ length buffer.old }
+    ensures count { result ≡ min (length octets.now) (length buffer.old) }
 {
     let count = octets.len().min(buffer.len());
     buffer[..count].copy_from_slice(&octets[..count]);

@@ -1,9 +1,12 @@
 //! Runs a job that users wait for on an input that is made as it runs, and prints a digest of all
-//! that the job answers.
+//! that the job answers, and how much of what came out.
 #![tactic(auto)]
 
+mod answers;
 mod campaign;
 mod chance;
+mod counts;
+mod date;
 mod digest;
 mod jobs;
 mod lines;
@@ -11,6 +14,7 @@ mod pool;
 mod scripts;
 mod texts;
 mod traffic;
+mod units;
 
 use anyhow::{Context, Result, bail};
 use std::env;
@@ -41,9 +45,23 @@ fn words_of(rt: &HostRuntime) -> Result<Asked> {
     Ok(Asked { name, seed, count })
 }
 
+/// The jobs that are run one after another where all are asked for.
+static JOBS: [&str; 6] = ["join", "crowd", "show", "ways", "chart", "texts"];
+
+/// Runs a job, and prints what it answers.
+fn tell(rt: &HostRuntime, name: &str, seed: u64, count: u64) -> Result<()> {
+    let told = jobs::run(rt.alloc(), name, seed, count)?;
+    println!(rt; "{name}: {told}")?;
+    Ok(())
+}
+
 fn main(rt: HostRuntime) -> Result<()> {
     let Asked { name, seed, count } = words_of(&rt)?;
-    let told = jobs::run(rt.alloc(), name.as_str(), seed, count)?;
-    println!(rt; "{name}: {told}")?;
+    if name.as_str() != "all" {
+        return tell(&rt, name.as_str(), seed, count);
+    }
+    for job in JOBS {
+        tell(&rt, job, seed, count)?;
+    }
     Ok(())
 }

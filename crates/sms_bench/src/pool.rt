@@ -37,12 +37,23 @@ fn some_text(alloc: Global, chance: &mut Chance) -> Result<String> {
     Ok(short_text(alloc, chance)?)
 }
 
+/// The units of some text. A text of several units begins with a star and a blank, so that it is
+/// known where it is whole.
+fn some_units(alloc: Global, chance: &mut Chance) -> Result<Units> {
+    let text = some_text(alloc, chance)?;
+    let units = units_of(alloc, text.as_str())?;
+    if units.lines.len() < 2 {
+        return Ok(units);
+    }
+    let marked = format!(in alloc; "* {text}")?;
+    units_of(alloc, marked.as_str())
+}
+
 /// The units of so many texts.
 pub fn pool_of(alloc: Global, chance: &mut Chance, count: usize) -> Result<Vec<Units>> {
     let mut pool = Vec::new(alloc);
     for _ in 0..count {
-        let text = some_text(alloc, chance)?;
-        pool.push(units_of(alloc, text.as_str())?)?;
+        pool.push(some_units(alloc, chance)?)?;
     }
     Ok(pool)
 }

@@ -1,5 +1,5 @@
-//! Scripts of a lossy network: texts of one segment or many, packets that are lost, come twice, late
-//! or in another order, and messages that wait till their validity ends.
+//! Scripts of a lossy network: texts of one segment or many, packets that are lost, come twice,
+//! late or in another order, and messages that wait till their validity ends.
 
 use crate::chance::Chance;
 use crate::lines::Maker;
@@ -291,7 +291,8 @@ impl Script {
         Ok(())
     }
 
-    /// The clock goes on: by a moment, or past the end of all validity where many messages are held.
+    /// The clock goes on: by a moment, or past the end of all validity where many messages are
+    /// held.
     fn put_tick(&mut self, room: &mut Vec<u8>) -> Result<(), AllocError> {
         if self.held < HELD {
             let seconds = 1 + self.chance.below(9) as u64;

@@ -1,10 +1,14 @@
 //! A gateway's traffic: SMS-DELIVERs of many origins, one a line, segments of some texts at a time
 //! among each other.
 
+ghost use Rattle.std.specs.Prelude.{◌≡◌, ◌+◌, ◌%◌};
+
 use crate::chance::Chance;
+use crate::date::date_of;
 use crate::lines::Maker;
 use crate::pool::Units;
 use std::alloc::AllocError;
+use std::collections::VecDeque;
 
 /// Of what shape the traffic is.
 #[derive(Clone, Copy)]
@@ -13,8 +17,16 @@ pub struct Shape {
     pub flights: usize,
     /// How many origins there are.
     pub origins: usize,
-    /// One line in so many is at fault.
+    /// One line in so many is at fault. A segment that was spoiled comes once more.
     pub fault: usize,
+    /// One line in so many is a unit that came before and was not spoiled; none at 0.
+    pub repeat: usize,
+    /// Among so many lines such a unit was sent.
+    pub recent: usize,
+    /// Of so many texts of several segments one lacks a segment; none at 0.
+    pub lost: usize,
+    /// How many seconds the clock goes on before each line.
+    pub pace: u64,
     /// Whether the address of a service centre stands before each unit, and other units than
     /// SMS-DELIVER are among them.
     pub has_centre: bool,
@@ -33,6 +45,10 @@ pub struct Flight {
     first: usize,
     /// How many segments have come.
     come: usize,
+    /// How many of its segments come.
+    comes: usize,
+    /// When the segment that comes next was taken by its centre, in seconds.
+    taken: u64,
 }
 
 /// What makes traffic.
@@ -42,6 +58,8 @@ pub struct Traffic {
     pub chance: Chance,
     pub pool: Vec<Units>,
     pub flights: Vec<Flight>,
+    /// The flights of the last units that were not spoiled, each as it was before its unit.
+    pub sent: VecDeque<Flight>,
     /// How many lines are still to come.
     pub left: u64,
     /// The seconds of the stamps.
@@ -50,8 +68,10 @@ pub struct Traffic {
     pub begun: usize,
 }
 
-/// A digit.
-fn digit(number: u64) -> u8 {
+/// The last digit of a number.
+fn digit(number: u64) -> u8
+    ensures { result ≡ 48 + number % 10 }
+{
     b'0' + (number % 10) as u8
 }
 
@@ -65,15 +85,13 @@ fn put_two(room: &mut [u8], place: usize, number: u64) {
     }
 }
 
-/// Puts the stamp (TP-SCTS) of so many seconds in a year.
+/// Puts the stamp (TP-SCTS) of so many seconds.
 fn put_stamp(room: &mut [u8], seconds: u64) {
-    let days = seconds / 86_400;
-    put_two(room, 0, 24 + days / 336 % 50);
-    put_two(room, 2, 1 + days / 28 % 12);
-    put_two(room, 4, 1 + days % 28);
-    put_two(room, 6, seconds / 3_600 % 24);
-    put_two(room, 8, seconds / 60 % 60);
-    put_two(room, 10, seconds % 60);
+    let mut place = 0_usize;
+    for number in date_of(seconds) {
+        put_two(room, place, number);
+        place = place.saturating_add(2);
+    }
 }
 
 /// Puts the last eight digits, and the half octet that is none, of the address +4670 with seven
@@ -100,12 +118,12 @@ fn put_reference(room: &mut [u8], reference: u8) {
 }
 
 /// Puts what is a unit's own: its origin, its stamp, and its reference where it is a segment.
-fn put_own(unit: &mut [u8], flight: Flight, clock: u64, is_segment: bool) {
+fn put_own(unit: &mut [u8], flight: Flight, is_segment: bool) {
     if let Some(room) = unit.get_mut(6..18) {
         put_origin(room, flight.origin);
     }
     if let Some(room) = unit.get_mut(22..36) {
-        put_stamp(room, clock);
+        put_stamp(room, flight.taken);
     }
     if is_segment {
         if let Some(room) = unit.get_mut(44..46) {
@@ -123,6 +141,13 @@ static STATUS_REPORT: &[u8] = b"06070B916407000000F04210100000000042101000000000
 /// A report of an accepted submission, of which the stamp stands at 4.
 static ACCEPTED: &[u8] = b"010042101000000000";
 
+/// Puts an octet at a place.
+fn put_octet(room: &mut Vec<u8>, place: usize, octet: u8) {
+    if let Some(own) = room.as_mut_slice().get_mut(place) {
+        *own = octet;
+    }
+}
+
 /// Puts the stamp of a report that stands from a place on.
 fn put_report_stamp(room: &mut Vec<u8>, place: usize, clock: u64) {
     if let Some(own) = room.as_mut_slice().get_mut(place..) {
@@ -136,12 +161,15 @@ impl Traffic {
         self.begun = self.begun.wrapping_add(1);
         let text = self.chance.below(self.pool.len());
         let count = self.count_of(text);
+        let lacks = count > 1 && self.chance.once_in(self.shape.lost);
         Flight {
             text,
             origin: self.chance.below(self.shape.origins),
             reference: (self.begun % 256) as u8,
             first: self.chance.below(count),
             come: 0,
+            comes: count.saturating_sub(usize::from(lacks)),
+            taken: self.clock,
         }
     }
 
@@ -177,27 +205,60 @@ impl Traffic {
             room.extend_from_slice(line.as_bytes())?;
         }
         if let Some(unit) = room.as_mut_slice().get_mut(start..) {
-            put_own(unit, flight, self.clock, count > 1);
+            put_own(unit, flight, count > 1);
         }
         Ok(())
     }
 
-    /// Adds a unit of a flight, which goes on.
-    fn put_unit(&mut self, room: &mut Vec<u8>) -> Result<(), AllocError> {
+    /// Notes a unit that was sent.
+    fn note(&mut self, flight: Flight) -> Result<(), AllocError> {
+        self.sent.push_back(flight)?;
+        if self.sent.len() > self.shape.recent {
+            let _ = self.sent.pop_front();
+        }
+        Ok(())
+    }
+
+    /// A flight goes on: its next segment is taken, or another text begins after its last one.
+    fn after(&mut self, flight: Flight) -> Flight {
+        let come = flight.come.wrapping_add(1);
+        if come >= flight.comes {
+            return self.begin();
+        }
+        Flight {
+            come,
+            taken: self.clock,
+            ..flight
+        }
+    }
+
+    /// Adds a unit of a flight, which goes on where the unit is not spoiled.
+    fn put_next(&mut self, room: &mut Vec<u8>, is_spoiled: bool) -> Result<(), AllocError> {
         let which = self.chance.below(self.flights.len());
         let Some(flight) = self.flights.get(which).copied() else {
             return Ok(());
         };
         self.put_segment(flight, room)?;
-        let mut next = flight;
-        next.come = flight.come.wrapping_add(1);
-        if next.come >= self.count_of(flight.text) {
-            next = self.begin();
+        if is_spoiled {
+            return Ok(());
         }
+        self.note(flight)?;
+        let next = self.after(flight);
         if let Some(own) = self.flights.as_mut_slice().get_mut(which) {
             *own = next;
         }
         Ok(())
+    }
+
+    /// Adds a unit: the next one of a flight, or one that was sent before.
+    fn put_unit(&mut self, room: &mut Vec<u8>, is_spoiled: bool) -> Result<(), AllocError> {
+        if self.chance.once_in(self.shape.repeat) {
+            let which = self.chance.below(self.sent.len());
+            if let Some(flight) = self.sent.get(which).copied() {
+                return self.put_segment(flight, room);
+            }
+        }
+        self.put_next(room, is_spoiled)
     }
 
     /// Adds a report of either kind.
@@ -214,35 +275,31 @@ impl Traffic {
     }
 
     /// Adds a unit of any kind, after the address of a centre where there is one.
-    fn put_any(&mut self, room: &mut Vec<u8>) -> Result<(), AllocError> {
+    fn put_any(&mut self, room: &mut Vec<u8>, is_spoiled: bool) -> Result<(), AllocError> {
         if !self.shape.has_centre {
-            return self.put_unit(room);
+            return self.put_unit(room, is_spoiled);
         }
         room.extend_from_slice(CENTRE)?;
         if self.chance.once_in(4) {
             self.put_report(room)
         } else {
-            self.put_unit(room)
+            self.put_unit(room, is_spoiled)
         }
     }
 
-    /// Spoils the line that stands from a place on: it is cut, has a wrong digit, or a length above
-    /// what there may be.
+    /// Spoils the line that stands from a place on: it is cut after its first digit or a later one,
+    /// has a wrong digit there, or its first length, that of a centre's address or of an origin, is
+    /// above what there may be.
     fn spoil(&mut self, room: &mut Vec<u8>, start: usize) {
-        let length = room.len().saturating_sub(start);
-        let place = start.saturating_add(self.chance.below(length));
+        let later = room.len().saturating_sub(start).saturating_sub(1);
+        let place = start
+            .saturating_add(1)
+            .saturating_add(self.chance.below(later));
+        let length = start.saturating_add(if self.shape.has_centre { 0 } else { 2 });
         match self.chance.below(3) {
             0 => room.truncate(place),
-            1 => {
-                if let Some(own) = room.as_mut_slice().get_mut(place) {
-                    *own = b'G';
-                }
-            }
-            _ => {
-                if let Some(own) = room.as_mut_slice().get_mut(start.saturating_add(2)) {
-                    *own = b'9';
-                }
-            }
+            1 => put_octet(room, place, b'G'),
+            _ => put_octet(room, length, b'9'),
         }
     }
 }
@@ -253,12 +310,11 @@ impl Maker for Traffic {
             return Ok(false);
         }
         self.left -= 1;
-        if self.left % 3 == 0 {
-            self.clock = self.clock.wrapping_add(1);
-        }
+        self.clock = self.clock.wrapping_add(self.shape.pace);
         let start = room.len();
-        self.put_any(room)?;
-        if self.chance.once_in(self.shape.fault) {
+        let is_spoiled = self.chance.once_in(self.shape.fault);
+        self.put_any(room, is_spoiled)?;
+        if is_spoiled {
             self.spoil(room, start);
         }
         room.push(b'\n')?;
