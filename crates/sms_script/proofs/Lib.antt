@@ -11,6 +11,7 @@ pub mod EscapeLemmas
 pub mod HexLemmas
 pub mod PacketLemmas
 pub mod PartLemmas
+pub mod BlockLemmas
 pub mod PutLemmas
 pub mod RunLemmas
 pub mod RunningLemmas

@@ -1,6 +1,6 @@
 -- Lines, part by part.
 use Rattle.std.proofs.Common.{◌≡◌, ℕ, zero, suc, ◌+◌, ◌-◌, ◌<◌, ◌≤◌, List, [], ◌∷◌, ◌++◌, length, take, get_or, Option, refl, sym, ap, subst, ◌∙◌, append_assoc, append-nil, length-append, add-one, arith}
-use Rattle.std.proofs.lemmas.List.{length-take-le, length_push, take-append-le, take_all}
+use Rattle.std.proofs.lemmas.List.{length-take-le, length_push, take-append-le, take_all, take_at, take-take}
 use Rattle.std.proofs.Math.Seq.{take-suc}
 use Rattle.std.specs.Io.KnownBytes.{Consumes, IsAtEnd}
 use Rattle.sms_script.specs.Lines.{line_feed, line_limit, strip_carriage_return, HasNoLineFeed}
@@ -27,6 +27,15 @@ front_of octets front last e h =
 
 pub none_but : (octets front : List ℕ) (last : ℕ) → octets ≡ front ++ last ∷ [] → HasNoLineFeed (take (length octets - 1) octets) → (last ≡ line_feed → ⊥) → HasNoLineFeed octets
 none_but octets front last e h other = subst HasNoLineFeed (sym e) (HasNoLineFeed-more front last (front_of octets front last e h) other)
+
+-- the octets in front of a part that were read
+pub front_read : (part : List ℕ) (given : ℕ) → given ≤ length part → HasNoLineFeed (take (given - 1) part) → HasNoLineFeed (take (length (take given part) - 1) (take given part))
+front_read part given le h = rw (length-take-le given part le, take-take (given - 1) given part (omega arith)) h
+
+pub front_kept : (part front line longer : List ℕ) (given last : ℕ) → given ≤ length part → take given part ≡ front ++ last ∷ [] → longer ≡ line ++ take (length front) part → longer ≡ line ++ front
+front_kept part front line longer given last le is e =
+    let fewer : length front ≤ given = omega (arith, length-take-le given part le, ap length is, length_push front last) in
+    e ∙ ap (λ (l : List ℕ). line ++ l) (sym (take-take (length front) given part fewer) ∙ ap (take (length front)) is ∙ take_at front (last ∷ []) (length front) refl)
 
 -- a part that was read, of as many octets as there may be
 pub part_taken : (old new : Option (List ℕ)) (line longer buffer : List ℕ) (n : ℕ) (part : Part) → n ≤ length buffer → 0 < length buffer → length line + length buffer ≤ line_limit

@@ -70,8 +70,8 @@ fn is_longer(line: &[u8], octet: u8) -> bool
 /// The most octets of a line that are kept: those of a line, and a carriage return.
 const ROOM: usize = LINE_LIMIT + 1;
 
-/// The most octets that are read at once.
-const PART: usize = 64;
+/// How many octets are read at once, if there are so many.
+const PART: usize = 16;
 
 /// What follows a part of a line.
 #[derive(Clone, Copy, Debug, PartialEq, Eq)]
@@ -84,47 +84,47 @@ enum Part {
     EndOfSource,
 }
 
-/// Adds octets, for which there is room.
-fn push_part(line: &mut Vec<u8>, octets: &[u8])
-    requires { vec_len line.old + length octets.now ≤ vec_capacity line.old }
-    ensures items { line.new.items ≡ line.old.items ++ octets.now }
+/// Adds the front of octets, for all of which there is room: as many as a part has are copied
+/// sooner than a number that differs from line to line.
+fn push_front(line: &mut Vec<u8>, octets: &[u8], count: usize)
+    requires count { count ≤ length octets.now }
+    requires room { vec_len line.old + length octets.now ≤ vec_capacity line.old }
+    ensures items { line.new.items ≡ line.old.items ++ take count octets.now }
     ensures capacity { vec_capacity line.old ≤ vec_capacity line.new }
 {
+    let end = line.len() + count;
     if line.extend_from_slice(octets).is_err() {
         unreachable!();
     }
+    line.truncate(end);
 }
 
-/// Adds octets that were read, of which none but the last can be a line feed, which is not kept.
-/// There is room for them.
-fn end_part(line: &mut Vec<u8>, octets: &[u8]) -> Part
-    requires room { vec_len line.old + length octets.now ≤ vec_capacity line.old }
-    requires line { HasNoLineFeed (take (length octets.now - 1) octets.now) }
-    ensures ends { EndsPart line.old.items line.new.items octets.now result }
+/// Adds the octets in front of a part that were read, of which none but the last can be a line
+/// feed, which is not kept. There is room for the whole part.
+fn end_part(line: &mut Vec<u8>, part: &[u8], given: usize) -> Part
+    requires given { given ≤ length part.now }
+    requires room { vec_len line.old + length part.now ≤ vec_capacity line.old }
+    requires line { HasNoLineFeed (take (given - 1) part.now) }
+    ensures ends { EndsPart line.old.items line.new.items (take given part.now) result }
     ensures capacity { vec_capacity line.old ≤ vec_capacity line.new }
 {
-    let Some((last, front)) = octets.split_last() else {
+    let Some((last, front)) = part[..given].split_last() else {
         return Part::EndOfSource;
     };
     if *last == b'\n' {
-        push_part(line, front);
+        push_front(line, part, front.len());
         return Part::LineFeed;
     }
-    push_part(line, octets);
+    push_front(line, part, given);
     Part::More
 }
 
-/// Reads more octets of a line into a buffer, and from there into the line: up to the line feed,
-/// which is not kept. With as many octets as the buffer has, the line is not too long.
-fn read_through<S: Source>(
-    source: &mut S,
-    line: &mut Vec<u8>,
-    buffer: &mut [u8],
-) -> Result<Part, DeviceFailed>
+/// Reads more octets of a line, up to its line feed, which is not kept. With as many as a part has,
+/// the line is not too long.
+fn read_part<S: Source>(source: &mut S, line: &mut Vec<u8>) -> Result<Part, DeviceFailed>
     requires works { S.has_failed source.old ≡ false }
     requires goes_on { S.has_ended source.old ≡ false }
-    requires some { 0 < length buffer.old }
-    requires short { vec_len line.old + length buffer.old ≤ line_limit }
+    requires short { vec_len line.old + 16 ≤ line_limit }
     requires room { line_limit + 1 ≤ vec_capacity line.old }
     ensures takes { let old = S.remaining source.old in
         TakesPart old (S.remaining source.new) line.old.items line.new.items result }
@@ -134,13 +134,13 @@ fn read_through<S: Source>(
     ensures goes_on { IfOk result (λ part. part ≢ Part.EndOfSource
         → S.has_ended source.new ≡ false) }
 {
-    let given = source.read_in_line(buffer)?;
-    Ok(end_part(line, &buffer[..given]))
+    let mut part = [0u8; PART];
+    let given = source.read_in_line(&mut part)?;
+    Ok(end_part(line, &part, given))
 }
 
-/// Reads more octets of a line that has fewer than a line may have, up to its line feed, which is
-/// not kept, and up to the greatest length.
-fn read_part<S: Source>(source: &mut S, line: &mut Vec<u8>) -> Result<Part, DeviceFailed>
+/// Reads one octet more of a line that has fewer than a line may have; a line feed is not kept.
+fn read_one<S: Source>(source: &mut S, line: &mut Vec<u8>) -> Result<Part, DeviceFailed>
     requires works { S.has_failed source.old ≡ false }
     requires goes_on { S.has_ended source.old ≡ false }
     requires short { vec_len line.old < line_limit }
@@ -153,9 +153,40 @@ fn read_part<S: Source>(source: &mut S, line: &mut Vec<u8>) -> Result<Part, Devi
     ensures goes_on { IfOk result (λ part. part ≢ Part.EndOfSource
         → S.has_ended source.new ≡ false) }
 {
-    let mut part = [0u8; PART];
-    let count = (LINE_LIMIT - line.len()).min(PART);
-    read_through(source, line, &mut part[..count])
+    match next_octet(source)? {
+        None => Ok(Part::EndOfSource),
+        Some(b'\n') => Ok(Part::LineFeed),
+        Some(octet) => {
+            line.push_reserved(octet);
+            Ok(Part::More)
+        }
+    }
+}
+
+/// Reads more of a line, as the two above do: one octet as long as it has fewer than so many, and
+/// then a part.
+fn read_more<S: Source>(
+    source: &mut S,
+    line: &mut Vec<u8>,
+    singly: usize,
+) -> Result<Part, DeviceFailed>
+    requires works { S.has_failed source.old ≡ false }
+    requires goes_on { S.has_ended source.old ≡ false }
+    requires short { vec_len line.old + 16 ≤ line_limit }
+    requires room { line_limit + 1 ≤ vec_capacity line.old }
+    ensures takes { let old = S.remaining source.old in
+        TakesPart old (S.remaining source.new) line.old.items line.new.items result }
+    ensures room { line_limit + 1 ≤ vec_capacity line.new }
+    ensures fails { IsErr result → S.has_failed source.new ≡ true }
+    ensures works { IsOk result → S.has_failed source.new ≡ false }
+    ensures goes_on { IfOk result (λ part. part ≢ Part.EndOfSource
+        → S.has_ended source.new ≡ false) }
+{
+    if line.len() < singly {
+        read_one(source, line)
+    } else {
+        read_part(source, line)
+    }
 }
 
 /// Reads the rest of a line octet by octet.
@@ -207,12 +238,14 @@ pub fn read_line<S: Source>(source: &mut S, line: &mut Vec<u8>) -> Result<LineEn
     ensures works { result ≢ Err LineFault.Read → S.has_failed source.new ≡ false }
     ensures goes_on { result ≡ Ok LineEnd.LineFeed → S.has_ended source.new ≡ false }
 {
+    // after an empty line another is likely, of at most a carriage return and a line feed
+    let singly = if line.is_empty() { 2 } else { 0 };
     line.clear();
     if line.reserve(ROOM).is_err() {
         return Err(LineFault::Memory);
     }
-    while source.gives_lines() && line.len() < LINE_LIMIT {
-        match read_part(source, line) {
+    while source.gives_lines() && line.len() + PART <= LINE_LIMIT {
+        match read_more(source, line, singly) {
             Ok(Part::More) => {}
             Ok(Part::LineFeed) => {
                 drop_carriage_return(line);

@@ -5,6 +5,7 @@ ghost use Rattle.std.specs.Io.KnownBytes.{ReadConsumes};
 ghost use Rattle.sms_script.specs.Devices.{GivesOctet};
 ghost use Rattle.sms_script.specs.Lines.{HasNoLineFeed};
 
+use std::simd::prelude::*;
 use thiserror::Error;
 
 /// A device answered an error, or took nothing.
@@ -79,8 +80,24 @@ fn count_in_line(octets: &[u8]) -> usize
     octets.len()
 }
 
+/// How many of sixteen octets come before the first line feed: all of them, where none is one.
+#[inline(always)]
+fn before_line_feed(octets: &[u8]) -> usize
+    requires { length octets.now ≡ 16 }
+    ensures bound { result ≤ 16 }
+    ensures line { HasNoLineFeed (take result octets.now) }
+{
+    let block = u8x16::from_slice(octets);
+    let feeds = block.simd_eq(u8x16::splat(b'\n')).to_bitmask();
+    if feeds == 0 {
+        16
+    } else {
+        feeds.trailing_zeros() as usize
+    }
+}
+
 /// Copies octets into the front of a buffer, as many as it has room for and up to the first line
-/// feed, which is copied too, and says how many.
+/// feed, which is copied too, and says how many. Into a buffer of sixteen they are copied soonest.
 pub fn copy_in_line(octets: &[u8], buffer: &mut [u8]) -> usize
     ensures bound { result ≤ length buffer.new }
     ensures there { result ≤ length octets.now }
@@ -88,6 +105,11 @@ pub fn copy_in_line(octets: &[u8], buffer: &mut [u8]) -> usize
     ensures line { HasNoLineFeed (take (result - 1) buffer.new) }
     ensures some { 0 < length octets.now → 0 < length buffer.new → 0 < result }
 {
+    if buffer.len() == 16 && octets.len() >= 16 {
+        let block = &octets[..16];
+        buffer.copy_from_slice(block);
+        return (before_line_feed(block) + 1).min(16);
+    }
     let room = octets.len().min(buffer.len());
     let count = count_in_line(&octets[..room]);
     buffer[..count].copy_from_slice(&octets[..count]);

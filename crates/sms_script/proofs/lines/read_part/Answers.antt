@@ -1,6 +1,6 @@
 use Rattle.std.proofs.Common.{arith}
 use Rattle.sms_script.proofs.PartLemmas.{part_taken}
-use Rattle.sms_script.proofs.lines.read_through.Goals as goal
+use Rattle.sms_script.proofs.lines.read_part.Goals as goal
 
 pub returns-clause-takes : goal.returns-clause-takes
 returns-clause-takes g c =
