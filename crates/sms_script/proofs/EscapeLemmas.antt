@@ -1,6 +1,6 @@
 -- Escapes, octet by octet.
-use Rattle.std.proofs.Common.{◌≡◌, ℕ, ◌+◌, ◌<◌, ◌≤◌, List, [], ◌∷◌, ◌++◌, length, take, drop, get_or, refl, sym, ap, ◌∙◌, append_assoc, append-nil, add-one, drop-cons}
-use Rattle.std.proofs.lemmas.List.{drop_all, take_all}
+use Rattle.std.proofs.Common.{◌≡◌, ℕ, ◌+◌, ◌-◌, ◌<◌, ◌≤◌, List, [], ◌∷◌, ◌++◌, length, take, drop, get_or, refl, sym, ap, ◌∙◌, append_assoc, append-nil, add-one, drop-cons, arith}
+use Rattle.std.proofs.lemmas.List.{drop_all, take_all, take-append-drop, take_rest}
 use Rattle.std.proofs.Math.Seq.{take-suc}
 use Rattle.sms_script.specs.Transcript.Escapes.{escape, escaped}
 
@@ -31,3 +31,12 @@ none-escaped text = refl
 
 pub all-plain : (text : List ℕ) (i : ℕ) → length text ≤ i → escaped (take i text) ≡ take i text → escaped text ≡ text
 all-plain text i h e = rw (take_all i text h) at e
+
+pub all-plain-front : (text : List ℕ) (i : ℕ) → length text ≤ i → escaped (take i text) ≡ take i text → escaped (take (length text) text) ≡ take (length text) text
+all-plain-front text i h e = rw (take_all (length text) text (omega arith)) (all-plain text i h e)
+
+-- a front that stands as it is, and then the others, octet by octet
+pub front-then-escaped : (out middle new text : List ℕ) (n : ℕ) → escaped (take n text) ≡ take n text → middle ≡ out ++ take n text → new ≡ middle ++ escaped (take (length text - n) (drop n text)) → new ≡ out ++ escaped text
+front-then-escaped out middle new text n plain first then =
+    let parts : escaped text ≡ take n text ++ escaped (drop n text) = ap escaped (sym (take-append-drop n text)) ∙ escaped-append (take n text) (drop n text) ∙ ap (λ (l : List ℕ). l ++ escaped (drop n text)) plain in
+    then ∙ ap (λ (l : List ℕ). middle ++ escaped l) (take_rest text n) ∙ ap (λ (l : List ℕ). l ++ escaped (drop n text)) first ∙ append_assoc out (take n text) (escaped (drop n text)) ∙ ap (λ (l : List ℕ). out ++ l) (sym parts)

@@ -1,6 +1,6 @@
 //! Texts in one line.
 
-ghost use Rattle.std.specs.Prelude.{◌≡◌, ◌↔◌, [], ◌∷◌, ◌++◌, IsTrue, OnOk, true};
+ghost use Rattle.std.specs.Prelude.{◌≡◌, ◌≤◌, ◌↔◌, [], ◌∷◌, ◌++◌, IsTrue, OnOk, true, length, take};
 ghost use Rattle.sms_script.specs.Transcript.Escapes.{escape, escape_as, escaped};
 
 use std::alloc::AllocError;
@@ -78,12 +78,32 @@ fn push_each(out: &mut Vec<u8>, text: &[u8]) -> Result<(), AllocError>
     Ok(())
 }
 
-/// Adds a text, escaped so that it stays in one line. Most texts stand in it as they are.
+/// How many octets of a text, up to the first that is escaped, stand in one line as they are.
+fn plain_front(text: &[u8]) -> usize
+    ensures bound { result ≤ length text.now }
+    ensures plain { escaped (take result text.now) ≡ take result text.now }
+{
+    for place in 0..text.len() {
+        if !Escape::is_plain(text[place]) {
+            return place;
+        }
+    }
+    text.len()
+}
+
+/// A text of at least so many octets is first looked at as a whole, many octets at once.
+const MANY: usize = 32;
+
+/// Adds a text, escaped so that it stays in one line. Most texts stand in it as they are; of the
+/// others what stands before the first escape is added at once.
 pub fn push_escaped(out: &mut Vec<u8>, text: &[u8]) -> Result<(), AllocError>
     ensures { OnOk result (out.new.items ≡ out.old.items ++ escaped text.now) }
 {
-    if are_plain(text) {
+    if text.len() >= MANY && are_plain(text) {
         return out.extend_from_slice(text);
     }
-    push_each(out, text)
+    let count = plain_front(text);
+    out.extend_from_slice(&text[..count])?;
+    push_each(out, &text[count..])?;
+    Ok(())
 }
