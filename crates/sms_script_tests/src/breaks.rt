@@ -1,7 +1,7 @@
 //! Lines by parts from a source that fails inside a line, and very short lines by parts, beside the
 //! same lines octet by octet.
 
-ghost use Rattle.std.specs.Prelude.{◌≡◌, None};
+ghost use Rattle.std.specs.Prelude.{◌≡◌, None, false};
 
 use crate::found::same;
 use crate::parts::Parts;
