@@ -105,6 +105,17 @@ impl OpenTexts {
         text.is_old(now).then_some(index)
     }
 
+    /// Whether the set that was opened after the one at an index is old at a moment.
+    fn has_old_after(&self, index: usize, now: u64) -> bool {
+        let Some((_, text)) = self.texts.get_index(index) else {
+            return false;
+        };
+        match self.after(text) {
+            Some((_, after)) => after.is_old(now),
+            None => false,
+        }
+    }
+
     /// Whether a set is old at a moment.
     pub fn has_old(&self, now: u64) -> bool {
         self.first_old(now).is_some()
@@ -167,18 +178,40 @@ impl OpenTexts {
         Some((text.before, text.after))
     }
 
-    /// Drops the set at an index, whose place in the map the last one there takes.
-    fn remove(&mut self, index: usize) {
-        let Some((before, after)) = self.neighbours(index) else {
-            return;
-        };
-        self.set_after(before, after);
-        self.set_before(after, before);
-        drop(self.texts.swap_remove_index(index));
+    /// Takes the set at an index out of the order of opening.
+    fn unlink(&mut self, index: usize) {
+        if let Some((before, after)) = self.neighbours(index) {
+            self.set_after(before, after);
+            self.set_before(after, before);
+        }
+    }
+
+    /// Tells its neighbours the index of a set that was moved there, where there is one.
+    fn link(&mut self, index: usize) {
         if let Some((before, after)) = self.neighbours(index) {
             self.set_after(before, Some(index));
             self.set_before(after, Some(index));
         }
+    }
+
+    /// Drops the set at an index, whose place in the map the last one there takes.
+    fn remove(&mut self, index: usize) {
+        self.unlink(index);
+        drop(self.texts.swap_remove_index(index));
+        self.link(index);
+    }
+
+    /// Drops the set at an index, which is the only one that is old at a moment. The last one in
+    /// the map takes its place there, and the map finds its sets anew, so that the room of those
+    /// that left is free again.
+    fn remove_last_old(&mut self, index: usize, now: u64) {
+        self.unlink(index);
+        let last = self.texts.len().saturating_sub(1);
+        if index < last {
+            self.texts.swap_indices(index, last);
+        }
+        self.texts.retain(|_place: &Place, text: &mut OpenText| -> bool { !text.is_old(now) });
+        self.link(index);
     }
 
     /// A set is whole.
@@ -201,7 +234,11 @@ impl OpenTexts {
             let Some(index) = self.first_old(now) else {
                 break;
             };
-            self.remove(index);
+            if self.has_old_after(index, now) {
+                self.remove(index);
+            } else {
+                self.remove_last_old(index, now);
+            }
         }
     }
 }
