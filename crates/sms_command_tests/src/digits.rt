@@ -66,7 +66,7 @@ fn read_one_by_one(
 }
 
 /// As many octets.
-fn made_octets(alloc: Global, count: usize, made: &mut Made) -> Result<Vec<u8>, Fail> {
+pub fn made_octets(alloc: Global, count: usize, made: &mut Made) -> Result<Vec<u8>, Fail> {
     let mut octets = Vec::new(alloc);
     for _ in 0..count {
         octets.push(made.octet())?;
@@ -84,7 +84,7 @@ fn lower_some(digits: &mut [u8], made: &mut Made) {
 }
 
 /// The digits of a unit with these user data, in either case.
-fn unit_of(alloc: Global, octets: &[u8], made: &mut Made) -> Result<String, Fail> {
+pub fn unit_of(alloc: Global, octets: &[u8], made: &mut Made) -> Result<String, Fail> {
     let mut digits = Vec::new(alloc);
     digits.extend_from_slice(FRONT.as_bytes())?;
     push_digits(&mut digits, &[u8::try_from(octets.len()).unwrap_or(0)])?;
@@ -113,7 +113,7 @@ fn end_of(alloc: Global, front: &[u8], octets: &[u8], back: &[u8]) -> Result<Str
 }
 
 /// The last line of what a unit is shown as.
-fn line_of(alloc: Global, octets: &[u8]) -> Result<String, Fail> {
+pub fn line_of(alloc: Global, octets: &[u8]) -> Result<String, Fail> {
     let back = if octets.is_empty() {
         b"-\n".as_slice()
     } else {

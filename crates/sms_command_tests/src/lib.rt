@@ -4,7 +4,11 @@
 #[cfg(test)]
 mod accepted;
 #[cfg(test)]
+mod arrivals;
+#[cfg(test)]
 mod charts;
+#[cfg(test)]
+mod dated;
 #[cfg(test)]
 mod digits;
 #[cfg(test)]
@@ -16,7 +20,11 @@ mod escapes;
 #[cfg(test)]
 mod fed;
 #[cfg(test)]
+mod former;
+#[cfg(test)]
 mod found;
+#[cfg(test)]
+mod heard;
 #[cfg(test)]
 mod joins;
 #[cfg(test)]
@@ -27,6 +35,8 @@ mod made;
 mod objects;
 #[cfg(test)]
 mod open_sets;
+#[cfg(test)]
+mod opened;
 #[cfg(test)]
 mod orders;
 #[cfg(test)]
@@ -43,6 +53,8 @@ mod reports;
 mod rooms;
 #[cfg(test)]
 mod splits;
+#[cfg(test)]
+mod spots;
 #[cfg(test)]
 mod statuses;
 #[cfg(test)]

@@ -211,7 +211,7 @@ fn month_and_day(days: u64) -> (u64, u64) {
 }
 
 /// The stamp of a moment of 2024, or one without a date.
-fn stamp_of(alloc: Global, moment: Option<u64>) -> Result<String, Fail> {
+pub fn stamp_of(alloc: Global, moment: Option<u64>) -> Result<String, Fail> {
     let Some(moment) = moment else {
         return Ok(format!(in alloc; "FFFFFFFFFFFFFF")?);
     };

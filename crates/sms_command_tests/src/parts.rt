@@ -33,7 +33,7 @@ fn push_line(alloc: Global, script: &mut Vec<u8>, made: &mut Made) -> Result<(),
 }
 
 /// A script of made lines, and what follows them.
-fn script_of(alloc: Global, seed: u64, ending: &[u8]) -> Result<Vec<u8>, Fail> {
+pub fn script_of(alloc: Global, seed: u64, ending: &[u8]) -> Result<Vec<u8>, Fail> {
     let mut made = Made::new(seed);
     let mut script = Vec::new(alloc);
     script.extend_from_slice(b"phone a +1001\nphone b +1002\n")?;
