@@ -75,25 +75,36 @@ fn few_end<const OTHER: u8>(octets: &[u8], from: usize) -> usize
     at
 }
 
+/// Where plain octets end from a place on of a text that has fewer than 16.
+#[inline(always)]
+fn end_of_short<const OTHER: u8>(octets: &[u8], from: usize) -> usize
+    requires few { (from ≤ length octets.now) × (length octets.now < 16) }
+    ensures { result ≡ from + prefix_len (is_plain OTHER) (drop from octets.now) }
+{
+    let rest = octets.len() - from;
+    if rest >= 8 {
+        short_end::<8, OTHER>(octets, from)
+    } else if rest >= 4 {
+        short_end::<4, OTHER>(octets, from)
+    } else {
+        few_end::<OTHER>(octets, from)
+    }
+}
+
 /// Where plain octets end from a place on behind which at most as many octets stand as a block has.
 #[inline(always)]
 fn end_behind<const OTHER: u8>(octets: &[u8], from: usize) -> usize
     requires few { (from ≤ length octets.now) × (length octets.now ≤ from + BLOCK) }
     ensures { result ≡ from + prefix_len (is_plain OTHER) (drop from octets.now) }
 {
-    let rest = octets.len() - from;
-    if octets.len() >= BLOCK {
+    if octets.len() < 16 {
+        end_of_short::<OTHER>(octets, from)
+    } else if octets.len() >= BLOCK {
         last_end::<BLOCK, OTHER>(octets, from)
-    } else if rest >= 16 {
+    } else if octets.len() - from >= 16 {
         short_end::<16, OTHER>(octets, from)
-    } else if octets.len() >= 16 {
-        last_end::<16, OTHER>(octets, from)
-    } else if rest >= 8 {
-        short_end::<8, OTHER>(octets, from)
-    } else if rest >= 4 {
-        short_end::<4, OTHER>(octets, from)
     } else {
-        few_end::<OTHER>(octets, from)
+        last_end::<16, OTHER>(octets, from)
     }
 }
 
