@@ -17,6 +17,9 @@ use std::{io, mem};
 /// How many octets are collected before they are written.
 const ENOUGH: usize = 32_768;
 
+/// The room that a line is sure to find near the end of a page, or the page is written before.
+const LINE: usize = 4_096;
+
 /// The room that is made at once behind what was collected.
 const AHEAD: &[u8; 4_096] = &[0; 4_096];
 
@@ -91,6 +94,19 @@ impl Page {
     {
         self.count = self.count.min(count);
         self.is_cut = false;
+    }
+
+    /// Whether a line has room. Where much stands on the page, the room that it takes once more is
+    /// asked for ahead, so that what stands there can be written where that is refused.
+    pub fn has_room(&mut self) -> bool
+        ensures { self.new ≡ self.old }
+    {
+        let spare = self.octets.capacity() - self.count;
+        if self.is_cut || self.count < ENOUGH / 2 || spare >= LINE {
+            return true;
+        }
+        self.octets.truncate(self.count);
+        self.octets.reserve(LINE).is_ok()
     }
 
     /// Whether so much stands on the page that it is time to write it.
