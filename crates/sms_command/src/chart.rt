@@ -16,9 +16,9 @@ use crate::chart::places::Places;
 use crate::chart::stores::put_stores;
 use crate::fault::Fault;
 use crate::outcomes::told_of;
-use crate::page::Page;
 use crate::printed::put_escaped;
 use crate::run::{Happened, Running, Teller, Watching, run_script};
+use sms_page::Page;
 use sms_script::Script;
 use sms_world::{Event, WorldFault};
 use std::alloc::Global;
@@ -122,7 +122,7 @@ fn asked_of(alloc: Global, script: &Script, event: &Event) -> Result<String, Fau
             put_named(&mut page, words.as_bytes(), script.name(*phone));
         }
     }
-    page.into_text()
+    Ok(page.into_text()?)
 }
 
 /// Adds words and a number.
@@ -156,7 +156,7 @@ fn told_text(alloc: Global, happened: &Happened<'_>) -> Result<String, Fault> {
         None if told.cause.is_some() => page.put(b" -"),
         None => {}
     }
-    page.into_text()
+    Ok(page.into_text()?)
 }
 
 impl Collected {

@@ -1,9 +1,13 @@
 //! Octets in hexadecimal digits.
 
-use crate::blocks::{BLOCK, DIGITS, put_octets};
+ghost use Rattle.std.specs.Prelude.{◌≡◌, ◌/◌, ◌≤◌, Ok, Err, IfErr, IfOk, length, take};
+ghost use Rattle.std.specs.Bool.{OnTrue};
+ghost use Rattle.sms_page.specs.Hexadecimal.{Reads, octets_of};
+ghost use Rattle.sms_command.specs.Inside.Digits.{Tells, is_hyphen, said};
+
 use crate::fault::Fault;
-use crate::page::Page;
 use crate::printed::put_escaped;
+use sms_page::{Page, put_octets};
 
 /// Where a text is no octets in hexadecimal digits.
 #[derive(Clone, Copy, Debug, PartialEq, Eq)]
@@ -30,64 +34,6 @@ impl Spot {
     }
 }
 
-/// What an octet is that is no hexadecimal digit.
-const NO: u8 = 255;
-
-/// The number that each octet is as a hexadecimal digit of either case.
-static NUMBERS: [u8; 256] = [
-    NO, NO, NO, NO, NO, NO, NO, NO, NO, NO, NO, NO, NO, NO, NO, NO, NO, NO, NO, NO, NO, NO, NO, NO,
-    NO, NO, NO, NO, NO, NO, NO, NO, NO, NO, NO, NO, NO, NO, NO, NO, NO, NO, NO, NO, NO, NO, NO, NO,
-    0, 1, 2, 3, 4, 5, 6, 7, 8, 9, NO, NO, NO, NO, NO, NO, NO, 10, 11, 12, 13, 14, 15, NO, NO, NO,
-    NO, NO, NO, NO, NO, NO, NO, NO, NO, NO, NO, NO, NO, NO, NO, NO, NO, NO, NO, NO, NO, NO, NO, 10,
-    11, 12, 13, 14, 15, NO, NO, NO, NO, NO, NO, NO, NO, NO, NO, NO, NO, NO, NO, NO, NO, NO, NO, NO,
-    NO, NO, NO, NO, NO, NO, NO, NO, NO, NO, NO, NO, NO, NO, NO, NO, NO, NO, NO, NO, NO, NO, NO, NO,
-    NO, NO, NO, NO, NO, NO, NO, NO, NO, NO, NO, NO, NO, NO, NO, NO, NO, NO, NO, NO, NO, NO, NO, NO,
-    NO, NO, NO, NO, NO, NO, NO, NO, NO, NO, NO, NO, NO, NO, NO, NO, NO, NO, NO, NO, NO, NO, NO, NO,
-    NO, NO, NO, NO, NO, NO, NO, NO, NO, NO, NO, NO, NO, NO, NO, NO, NO, NO, NO, NO, NO, NO, NO, NO,
-    NO, NO, NO, NO, NO, NO, NO, NO, NO, NO, NO, NO, NO, NO, NO, NO, NO, NO, NO, NO, NO, NO, NO, NO,
-    NO, NO, NO, NO, NO, NO, NO, NO, NO, NO, NO, NO, NO, NO,
-];
-
-/// The number that an octet is as a hexadecimal digit of either case.
-fn number_of(octet: u8) -> u8 {
-    NUMBERS[usize::from(octet)]
-}
-
-/// Puts the octets of digits in pairs, and says whether all are digits.
-fn put_pairs(octets: &mut [u8], pairs: &[[u8; 2]]) -> bool {
-    let mut seen = 0;
-    for (octet, [high, low]) in octets.iter_mut().zip(pairs) {
-        let (high, low) = (number_of(*high), number_of(*low));
-        seen |= high | low;
-        *octet = (high << 4) | low;
-    }
-    seen != NO
-}
-
-/// Puts the octets of digits a block at a time, and says whether all are digits. What the last
-/// block does not fill is left as it is.
-fn put_blocks(octets: &mut [u8], digits: &[u8]) -> bool {
-    let (places, _) = octets.as_chunks_mut::<BLOCK>();
-    let (blocks, _) = digits.as_chunks::<DIGITS>();
-    for (place, block) in places.iter_mut().zip(blocks) {
-        if !put_octets(place, block) {
-            return false;
-        }
-    }
-    true
-}
-
-/// Puts the octets of digits, of which there are twice as many, and says whether all are digits.
-/// The last block may lie over the one before, so that none is left over.
-fn put_all(octets: &mut [u8], digits: &[u8]) -> bool {
-    let last = digits.last_chunk::<DIGITS>();
-    if let (Some(place), Some(block)) = (octets.last_chunk_mut::<BLOCK>(), last) {
-        return put_octets(place, block) && put_blocks(octets, digits);
-    }
-    let (pairs, _) = digits.as_chunks::<2>();
-    put_pairs(octets, pairs)
-}
-
 /// The character at a place of a text in UTF-8.
 fn character_at(text: &[u8], place: usize) -> Option<char> {
     let rest = text.get(place..)?;
@@ -98,51 +44,56 @@ fn character_at(text: &[u8], place: usize) -> Option<char> {
 }
 
 /// The fault of digits at a place.
-fn fault_at(digits: &[u8], place: usize) -> Fault {
+fn fault_at(digits: &[u8], place: usize) -> Fault
+    ensures { Tells result (Err place) }
+{
     Fault::BadHex(Spot {
         place,
         character: character_at(digits, place),
     })
 }
 
-/// Whether an octet is a blank.
-fn is_blank(octet: u8) -> bool {
-    octet == b' ' || octet == b'\t'
+/// Whether digits are a hyphen.
+fn is_hyphen(digits: &[u8]) -> bool
+    ensures { result ≡ is_hyphen digits.now }
+{
+    digits.len() == 1 && digits[0] == b'-'
 }
 
-/// Puts the octets of digits one by one, which blanks may part where they are allowed, and says how
-/// many there are, or finds the first that is wrong.
-fn put_one_by_one(octets: &mut [u8], digits: &[u8], has_blanks: bool) -> Result<usize, Fault> {
-    let mut count = 0usize;
-    let mut high = NO;
-    for (place, octet) in digits.iter().enumerate() {
-        let number = number_of(*octet);
-        if number == NO {
-            if high != NO || !has_blanks || !is_blank(*octet) {
-                return Err(fault_at(digits, place));
-            }
-        } else if high == NO {
-            high = number;
-        } else {
-            if let Some(own) = octets.get_mut(count) {
-                *own = (high << 4) | number;
-            }
-            count = count.saturating_add(1);
-            high = NO;
-        }
-    }
-    if high != NO {
-        return Err(fault_at(digits, digits.len()));
-    }
-    Ok(count)
+/// Makes room for as many octets where there is less, and says whether there was memory for it.
+fn make_room(room: &mut Vec<u8>, count: usize) -> bool
+    ensures { OnTrue result (count ≤ length room.new.items) }
+{
+    room.len() >= count || room.resize(count, 0).is_ok()
 }
 
-/// Puts the octets of digits into room that is long enough, and says how many there are.
-fn put_read(octets: &mut [u8], digits: &[u8], has_blanks: bool) -> Result<usize, Fault> {
-    if digits.len() % 2 == 0 && put_all(octets, digits) {
-        return Ok(octets.len());
+/// Puts the octets of digits into the front of room, and says how many there are, or the place of
+/// the first octet that is wrong.
+fn put_front(room: &mut [u8], digits: &[u8], has_blanks: bool) -> Result<usize, usize>
+    requires { length digits.now / 2 ≤ length room.old }
+    ensures { Reads (octets_of has_blanks digits.now) result room.new }
+{
+    let most = digits.len() / 2;
+    put_octets(&mut room[..most], digits, has_blanks)
+}
+
+/// Puts the octets of digits into room that is made longer where it is too short, and says how many
+/// there are. `-` says no octets. Blanks may stand between octets where they are allowed.
+fn put_read(room: &mut Vec<u8>, digits: &[u8], has_blanks: bool) -> Result<usize, Fault>
+    ensures octets { IfOk result (λ count. (count ≤ length room.new.items)
+        × (said has_blanks digits.now ≡ Ok (take count room.new.items))) }
+    ensures fault { IfErr result (λ fault. Tells fault (said has_blanks digits.now)) }
+{
+    if is_hyphen(digits) {
+        return Ok(0);
     }
-    put_one_by_one(octets, digits, has_blanks)
+    if !make_room(room, digits.len() / 2) {
+        return Err(Fault::Memory);
+    }
+    match put_front(room.as_mut_slice(), digits, has_blanks) {
+        Ok(count) => Ok(count),
+        Err(place) => Err(fault_at(digits, place)),
+    }
 }
 
 /// The octets of digits, in room that is lent and kept. `-` says no octets. Blanks may stand
@@ -151,18 +102,10 @@ pub fn read_octets<'a>(
     room: &'a mut Vec<u8>,
     digits: &[u8],
     has_blanks: bool,
-) -> Result<&'a [u8], Fault> {
-    if digits == b"-".as_slice() {
-        return Ok(&[]);
-    }
-    let most = digits.len() / 2;
-    if room.len() < most {
-        room.resize(most, 0)?;
-    }
-    let octets = room.as_mut_slice();
-    let Some(octets) = octets.get_mut(..most) else {
-        unreachable!()
-    };
-    let count = put_read(octets, digits, has_blanks)?;
-    Ok(octets.get(..count).unwrap_or(&[]))
+) -> Result<&'a [u8], Fault>
+    ensures octets { IfOk result (λ octets. said has_blanks digits.now ≡ Ok octets.now) }
+    ensures fault { IfErr result (λ fault. Tells fault (said has_blanks digits.now)) }
+{
+    let count = put_read(room, digits, has_blanks)?;
+    Ok(&room.as_slice()[..count])
 }

@@ -10,10 +10,10 @@ ghost use Rattle.sms_join.specs.Segments.User.{IsSendable};
 use crate::addresses::{bad_address, bad_centre};
 use crate::digits::read_octets;
 use crate::fault::Fault;
-use crate::page::Page;
 use crate::words::{Draft, DraftKind};
 use sms_field::{Address, RpAddress, Stamp, TextFault, Validity};
 use sms_join::{SegmentView, Segments, SplitFault, cut_text};
+use sms_page::Page;
 use sms_tpdu::{Deliver, Submit, Unit, UserData, Width};
 use std::alloc::Global;
 use std::io::Write;
@@ -320,5 +320,5 @@ pub fn put_units<W: Write>(alloc: Global, draft: &Draft<'_>, output: &mut W) -> 
     let put = put_by_width(alloc, draft, &frame, &mut page);
     drop(frame);
     put?;
-    page.write_to(output)
+    Ok(page.write_to(output)?)
 }

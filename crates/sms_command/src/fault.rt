@@ -3,7 +3,7 @@
 ghost use Rattle.std.specs.Prelude.{◌≤◌};
 
 use crate::digits::Spot;
-use crate::page::Page;
+use sms_page::{Page, PageFault};
 use sms_relay::RelayFault;
 use sms_tpdu::UnitFault;
 use sms_world::PlayFault;
@@ -141,6 +141,15 @@ impl From<AllocError> for Fault {
 impl<T: Drop> From<AllocFailed<T>> for Fault {
     fn from(_error: AllocFailed<T>) -> Fault {
         Fault::Memory
+    }
+}
+
+impl From<PageFault> for Fault {
+    fn from(fault: PageFault) -> Fault {
+        match fault {
+            PageFault::Output(error) => Fault::from(error),
+            PageFault::Memory => Fault::Memory,
+        }
     }
 }
 

@@ -1,8 +1,8 @@
 //! The lines of a reader.
 
 use crate::fault::Fault;
-use crate::page::Page;
 use memchr::memchr;
+use sms_page::Page;
 use std::alloc::{AllocError, Global};
 use std::io::{ErrorKind, Read, Write};
 

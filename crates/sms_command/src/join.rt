@@ -1,6 +1,8 @@
 //! Texts that are joined from units, one a line of the input.
 
-ghost use Rattle.std.specs.Prelude.{IfOk};
+ghost use Rattle.std.specs.Prelude.{◌≡◌, true, IfOk};
+ghost use Rattle.std.specs.List.{list_all};
+ghost use Rattle.sms_page.specs.Plain.{is_plain};
 ghost use Rattle.sms_tpdu.specs.UserData.ConcatenationFound.{IsPlace};
 
 use crate::address_text::AddressText;
@@ -8,15 +10,14 @@ use crate::digits::read_octets;
 use crate::fault::Fault;
 use crate::lines::{Form, Layer, Lines, Printed};
 use crate::many::{Taker, take_lines};
-use crate::object::Object;
 use crate::open_texts::{OpenText, OpenTexts, Place};
-use crate::page::Page;
 use crate::printed::{Escaped, Moment, Number, Numbering, Party, bits_of, put_escaped};
 use crate::show::centre_fault;
 use crate::shown::Done;
 use crate::words::Joined;
 use sms_field::{Address, RpAddressView, Stamp, alphabet_of};
 use sms_join::{Joiner, Offer, OfferFault, Units};
+use sms_page::{Object, Page};
 use sms_tpdu::{Concat, DeliverView, HeaderView};
 use std::alloc::{AllocError, Global};
 use std::io::{Read, Write};
@@ -120,7 +121,7 @@ impl Joining {
             page.put_one(b'\n');
             return;
         }
-        let mut lines = Lines::new(self.alloc, self.form, page.take(self.alloc));
+        let mut lines = Lines::new(self.form, page.take(self.alloc));
         lines.put("line", Number(number));
         lines.put("told", told);
         *page = lines.finish();
@@ -135,7 +136,7 @@ impl Joining {
         page: &mut Page,
     ) -> Result<(), Fault> {
         self.is_faulty = true;
-        let mut lines = Lines::new(self.alloc, self.form, page.take(self.alloc));
+        let mut lines = Lines::new(self.form, page.take(self.alloc));
         lines.put_json("line", Number(number));
         lines.begin(layer);
         *page = lines.finish_with(self.alloc, Some(number), false, fault)?;
@@ -264,7 +265,7 @@ fn put_text(
     if form == Form::Plain {
         put_values(page, moment, from, text);
     } else {
-        let mut lines = Lines::new(alloc, form, page.take(alloc));
+        let mut lines = Lines::new(form, page.take(alloc));
         lines.put("text", Escaped(text));
         lines.put("origin", from);
         lines.put("moment", moment);
@@ -348,10 +349,12 @@ fn put_open(
     place: &Place,
     text: &OpenText,
     page: &mut Page,
-) -> Result<(), Fault> {
+) -> Result<(), Fault>
+    requires { list_all (is_plain 34) name.now ≡ true }
+{
     let party = AddressText::of(alloc, &place.origin)?;
     let from = Party::new(party.as_str(), Numbering::of(&place.origin));
-    let mut lines = Lines::new(alloc, form, page.take(alloc));
+    let mut lines = Lines::new(form, page.take(alloc));
     lines.put(name, OpenSet { from, place, text });
     *page = lines.finish();
     drop(party);
@@ -372,6 +375,11 @@ impl Taker for Joining {
             Err(fault) if fault.is_of_input() => self.tell_fault(number, layer, &fault, page),
             Err(fault) => Err(fault),
         }
+    }
+
+    /// A piece that is offered once more is told as a repeat.
+    fn tells_again(&self) -> bool {
+        false
     }
 
     fn finish(&mut self, page: &mut Page) -> Result<(), Fault> {

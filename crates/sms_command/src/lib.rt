@@ -5,7 +5,6 @@
 mod address_text;
 mod addresses;
 mod any;
-mod blocks;
 mod chart;
 mod cli;
 mod digits;
@@ -17,10 +16,8 @@ mod join;
 mod kinds;
 mod lines;
 mod many;
-mod object;
 mod open_texts;
 mod outcomes;
-mod page;
 mod play;
 mod play_json;
 mod printed;

@@ -1,8 +1,11 @@
 //! The members of an answer: one a line, or those of an object in JSON.
 
+ghost use Rattle.std.specs.Prelude.{◌≡◌, true};
+ghost use Rattle.std.specs.List.{list_all};
+ghost use Rattle.sms_page.specs.Plain.{is_plain};
+
 use crate::fault::Fault;
-use crate::object::Object;
-use crate::page::Page;
+use sms_page::{Object, Page};
 use std::alloc::{AllocError, Global};
 
 /// How an answer is written.
@@ -40,7 +43,9 @@ pub enum Layer {
 
 impl Layer {
     /// The name of the layer.
-    pub fn name(self) -> &'static str {
+    pub fn name(self) -> &'static str
+        ensures { list_all (is_plain 34) result.now ≡ true }
+    {
         match self {
             Layer::Digits => "hex",
             Layer::Centre => "centre",
@@ -72,11 +77,11 @@ pub struct Lines {
 
 impl Lines {
     /// Begins an answer after what stands on a page.
-    pub fn new(alloc: Global, form: Form, page: Page) -> Lines {
+    pub fn new(form: Form, page: Page) -> Lines {
         let out = match form {
             Form::Plain => Out::Plain(page),
             Form::Json => {
-                let mut object = Object::new(alloc, page);
+                let mut object = Object::new(page);
                 object.open();
                 Out::Json(object)
             }
@@ -112,9 +117,11 @@ impl Lines {
         }
     }
 
-    /// Adds a member.
+    /// Adds a member. Its name has no character that JSON escapes.
     #[inline(always)]
-    pub fn put<V: Printed>(&mut self, name: &str, value: V) {
+    pub fn put<V: Printed>(&mut self, name: &str, value: V)
+        requires { list_all (is_plain 34) name.now ≡ true }
+    {
         self.open_awaited();
         match &mut self.out {
             Out::Plain(page) => {
@@ -130,14 +137,18 @@ impl Lines {
     }
 
     /// Adds a line that JSON has no member for, since another one has its value.
-    pub fn put_plain<V: Printed>(&mut self, name: &str, value: V) {
+    pub fn put_plain<V: Printed>(&mut self, name: &str, value: V)
+        requires { list_all (is_plain 34) name.now ≡ true }
+    {
         if let Out::Plain(_) = &self.out {
             self.put(name, value);
         }
     }
 
     /// Adds a member that no line stands for.
-    pub fn put_json<V: Printed>(&mut self, name: &str, value: V) {
+    pub fn put_json<V: Printed>(&mut self, name: &str, value: V)
+        requires { list_all (is_plain 34) name.now ≡ true }
+    {
         if let Out::Json(_) = &self.out {
             self.put(name, value);
         }

@@ -2,7 +2,7 @@
 
 use crate::fault::Fault;
 use crate::feed::{Feed, Line};
-use crate::page::Page;
+use sms_page::Page;
 use std::alloc::Global;
 use std::io::{Read, Write};
 
@@ -16,6 +16,9 @@ pub trait Taker: Drop {
         line: Result<&[u8], Fault>,
         page: &mut Page,
     ) -> Result<(), Fault>;
+
+    /// Whether the same is told of a line that is taken once more.
+    fn tells_again(&self) -> bool;
 
     /// Adds what is told at the end to the page.
     fn finish(&mut self, page: &mut Page) -> Result<(), Fault>;
@@ -45,6 +48,24 @@ fn take_line<T: Taker>(taker: &mut T, line: Line<'_>, page: &mut Page) -> Result
     taker.take(line.number, Ok(octets), page)
 }
 
+/// Hands on a line. Where memory runs out for what is told of it while more stands on the page, that
+/// is written, and the line is handed on once more with an empty page.
+fn take_or_again<T: Taker, W: Write>(
+    taker: &mut T,
+    line: Line<'_>,
+    page: &mut Page,
+    output: &mut W,
+) -> Result<(), Fault> {
+    let (before, was_cut) = (page.count(), page.is_cut());
+    take_line(taker, line, page)?;
+    if before == 0 || was_cut || !page.is_cut() || !taker.tells_again() {
+        return Ok(());
+    }
+    page.back_to(before);
+    page.write_to(output)?;
+    take_line(taker, line, page)
+}
+
 /// Hands on the lines that an input has, and writes what is told of them.
 fn take_all<T: Taker, R: Read, W: Write>(
     taker: &mut T,
@@ -57,7 +78,10 @@ fn take_all<T: Taker, R: Read, W: Write>(
         let Some(line) = feed.next_line(input, page, output)? else {
             break;
         };
-        take_line(taker, line, page)?;
+        if !page.has_room() {
+            page.write_to(output)?;
+        }
+        take_or_again(taker, line, page, output)?;
         if page.is_full() {
             page.write_to(output)?;
         }

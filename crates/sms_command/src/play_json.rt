@@ -1,14 +1,17 @@
 //! A script that is played, as objects in JSON.
 
+ghost use Rattle.std.specs.Prelude.{◌≡◌, true};
+ghost use Rattle.std.specs.List.{list_all};
+ghost use Rattle.sms_page.specs.Plain.{is_plain};
+
 use crate::fault::Fault;
 use crate::lines::{Form, Lines, Printed};
-use crate::object::Object;
 use crate::outcomes::{is_fault, told_of};
-use crate::page::Page;
-use crate::printed::Number;
+use crate::printed::{Number, put_address};
 use crate::run::{Happened, Running, Teller, Watching, run_script};
 use crate::shown::Done;
 use crate::words::Played;
+use sms_page::{Object, Page};
 use sms_script::{Packet, Script};
 use sms_world::{
     Breach, Doubt, Ground, PlayFault, Status, TextSegment, disorder_text, ground_text, number_told,
@@ -107,6 +110,7 @@ impl Printed for Sent<'_> {
 /// The texts that came to a phone.
 #[derive(Clone, Copy)]
 struct Stored<'a> {
+    alloc: Global,
     running: &'a Running,
     phone: usize,
 }
@@ -119,7 +123,7 @@ impl Printed for Stored<'_> {
         for entry in self.running.store(self.phone) {
             object.open();
             object.name("origin");
-            object.address(&entry.origin);
+            put_address(self.alloc, object, &entry.origin);
             object.text_named("text", entry.text.as_str());
             object.close();
         }
@@ -197,8 +201,10 @@ fn put_bearer(object: &mut Object, script: &Script, why: Ground) {
 }
 
 /// Adds an object that tells something of a run.
-fn put_told<P: Printed>(alloc: Global, name: &'static str, told: P, page: &mut Page) {
-    let mut lines = Lines::new(alloc, Form::Json, page.take(alloc));
+fn put_told<P: Printed>(alloc: Global, name: &'static str, told: P, page: &mut Page)
+    requires { list_all (is_plain 34) name.now ≡ true }
+{
+    let mut lines = Lines::new(Form::Json, page.take(alloc));
     lines.put(name, told);
     *page = lines.finish();
 }
@@ -221,7 +227,7 @@ impl Teller for Objects {
         page: &mut Page,
     ) -> Result<(), Fault> {
         self.has_fault = self.has_fault || is_fault(happened.answer);
-        let mut lines = Lines::new(alloc, Form::Json, page.take(alloc));
+        let mut lines = Lines::new(Form::Json, page.take(alloc));
         lines.put("event", Number(happened.number));
         told_of(happened.answer).put(&mut lines);
         lines.put("packets", Packets(happened));
@@ -237,10 +243,15 @@ impl Teller for Objects {
         page: &mut Page,
     ) -> Result<(), Fault> {
         for phone in 0..running.phones() {
-            let mut lines = Lines::new(alloc, Form::Json, page.take(alloc));
+            let mut lines = Lines::new(Form::Json, page.take(alloc));
             lines.put("phone", script.name(phone));
             lines.put("sent", Sent { running, phone });
-            lines.put("store", Stored { running, phone });
+            let stored = Stored {
+                alloc,
+                running,
+                phone,
+            };
+            lines.put("store", stored);
             *page = lines.finish();
         }
         put_verdicts(alloc, self.asked, script, running, page);
@@ -254,7 +265,7 @@ fn put_script_fault(alloc: Global, fault: &PlayFault, page: &mut Page) -> Result
         return Ok(false);
     };
     let reason = why.to_string(alloc)?;
-    let mut object = Object::new(alloc, page.take(alloc));
+    let mut object = Object::new(page.take(alloc));
     object.open();
     object.name("fault");
     object.open();

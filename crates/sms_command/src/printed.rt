@@ -1,12 +1,17 @@
 //! How values are printed.
 
-use crate::blocks::{BLOCK, filled, is_plain};
+ghost use Rattle.std.specs.Prelude.{◌≡◌, true};
+ghost use Rattle.std.specs.List.{list_all};
+ghost use Rattle.sms_page.specs.Page.{Puts};
+ghost use Rattle.sms_page.specs.Plain.{is_plain};
+ghost use Rattle.sms_page.specs.Escapes.{escaped, line};
+
+use crate::address_text::AddressText;
 use crate::lines::Printed;
-use crate::object::Object;
-use crate::page::Page;
 use sms_field::{Address, AddressView, RpAddressView, Stamp, StampDate, Validity};
-use sms_script::Escape;
+use sms_page::{Object, Page, put_line};
 use sms_tpdu::{Concat, HeaderView, Width};
+use std::alloc::Global;
 
 /// A bit, as `yes` or `no`.
 #[derive(Clone, Copy)]
@@ -115,61 +120,10 @@ impl Printed for Escaped<'_> {
 
 /// Adds a text in one line: what would break the line stands as an escape. An octet of a character
 /// of several octets stands as it is.
-pub fn put_escaped(page: &mut Page, text: &str) {
-    let octets = text.as_bytes();
-    if are_plain(octets) {
-        page.put(octets);
-    } else {
-        put_parts(page, octets);
-    }
-}
-
-/// Whether octets of a text stand in one line as they are. The last block may lie over the one
-/// before; fewer octets than a block has are tested in one that is filled up.
-fn are_plain(octets: &[u8]) -> bool {
-    match octets.last_chunk::<BLOCK>() {
-        Some(last) => is_plain(last) && have_plain_blocks(octets),
-        None => is_plain(&filled(octets)),
-    }
-}
-
-/// Whether all whole blocks of octets stand in one line as they are.
-fn have_plain_blocks(octets: &[u8]) -> bool {
-    let (blocks, _) = octets.as_chunks::<BLOCK>();
-    for block in blocks {
-        if !is_plain(block) {
-            return false;
-        }
-    }
-    true
-}
-
-/// Adds the octets of a text in one line: those that stand as they are in one piece up to the next
-/// escape.
-fn put_parts(page: &mut Page, octets: &[u8]) {
-    let mut start = 0;
-    for (place, octet) in octets.iter().enumerate() {
-        if !Escape::is_plain(*octet) {
-            page.put(octets.get(start..place).unwrap_or(&[]));
-            put_escaped_octet(page, *octet);
-            start = place.saturating_add(1);
-        }
-    }
-    page.put(octets.get(start..).unwrap_or(&[]));
-}
-
-/// Adds an octet of a text in one line.
-fn put_escaped_octet(page: &mut Page, octet: u8) {
-    match Escape::of(octet) {
-        Escape::Plain => page.put_one(octet),
-        Escape::Letter(letter) => page.put_few(&[b'\\', letter]),
-        Escape::Digits => {
-            let digits = b"0123456789abcdef";
-            let high = digits[usize::from(octet / 16)];
-            let low = digits[usize::from(octet % 16)];
-            page.put_few(&[b'\\', b'x', high, low]);
-        }
-    }
+pub fn put_escaped(page: &mut Page, text: &str)
+    ensures { Puts page.old page.new (escaped line text.now) }
+{
+    put_line(page, text.as_bytes());
 }
 
 /// The text of an address; in JSON also what kind of number it is.
@@ -196,6 +150,15 @@ impl Printed for Party<'_> {
         object.number_named("type", u64::from(self.numbering.type_of_number));
         object.number_named("plan", u64::from(self.numbering.plan));
         object.close();
+    }
+}
+
+/// Adds an address to JSON: its text, and what kind of number it is. Where there is no memory for
+/// its text, nothing more is written.
+pub fn put_address(alloc: Global, object: &mut Object, address: &Address) {
+    match AddressText::of(alloc, address) {
+        Ok(text) => Party::new(text.as_str(), Numbering::of(address)).json(object),
+        Err(_) => object.cut(),
     }
 }
 
@@ -298,7 +261,7 @@ impl Printed for StampText {
         object.open();
         object.name("date");
         match self.0.date() {
-            Some(date) => object.ascii(&rfc_3339(date)),
+            Some(date) => object.plain_text(&rfc_3339(date)),
             None => object.nothing(),
         }
         object.name("moment");
@@ -312,12 +275,16 @@ impl Printed for StampText {
 }
 
 /// The two decimal digits of a number below 100.
-fn two_digits(number: u8) -> [u8; 2] {
+fn two_digits(number: u8) -> [u8; 2]
+    ensures { list_all (is_plain 34) result ≡ true }
+{
     [b'0' + number / 10 % 10, b'0' + number % 10]
 }
 
 /// A date, a time of day and a zone, as RFC 3339 writes them.
-fn rfc_3339(date: StampDate) -> [u8; 25] {
+fn rfc_3339(date: StampDate) -> [u8; 25]
+    ensures { list_all (is_plain 34) result ≡ true }
+{
     let [y1, y2] = two_digits((date.year / 100 % 100) as u8);
     let [y3, y4] = two_digits((date.year % 100) as u8);
     let [m1, m2] = two_digits(date.month);

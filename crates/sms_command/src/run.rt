@@ -3,7 +3,7 @@
 
 use crate::fault::Fault;
 use crate::feed::{Feed, Line};
-use crate::page::Page;
+use sms_page::Page;
 use sms_script::Script;
 use sms_world::{
     Breach, Doubt, Entry, Event, Outcome, PlayFault, ScriptFault, Status, TrustedWorld,
@@ -304,6 +304,9 @@ fn run_lines<T: Teller, R: Read, W: Write>(
         let Some(line) = feed.next_line(input, page, output)? else {
             break;
         };
+        if !page.has_room() {
+            page.write_to(output)?;
+        }
         run.take(alloc, line, teller, page)?;
         if page.is_full() {
             page.write_to(output)?;

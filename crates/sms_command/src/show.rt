@@ -1,5 +1,9 @@
 //! The fields of a unit, one a line.
 
+ghost use Rattle.std.specs.Prelude.{◌≡◌, true};
+ghost use Rattle.std.specs.List.{list_all};
+ghost use Rattle.sms_page.specs.Plain.{is_plain};
+
 use crate::address_text::AddressText;
 use crate::fault::Fault;
 use crate::lines::{Layer, Lines};
@@ -59,7 +63,9 @@ pub fn put_party(
     lines: &mut Lines,
     name: &str,
     view: &AddressView<'_>,
-) -> Result<(), Fault> {
+) -> Result<(), Fault>
+    requires { list_all (is_plain 34) name.now ≡ true }
+{
     let text = AddressText::seen(alloc, view)?;
     let numbering = Numbering::seen(view);
     lines.put(name, Party::new(text.as_str(), numbering));
@@ -73,7 +79,9 @@ pub fn centre_fault(fault: sms_field::Fault<FieldFault>) -> Fault {
 }
 
 /// The line of a service centre's address, by a name.
-pub fn put_centre(lines: &mut Lines, name: &str, centre: &Option<RpAddressView<'_>>) {
+pub fn put_centre(lines: &mut Lines, name: &str, centre: &Option<RpAddressView<'_>>)
+    requires { list_all (is_plain 34) name.now ≡ true }
+{
     match centre {
         Some(address) => {
             let text = AddressText::of_centre(address);

@@ -5,11 +5,11 @@ use crate::fault::Fault;
 use crate::kinds::kind_told;
 use crate::lines::{Form, Layer, Lines};
 use crate::many::{Taker, take_lines};
-use crate::page::Page;
 use crate::printed::Number;
 use crate::relay::{show_cp, show_rp};
 use crate::show::{show_centre, show_unit};
 use crate::words::{Kind, Shown};
+use sms_page::Page;
 use std::alloc::Global;
 use std::io::{Read, Write};
 
@@ -93,7 +93,7 @@ fn put_entry(
     room: &mut Vec<u8>,
     page: &mut Page,
 ) -> Result<bool, Fault> {
-    let mut lines = Lines::new(alloc, shown.form, page.take(alloc));
+    let mut lines = Lines::new(shown.form, page.take(alloc));
     if let Some(number) = number {
         lines.put_json("line", Number(number));
     }
@@ -165,6 +165,10 @@ impl Taker for Showing<'_> {
             self.is_faulty = true;
         }
         Ok(())
+    }
+
+    fn tells_again(&self) -> bool {
+        true
     }
 
     fn finish(&mut self, _page: &mut Page) -> Result<(), Fault> {

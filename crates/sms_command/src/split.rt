@@ -6,10 +6,10 @@ ghost use Rattle.sms_join.specs.Segments.User.{IsSendable};
 
 use crate::fault::Fault;
 use crate::lines::{Form, Lines};
-use crate::page::Page;
 use crate::printed::Hexadecimal;
 use crate::words::LongText;
 use sms_join::{SegmentView, SplitFault, cut_text};
+use sms_page::Page;
 use sms_tpdu::{UnitsView, Width};
 use std::alloc::Global;
 use std::io::Write;
@@ -49,7 +49,7 @@ fn put_segment<W: Write>(
     match form {
         Form::Plain => put_line(&mut page, segment, alphabet, octets[0], &octets[1..]),
         Form::Json => {
-            let mut lines = Lines::new(alloc, form, page.take(alloc));
+            let mut lines = Lines::new(form, page.take(alloc));
             lines.put("sequence", segment.sequence());
             lines.put("maximum", segment.maximum());
             lines.put("alphabet", alphabet);
@@ -58,7 +58,7 @@ fn put_segment<W: Write>(
             page = lines.finish();
         }
     }
-    page.write_to(output)
+    Ok(page.write_to(output)?)
 }
 
 /// Adds the line of a segment.

@@ -1,8 +1,7 @@
 //! What a status report and a command say, in words.
 
 use crate::lines::Printed;
-use crate::object::Object;
-use crate::page::Page;
+use sms_page::{Object, Page};
 use sms_tpdu::{CommandKind, Status, StatusGroup, StatusMeaning};
 
 /// The words of a group.

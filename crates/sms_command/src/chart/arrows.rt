@@ -3,7 +3,7 @@
 use crate::chart::places::Places;
 use crate::chart::shapes::{Point, Side, beside, close_text, open_text, put_line, put_words};
 use crate::chart::{Doing, Row, Sent};
-use crate::page::Page;
+use sms_page::Page;
 
 /// How many characters of a packet's name stand beside its start.
 const NAME_MAX: usize = 26;

@@ -3,8 +3,8 @@
 use crate::chart::places::{Places, TOP};
 use crate::chart::shapes::{Point, Side, close_text, open_text, put_line, put_number, put_words};
 use crate::chart::stores::count_lines;
-use crate::page::Page;
 use crate::run::Running;
+use sms_page::Page;
 use sms_script::Script;
 
 /// How the chart looks: dark on white, so that shapes and not colours tell things apart.

@@ -6,7 +6,7 @@ use crate::chart::shapes::{
     Point, Side, beside, close_text, open_text, put_dot, put_line, put_number, put_words,
 };
 use crate::chart::{Doing, Row, Sent};
-use crate::page::Page;
+use sms_page::Page;
 
 /// How many characters of a label stand beside a lifeline.
 const LABEL_MAX: usize = 24;

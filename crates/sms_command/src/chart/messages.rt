@@ -1,7 +1,7 @@
 //! What a packet carries, in a few words.
 
 use crate::fault::Fault;
-use crate::page::Page;
+use sms_page::Page;
 use sms_relay::{CpBodyView, CpView, RpBodyView, RpView, Side};
 use sms_tpdu::{DeliverView, SubmitView, UserDataView};
 use std::alloc::Global;
@@ -92,5 +92,5 @@ fn put_connection(alloc: Global, octets: &[u8], page: &mut Page) -> Result<(), F
 pub fn message_name(alloc: Global, octets: &[u8]) -> Result<String, Fault> {
     let mut page = Page::new(alloc);
     put_connection(alloc, octets, &mut page)?;
-    page.into_text()
+    Ok(page.into_text()?)
 }

@@ -1,6 +1,6 @@
 //! Lines and texts in SVG.
 
-use crate::page::Page;
+use sms_page::Page;
 
 /// A place of the chart: pixels from the left and from above.
 #[derive(Clone, Copy)]

@@ -3,10 +3,10 @@
 use crate::chart::places::Places;
 use crate::chart::shapes::{Point, Side, close_text, open_text, put_words};
 use crate::fault::Fault;
-use crate::page::Page;
 use crate::play_json::status_word;
 use crate::printed::put_escaped;
 use crate::run::Running;
+use sms_page::Page;
 use sms_script::Script;
 use sms_world::Entry;
 use std::alloc::Global;
@@ -60,7 +60,7 @@ fn entry_line(alloc: Global, entry: &Entry) -> Result<String, Fault> {
     page.put(b" ");
     put_escaped(&mut page, entry.text.as_str());
     drop(origin);
-    page.into_text()
+    Ok(page.into_text()?)
 }
 
 /// Adds the lines of the texts that were typed at a phone.
