@@ -95,7 +95,7 @@ fn crowd_of(alloc: Global, origin: &Address) -> Result<Vec<u32>, AllocError> {
 fn number_at(crowd: &[u32], index: usize) -> u32 {
     match crowd.get(index) {
         Some(number) => *number,
-        None => (index as u32).wrapping_add(1 << 30),
+        None => (index % 1_000_000_000) as u32 + 1_000_000_000,
     }
 }
 
