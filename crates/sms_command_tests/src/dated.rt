@@ -25,8 +25,8 @@ fn stamp_of(year: u8, month: u8, day: u8, hour: u8, zone: u8) -> [u8; 7] {
 /// A stamp of which most are dates.
 fn made_stamp(made: &mut Made) -> [u8; 7] {
     let mut stamp = [0; 7];
-    for (own, count) in stamp.iter_mut().zip([100, 13, 32, 25, 61, 61, 1]) {
-        *own = semi_octets(made.octet() % count);
+    for (own, count) in stamp.iter_mut().zip([100u8, 13, 32, 25, 61, 61, 1]) {
+        *own = semi_octets(made.octet() % count.max(1));
     }
     stamp[6] = made.octet();
     if made.octet() < 16 {
