@@ -162,8 +162,8 @@ fn are_told(rt: &impl Abort, alloc: Global, seed: u64, is_verbose: bool) -> Resu
             word,
             "--verbose",
         ];
-        let words = if is_verbose { &words[..] } else { &words[..6] };
-        let (status, output) = fed_with(alloc, words, &input)?;
+        let count = if is_verbose { 7 } else { 6 };
+        let (status, output) = fed_with(alloc, &words[..count], &input)?;
         let is_same = status == 0 && output.as_str() == wanted.as_str();
         holds(rt, &(seed, open, is_verbose), is_same);
     }
