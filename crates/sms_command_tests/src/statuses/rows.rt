@@ -44,8 +44,9 @@ pub struct Words {
     pub words: &'static str,
 }
 
-/// TP-ST: each value that the standard names and one of each other range, but temporary errors twice.
-pub static STATUSES: [Words; 31] = [
+/// TP-ST: each value that the standard names, and one of each other range, of a reserved one the first
+/// and the last, but temporary errors twice.
+pub static STATUSES: [Words; 35] = [
     Words {
         octet: "00",
         words: "received",
@@ -60,7 +61,11 @@ pub static STATUSES: [Words; 31] = [
     },
     Words {
         octet: "03",
-        words: "reserved",
+        words: "temporary error: reserved",
+    },
+    Words {
+        octet: "0F",
+        words: "temporary error: reserved",
     },
     Words {
         octet: "10",
@@ -92,7 +97,11 @@ pub static STATUSES: [Words; 31] = [
     },
     Words {
         octet: "26",
-        words: "still trying: reserved",
+        words: "temporary error: reserved",
+    },
+    Words {
+        octet: "2F",
+        words: "temporary error: reserved",
     },
     Words {
         octet: "3F",
@@ -140,7 +149,11 @@ pub static STATUSES: [Words; 31] = [
     },
     Words {
         octet: "4A",
-        words: "permanent error: reserved",
+        words: "temporary error: reserved",
+    },
+    Words {
+        octet: "4F",
+        words: "temporary error: reserved",
     },
     Words {
         octet: "50",
@@ -159,16 +172,20 @@ pub static STATUSES: [Words; 31] = [
         words: "temporary error: reserved",
     },
     Words {
+        octet: "6F",
+        words: "temporary error: reserved",
+    },
+    Words {
         octet: "70",
         words: "temporary error: service centre specific",
     },
     Words {
         octet: "80",
-        words: "reserved",
+        words: "temporary error: reserved",
     },
     Words {
         octet: "FF",
-        words: "reserved",
+        words: "temporary error: reserved",
     },
 ];
 
@@ -365,7 +382,7 @@ pub struct Told {
 }
 
 /// Units that their first octet tells, and what JSON has.
-pub static TOLD: [Told; 4] = [
+pub static TOLD: [Told; 5] = [
     Told {
         words: &[
             "sms",
@@ -395,6 +412,16 @@ pub static TOLD: [Told; 4] = [
             "0608028121993092516195809930925161958046",
         ],
         part: "\"status\":{\"octet\":70,\"group\":\"permanent error\",\"meaning\":\"validity period expired\"}",
+    },
+    Told {
+        words: &[
+            "sms",
+            "show",
+            "--json",
+            "status-report",
+            "0608028121993092516195809930925161958003",
+        ],
+        part: "\"status\":{\"octet\":3,\"group\":\"temporary error\",\"meaning\":\"reserved\"}",
     },
     Told {
         words: &["sms", "show", "--json", "command", "02070002050491012000"],

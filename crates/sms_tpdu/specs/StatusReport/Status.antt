@@ -7,9 +7,9 @@ use Rattle.sms_tpdu.specs.declared.status_report.status.StatusGroup.TheVariants 
 use Rattle.sms_tpdu.specs.declared.status_report.status.StatusMeaning.{StatusMeaning}
 use Rattle.sms_tpdu.specs.declared.status_report.status.StatusMeaning.TheVariants as meaning
 
--- the group, by bits 7, 6 and 5: the transaction is completed; a temporary error, and the centre
--- still tries; a permanent error; a temporary error, and the centre does not try any more. With bit
--- 7 every value is reserved.
+-- the groups of named values, by bits 7, 6 and 5: the transaction is completed; a temporary error,
+-- and the centre still tries; a permanent error; a temporary error, and the centre does not try any
+-- more. With bit 7 no value is named.
 abbrev pub group_of : Bool → Bool → Bool → StatusGroup
 group_of false false false = group.Completed
 group_of false false true = group.StillTrying
@@ -39,7 +39,14 @@ meaning_of group.Reserved own low = meaning.Reserved
 meaning_of known own low =
     if own then meaning.CentreSpecific else get_or (named_values known) low meaning.Reserved
 
+-- A phone takes a reserved value as 63, the service rejected: a temporary error, after which the
+-- centre does not try any more.
+abbrev pub counts_as : StatusGroup → StatusMeaning → StatusGroup
+counts_as known meaning.Reserved = group.TemporaryError
+counts_as known said = known
+
 abbrev pub status_of : ℕ → Status
 status_of octet =
     let known = group_of (bit 7 octet) (bit 6 octet) (bit 5 octet) in
-    record { group = known; meaning = meaning_of known (bit 4 octet) (octet % 16) }
+    let said = meaning_of known (bit 4 octet) (octet % 16) in
+    record { group = counts_as known said; meaning = said }

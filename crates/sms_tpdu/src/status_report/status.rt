@@ -1,7 +1,7 @@
 //! What the status of a message says.
 
 ghost use Rattle.std.specs.Prelude.{◌≡◌, ◌%◌, get_or};
-ghost use Rattle.sms_tpdu.specs.StatusReport.Status.{group_of, meaning_of, named_values, status_of};
+ghost use Rattle.sms_tpdu.specs.StatusReport.Status.{counts_as, group_of, meaning_of, named_values, status_of};
 ghost use Rattle.sms_tpdu.specs.declared.status_report.status.StatusGroup.TheVariants as group;
 ghost use Rattle.sms_tpdu.specs.declared.status_report.status.StatusMeaning.TheVariants as meaning;
 ghost use Rattle.sms_field.specs.Bit.{bit};
@@ -19,7 +19,8 @@ pub enum StatusGroup {
     PermanentError,
     /// There is a temporary error, and the service centre does not try any more.
     TemporaryError,
-    /// The standard leaves it open.
+    /// The standard leaves it open. No octet has this group: a phone takes each reserved value as
+    /// 63, which is a `TemporaryError`.
     Reserved,
 }
 
@@ -64,7 +65,8 @@ pub enum StatusMeaning {
     Unknown,
     /// The service centre gives the value a meaning of its own.
     CentreSpecific,
-    /// The standard leaves it open. A phone takes it as `ServiceRejected` without more attempts.
+    /// The standard leaves it open. A phone takes it as 63, `ServiceRejected` without more attempts,
+    /// whose group it has.
     Reserved,
 }
 
@@ -152,15 +154,27 @@ fn meaning_in(group: StatusGroup, octet: u8) -> StatusMeaning
     }
 }
 
+/// The group that a value counts as: where it is reserved, the one of 63.
+fn counts_as(group: StatusGroup, meaning: StatusMeaning) -> StatusGroup
+    ensures { result ≡ counts_as group meaning }
+{
+    match meaning {
+        StatusMeaning::Reserved => StatusGroup::TemporaryError,
+        _ => group,
+    }
+}
+
 impl Status {
-    /// What an octet says. Every octet says something: those without a name are reserved.
+    /// What an octet says. Every octet says something: those without a name are reserved, and count
+    /// as 63, a temporary error after which the service centre does not try any more.
     pub fn of(octet: u8) -> Status
         ensures { result ≡ status_of octet }
     {
-        let group = StatusGroup::of(octet);
+        let known = StatusGroup::of(octet);
+        let meaning = meaning_in(known, octet);
         Status {
-            group,
-            meaning: meaning_in(group, octet),
+            group: counts_as(known, meaning),
+            meaning,
         }
     }
 }
