@@ -4,6 +4,7 @@
 
 mod devices;
 mod fault;
+pub mod laws;
 mod lines;
 mod meaning;
 mod playing;
@@ -11,7 +12,9 @@ mod script;
 mod transcript;
 mod words;
 
-pub use devices::{DeviceFailed, Sink, Source, Watched, copy_in_line, write_whole};
+pub use devices::{
+    DeviceFailed, Sink, Source, Watched, copy_in_line, read_again, write_again, write_whole,
+};
 pub use fault::{PlayFault, ScriptFault};
 pub use lines::{LineEnd, LineFault, read_line};
 pub use meaning::{Event, Limit, Text};

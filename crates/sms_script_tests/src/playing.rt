@@ -84,6 +84,26 @@ impl Read for Drips<'_> {
     }
 }
 
+/// Gives one octet at a time, and is interrupted before each, and before it tells its end.
+#[derive(Drop)]
+struct Stops<'a> {
+    octets: &'a [u8],
+    is_interrupted: bool,
+}
+
+impl Read for Stops<'_> {
+    fn read(&mut self, buffer: &mut [u8]) -> std::io::Result<usize> {
+        self.is_interrupted = !self.is_interrupted;
+        if self.is_interrupted {
+            return Err(std::io::Error::from(ErrorKind::Interrupted));
+        }
+        if buffer.is_empty() {
+            return Ok(0);
+        }
+        self.octets.read(&mut buffer[..1])
+    }
+}
+
 /// Gives two octets for ever, in turn.
 #[derive(Drop)]
 struct Endless {
@@ -153,6 +173,27 @@ impl Write for Failing {
             }
             Some(calls) => self.before = Some(calls.saturating_sub(1)),
             None => {}
+        }
+        take_first(&mut self.taken, octets)
+    }
+
+    fn flush(&mut self) -> std::io::Result<()> {
+        Ok(())
+    }
+}
+
+/// Takes one octet at a time, and is interrupted before each.
+#[derive(Drop)]
+struct Pauses {
+    taken: Vec<u8>,
+    is_interrupted: bool,
+}
+
+impl Write for Pauses {
+    fn write(&mut self, octets: &[u8]) -> std::io::Result<usize> {
+        self.is_interrupted = !self.is_interrupted;
+        if self.is_interrupted {
+            return Err(std::io::Error::from(ErrorKind::Interrupted));
         }
         take_first(&mut self.taken, octets)
     }
@@ -365,6 +406,39 @@ fn reads_that_fail(rt: HostRuntime) {
         };
         is(&rt, reads, &played(rt.alloc(), drips), wanted_after(reads));
     }
+}
+
+#[test]
+fn reads_that_are_interrupted(rt: HostRuntime) {
+    for row in PLAYED.iter() {
+        let stops = Stops {
+            octets: row.script,
+            is_interrupted: false,
+        };
+        is_played(&rt, row, &played(rt.alloc(), stops));
+    }
+}
+
+/// Plays the whole script into a sink whose writes are interrupted, and tells whether the sink
+/// failed.
+fn paused(alloc: Global) -> Outcome {
+    let mut source = Watched::new(WHOLE);
+    let mut sink = Watched::new(Pauses {
+        taken: Vec::new(alloc),
+        is_interrupted: false,
+    });
+    let result = play::<Silent, Watched<&[u8]>, Watched<Pauses>>(alloc, &mut source, &mut sink);
+    let failed = sink.failed();
+    Outcome {
+        result,
+        written: sink.into_inner().taken,
+        failed,
+    }
+}
+
+#[test]
+fn writes_that_are_interrupted(rt: HostRuntime) {
+    is(&rt, 0, &paused(rt.alloc()), wanted_of(TRANSCRIPT.len()));
 }
 
 /// Plays the whole script into a sink with room for as many octets, and tells whether the sink failed.

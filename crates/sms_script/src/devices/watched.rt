@@ -3,12 +3,14 @@
 ghost use Rattle.std.specs.Prelude.{◌≡◌, false};
 ghost use Rattle.sms_script.specs.Devices.{count_read, count_written};
 
+use crate::devices::again::{read_again, write_again};
 use crate::devices::sink::Sink;
 use crate::devices::source::{DeviceFailed, Source};
 use std::io::{Read, Write};
 
 /// A reader or writer of std that remembers whether a call answered an error, or a write took
-/// nothing; and whether a read told the end.
+/// nothing; and whether a read told the end. A call that was interrupted has not failed: it is
+/// repeated.
 #[derive(Drop)]
 pub struct Watched<T> {
     /// The reader or writer.
@@ -76,7 +78,7 @@ impl<R: Read> Source for Watched<R> {
     ghost has_ended = { λ w. w.ended };
 
     fn read(&mut self, buffer: &mut [u8]) -> Result<usize, DeviceFailed> {
-        let Some(count) = count_read(self.inner.read(buffer)) else {
+        let Some(count) = count_read(read_again(&mut self.inner, buffer)) else {
             self.failed = true;
             return Err(DeviceFailed);
         };
@@ -95,7 +97,7 @@ impl<W: Write> Sink for Watched<W> {
     ghost has_failed = { λ w. w.failed };
 
     fn write(&mut self, octets: &[u8]) -> Result<usize, DeviceFailed> {
-        let Some(count) = count_written(self.inner.write(octets), octets.len()) else {
+        let Some(count) = count_written(write_again(&mut self.inner, octets), octets.len()) else {
             self.failed = true;
             return Err(DeviceFailed);
         };

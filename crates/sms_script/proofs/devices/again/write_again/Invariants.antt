@@ -1,0 +1,6 @@
+-- An interrupted write adds nothing.
+use Rattle.std.specs.Io.KnownBytes.{Keeps}
+use Rattle.sms_script.proofs.devices.again.write_again.Given as goal
+
+abbrev pub invariant-loop : goal.invariant-loop
+invariant-loop g l = Keeps (g.W.Write.contents l.initial.output) (g.W.Write.contents l.output)
