@@ -1,6 +1,6 @@
 //! Lines read from a source.
 
-ghost use Rattle.std.specs.Prelude.{◌≡◌, ◌≢◌, ◌<◌, ◌≤◌, ◌+◌, ◌-◌, ◌++◌, ◌∷◌, [], ℕ, List, Option, Ok, Err, IfOk, IsOk, IsErr, true, false, length, nat_lt, take};
+ghost use Rattle.std.specs.Prelude.{◌≡◌, ◌≢◌, ◌≤◌, ◌+◌, ◌-◌, ◌++◌, ◌∷◌, [], ℕ, List, Option, Ok, Err, IfOk, IsOk, IsErr, true, false, length, nat_lt, take};
 ghost use Rattle.std.specs.Io.KnownBytes.{Consumes};
 ghost use Rattle.std.specs.Vec.{vec_len, vec_capacity};
 ghost use Rattle.sms_script.specs.Inside.Parts.{EndsPart, TakesPart};
@@ -73,6 +73,9 @@ const ROOM: usize = LINE_LIMIT + 1;
 /// How many octets are read at once, if there are so many.
 const PART: usize = 16;
 
+/// A line of fewer octets is short.
+const SHORT: usize = 4;
+
 /// What follows a part of a line.
 #[derive(Clone, Copy, Debug, PartialEq, Eq)]
 enum Part {
@@ -139,56 +142,6 @@ fn read_part<S: Source>(source: &mut S, line: &mut Vec<u8>) -> Result<Part, Devi
     Ok(end_part(line, &part, given))
 }
 
-/// Reads one octet more of a line that has fewer than a line may have; a line feed is not kept.
-fn read_one<S: Source>(source: &mut S, line: &mut Vec<u8>) -> Result<Part, DeviceFailed>
-    requires works { S.has_failed source.old ≡ false }
-    requires goes_on { S.has_ended source.old ≡ false }
-    requires short { vec_len line.old < line_limit }
-    requires room { line_limit + 1 ≤ vec_capacity line.old }
-    ensures takes { let old = S.remaining source.old in
-        TakesPart old (S.remaining source.new) line.old.items line.new.items result }
-    ensures room { line_limit + 1 ≤ vec_capacity line.new }
-    ensures fails { IsErr result → S.has_failed source.new ≡ true }
-    ensures works { IsOk result → S.has_failed source.new ≡ false }
-    ensures goes_on { IfOk result (λ part. part ≢ Part.EndOfSource
-        → S.has_ended source.new ≡ false) }
-{
-    match next_octet(source)? {
-        None => Ok(Part::EndOfSource),
-        Some(b'\n') => Ok(Part::LineFeed),
-        Some(octet) => {
-            line.push_reserved(octet);
-            Ok(Part::More)
-        }
-    }
-}
-
-/// Reads more of a line, as the two above do: one octet as long as it has fewer than so many, and
-/// then a part.
-fn read_more<S: Source>(
-    source: &mut S,
-    line: &mut Vec<u8>,
-    singly: usize,
-) -> Result<Part, DeviceFailed>
-    requires works { S.has_failed source.old ≡ false }
-    requires goes_on { S.has_ended source.old ≡ false }
-    requires short { vec_len line.old + 16 ≤ line_limit }
-    requires room { line_limit + 1 ≤ vec_capacity line.old }
-    ensures takes { let old = S.remaining source.old in
-        TakesPart old (S.remaining source.new) line.old.items line.new.items result }
-    ensures room { line_limit + 1 ≤ vec_capacity line.new }
-    ensures fails { IsErr result → S.has_failed source.new ≡ true }
-    ensures works { IsOk result → S.has_failed source.new ≡ false }
-    ensures goes_on { IfOk result (λ part. part ≢ Part.EndOfSource
-        → S.has_ended source.new ≡ false) }
-{
-    if line.len() < singly {
-        read_one(source, line)
-    } else {
-        read_part(source, line)
-    }
-}
-
 /// Reads the rest of a line octet by octet.
 fn read_rest<S: Source>(source: &mut S, line: &mut Vec<u8>) -> Result<LineEnd, LineFault>
     requires works { S.has_failed source.old ≡ false }
@@ -238,14 +191,14 @@ pub fn read_line<S: Source>(source: &mut S, line: &mut Vec<u8>) -> Result<LineEn
     ensures works { result ≢ Err LineFault.Read → S.has_failed source.new ≡ false }
     ensures goes_on { result ≡ Ok LineEnd.LineFeed → S.has_ended source.new ≡ false }
 {
-    // after an empty line another is likely, of at most a carriage return and a line feed
-    let singly = if line.is_empty() { 2 } else { 0 };
+    // after a short line another is likely, which is read soonest octet by octet
+    let is_short = line.len() < SHORT;
     line.clear();
     if line.reserve(ROOM).is_err() {
         return Err(LineFault::Memory);
     }
-    while source.gives_lines() && line.len() + PART <= LINE_LIMIT {
-        match read_more(source, line, singly) {
+    while !is_short && source.gives_lines() && line.len() + PART <= LINE_LIMIT {
+        match read_part(source, line) {
             Ok(Part::More) => {}
             Ok(Part::LineFeed) => {
                 drop_carriage_return(line);

@@ -2,10 +2,10 @@ use Rattle.std.proofs.Common.{rules}
 use Rattle.sms_script.proofs.PartLemmas.{line_goes_on, line_ends}
 use Rattle.sms_script.proofs.lines.read_line.Goals as goal
 
-pub loop-line-preserved : goal.loop-line-preserved
-loop-line-preserved g c =
+pub loop-source-preserved : goal.loop-source-preserved
+loop-source-preserved g c =
     let takes = rw c.in-Ok-More.field-0-is at c.in-Ok-More.ensures.takes in
-    let goes = line_goes_on _ _ _ c.loop-line.line.items c.read_more.new.line.items c.loop-line.invariant.no_feed c.loop-line.invariant.taken takes.0 in record {
+    let goes = line_goes_on _ _ _ c.loop-source.line.items c.read_part.new.line.items c.loop-source.invariant.no_feed c.loop-source.invariant.taken takes.0 in record {
       works = search rules;
       goes_on = search rules;
       no_feed = goes.0;
@@ -17,4 +17,4 @@ loop-line-preserved g c =
 pub returns-in-Ok-LineFeed-clause-reads : goal.returns-in-Ok-LineFeed-clause-reads
 returns-in-Ok-LineFeed-clause-reads g c =
     let takes = rw c.in-Ok-LineFeed.field-0-is at c.in-Ok-LineFeed.ensures.takes in
-    line_ends _ _ _ c.loop-line.line.items c.read_more.new.line.items _ c.loop-line.invariant.no_feed c.loop-line.invariant.taken takes c.drop_carriage_return.ensures
+    line_ends _ _ _ c.loop-source.line.items c.read_part.new.line.items _ c.loop-source.invariant.no_feed c.loop-source.invariant.taken takes c.drop_carriage_return.ensures

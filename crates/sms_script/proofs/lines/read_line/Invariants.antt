@@ -3,8 +3,8 @@ use Rattle.std.specs.Io.KnownBytes.{Consumes}
 use Rattle.sms_script.specs.Lines.{line_limit, HasNoLineFeed}
 use Rattle.sms_script.proofs.lines.read_line.Given as goal
 
-abbrev pub invariant-loop-line : goal.invariant-loop-line
-invariant-loop-line g l = record {
+abbrev pub invariant-loop-source : goal.invariant-loop-source
+invariant-loop-source g l = record {
   works : g.S.Source.has_failed l.source ≡ false;
   goes_on : g.S.Source.has_ended l.source ≡ false;
   no_feed : HasNoLineFeed l.line.items;
@@ -13,5 +13,5 @@ invariant-loop-line g l = record {
   taken : Consumes (g.S.Source.remaining l.initial.source) (g.S.Source.remaining l.source) l.line.items;
 }
 
-abbrev pub decreases-loop-line : goal.decreases-loop-line
-decreases-loop-line g l = 4096 - vec_len l.line
+abbrev pub decreases-loop-source : goal.decreases-loop-source
+decreases-loop-source g l = 4096 - vec_len l.line
