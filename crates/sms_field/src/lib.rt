@@ -12,6 +12,7 @@ mod cursor;
 mod digits;
 mod fault;
 pub mod laws;
+pub mod limits;
 mod moment;
 mod name;
 mod octets;

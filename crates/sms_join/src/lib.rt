@@ -10,6 +10,7 @@ mod key_row;
 mod key_tag;
 mod last_keys;
 pub mod laws;
+pub mod limits;
 mod offer;
 mod open_sets;
 mod reading;

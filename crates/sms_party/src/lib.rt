@@ -2,6 +2,7 @@
 #![tactic(auto)]
 
 mod laws;
+pub mod limits;
 mod phone;
 mod receiver;
 mod sender;

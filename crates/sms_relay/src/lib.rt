@@ -8,6 +8,7 @@ mod cp_kind;
 mod fault;
 mod inner;
 pub mod laws;
+pub mod limits;
 mod rp;
 mod rp_kind;
 mod side;

@@ -4,7 +4,7 @@
 
 mod devices;
 mod fault;
-pub mod laws;
+pub mod limits;
 mod lines;
 mod meaning;
 mod playing;

@@ -1,5 +1,4 @@
-//! What follows from the definitions alone. No function here does anything: its contract is the
-//! law.
+//! The limits of the code that definitions name, as numbers.
 
 ghost use Rattle.std.specs.Prelude.{◌≡◌};
 ghost use Rattle.sms_script.specs.declared.meaning.known.TheConstants.{PHONE_LIMIT};
