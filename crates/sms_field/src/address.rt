@@ -1,6 +1,6 @@
 //! Addresses of the transfer layer (3GPP TS 23.040, 9.1.2.5).
 
-ghost use Rattle.std.specs.Prelude.{◌≡◌, ◌++◌, IsOk, IfOk, IfErr, OnOk, OnErr};
+ghost use Rattle.std.specs.Prelude.{◌≡◌, ◌≢◌, ◌++◌, Err, IsOk, IfOk, IfErr, OnOk, OnErr};
 ghost use Rattle.sms_field.specs.Field.{IsLawful, IsSelfContained};
 ghost use Rattle.sms_field.specs.Address.Value.{HasSpelling};
 ghost use Rattle.sms_field.specs.Address.{address, address_octets};
@@ -112,11 +112,12 @@ impl Address {
         }
     }
 
-    /// Reads an address at the front of the octets, and says how many it takes.
+    /// Reads an address at the front of the octets, and says how many it takes. It takes no memory.
     pub fn read(alloc: Global, input: &[u8]) -> Result<(Address, usize), Refusal<FieldFault>>
         ensures found { IfOk result (λ x. Reads address x.0 input.now x.1) }
         ensures refused { IfErr result (IsRefused address Short input.now) }
         ensures exact { ReadsExactly address input.now result }
+        ensures memory { result ≢ Err Refusal.Memory }
     {
         let (view, used) = AddressView::read(input)?;
         Ok((view.to_value(alloc)?, used))

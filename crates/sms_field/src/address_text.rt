@@ -1,11 +1,11 @@
 //! The text of an address.
 
-ghost use Rattle.std.specs.Prelude.{◌≡◌, ◌≢◌, ◌<◌, ℕ, List, ◌∷◌, ◌++◌, IfOk, MatchOption};
+ghost use Rattle.std.specs.Prelude.{◌≡◌, ◌≢◌, ◌<◌, ℕ, List, ◌∷◌, ◌++◌, Err, IfOk, MatchOption, None};
 ghost use Rattle.std.specs.Str.{chars};
 ghost use Rattle.std.specs.String.{string_bytes};
 ghost use Rattle.sms_text.specs.SeptetsOfText.{septets_of_text};
 ghost use Rattle.sms_field.specs.Address.DigitText.{digits_of_text, text_of_digits};
-ghost use Rattle.sms_field.specs.Address.Text.{plus, prefix, address_text, few_digits, telephone as telephone_with, telephone_of, name_of, without_plus, address_of_text};
+ghost use Rattle.sms_field.specs.Address.Text.{plus, prefix, address_text, few_digits, telephone as telephone_with, telephone_of, name_of, without_plus, address_of_text, IsNoNumber};
 ghost use Rattle.sms_field.specs.Address.Faults.{Gives};
 
 use crate::address::{ALPHANUMERIC, Address};
@@ -24,9 +24,10 @@ pub fn international(text: &str) -> Option<&str>
     text.strip_prefix('+')
 }
 
-/// The digits of a text, up to 20.
+/// The digits of a text, up to 20. They take no memory.
 pub fn digits_of_telephone(_alloc: Global, text: &str) -> Result<Digits, TextFault>
-    ensures { Gives result (few_digits (digits_of_text (chars text.now))) }
+    ensures gives { Gives result (few_digits (digits_of_text (chars text.now))) }
+    ensures memory { result ≢ Err TextFault.Memory }
 {
     match digits_of(text) {
         Ok(digits) => Ok(digits),
@@ -66,7 +67,8 @@ fn telephone(type_of_number: u8, digits: Digits) -> Address
 
 /// An international telephone number, of the digits of a text.
 fn international_telephone(alloc: Global, text: &str) -> Result<Address, TextFault>
-    ensures { Gives result (telephone_of 1 (few_digits (digits_of_text (chars text.now)))) }
+    ensures gives { Gives result (telephone_of 1 (few_digits (digits_of_text (chars text.now)))) }
+    ensures memory { result ≢ Err TextFault.Memory }
 {
     let digits = digits_of_telephone(alloc, text)?;
     Ok(telephone(1, digits))
@@ -91,7 +93,8 @@ fn name(alloc: Global, text: &str) -> Result<Address, TextFault>
 
 /// A telephone number of unknown type, or a name where the text has another character than digits.
 fn telephone_or_name(alloc: Global, text: &str) -> Result<Address, TextFault>
-    ensures { Gives result (without_plus (chars text.now)) }
+    ensures gives { Gives result (without_plus (chars text.now)) }
+    ensures memory { result ≡ Err TextFault.Memory → digits_of_text (chars text.now) ≡ None }
 {
     match digits_of_telephone(alloc, text) {
         Ok(digits) => Ok(telephone(0, digits)),
@@ -104,9 +107,10 @@ impl Address {
     /// The address that a text says: `+` and digits are a telephone number of type 1, digits alone
     /// one of type 0, both in plan 1; another text that does not begin with `+` is a name, of type
     /// 5 in plan 0. Digits are `0` to `9`, `*`, `#`, `a`, `b` and `c`. A bad character is found
-    /// before too many.
+    /// before too many. A name alone takes memory.
     pub fn from_text(alloc: Global, text: &str) -> Result<Address, TextFault>
-        ensures { Gives result (address_of_text (chars text.now)) }
+        ensures gives { Gives result (address_of_text (chars text.now)) }
+        ensures memory { result ≡ Err TextFault.Memory → IsNoNumber (chars text.now) }
     {
         match international(text) {
             Some(digits) => international_telephone(alloc, digits),

@@ -1,6 +1,6 @@
 //! Addresses of the relay layer (3GPP TS 24.011, 8.2.5.1 and 8.2.5.2).
 
-ghost use Rattle.std.specs.Prelude.{◌≡◌, ◌<◌, ◌++◌, IsOk, IfOk, IfErr, OnOk, OnErr};
+ghost use Rattle.std.specs.Prelude.{◌≡◌, ◌≢◌, ◌<◌, ◌++◌, Err, IsOk, IfOk, IfErr, OnOk, OnErr};
 ghost use Rattle.std.specs.Str.{chars};
 ghost use Rattle.std.specs.String.{string_bytes};
 ghost use Rattle.sms_field.specs.Field.{IsLawful, IsSelfContained};
@@ -91,8 +91,9 @@ impl Hash for RpAddress {
 /// A telephone number, of the digits of a text.
 fn telephone(alloc: Global, type_of_number: u8, text: &str) -> Result<RpAddress, TextFault>
     requires { type_of_number < 2 }
-    ensures { Gives result
+    ensures gives { Gives result
         (relay_telephone_of type_of_number (few_digits (digits_of_text (chars text.now)))) }
+    ensures memory { result ≢ Err TextFault.Memory }
 {
     let digits = digits_of_telephone(alloc, text)?;
     Ok(RpAddress {
@@ -116,9 +117,10 @@ pub fn relay_address_laws()
 impl RpAddress {
     /// The telephone number that a text says, in plan 1: `+` and digits are of type 1, digits alone
     /// of type 0. Digits are `0` to `9`, `*`, `#`, `a`, `b` and `c`. A bad digit is found before
-    /// too many.
+    /// too many. It takes no memory.
     pub fn from_text(alloc: Global, text: &str) -> Result<RpAddress, TextFault>
-        ensures { Gives result (relay_address_of_text (chars text.now)) }
+        ensures gives { Gives result (relay_address_of_text (chars text.now)) }
+        ensures memory { result ≢ Err TextFault.Memory }
     {
         match international(text) {
             Some(digits) => telephone(alloc, 1, digits),
@@ -170,7 +172,7 @@ impl RpAddress {
     }
 
     /// Reads an address, or none where the length octet is 0, at the front of the octets, and says
-    /// how many octets it takes.
+    /// how many octets it takes. It takes no memory.
     pub fn read(
         alloc: Global,
         input: &[u8],
@@ -178,6 +180,7 @@ impl RpAddress {
         ensures found { IfOk result (λ x. Reads relay_address x.0 input.now x.1) }
         ensures refused { IfErr result (IsRefused relay_address Short input.now) }
         ensures exact { ReadsExactly relay_address input.now result }
+        ensures memory { result ≢ Err Refusal.Memory }
     {
         let (view, used) = RpAddressView::read(input)?;
         Ok((RpAddressView::some_to_value(alloc, &view)?, used))

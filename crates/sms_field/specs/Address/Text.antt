@@ -1,6 +1,6 @@
 -- The text of an address. Its digits are shown as 3GPP TS 23.040, 9.1.2.3 has them, an
 -- international telephone number (9.1.2.5) after +; a name is its own text.
-use Rattle.std.specs.Prelude.{ℕ, List, [], ◌∷◌, ◌++◌, length, Option, Some, None, Result, Ok, Err, ◌==◌, nat_le, if◌then◌else◌}
+use Rattle.std.specs.Prelude.{◌≡◌, ◌≢◌, ℕ, List, [], ◌∷◌, ◌++◌, length, Option, Some, None, Result, Ok, Err, ◌==◌, nat_le, if◌then◌else◌}
 use Rattle.sms_text.specs.SeptetsOfText.{septets_of_text}
 use Rattle.sms_text.specs.TextOfSeptets.{text_of_septets}
 use Rattle.sms_field.specs.Address.Value.{AddressValue, alphanumeric}
@@ -59,6 +59,10 @@ telephone_or_name (Err why) named = Err why
 abbrev pub without_plus : List ℕ → Result AddressValue AddressFault
 without_plus text =
     telephone_or_name (few_digits (digits_of_text text)) (name_of (septets_of_text text))
+
+-- a text that is no number: it does not begin with +, and not each of its characters is a digit
+abbrev pub IsNoNumber : List ℕ → Type 0
+IsNoNumber text = ((rest : List ℕ) → text ≢ plus ∷ rest) × (digits_of_text text ≡ None)
 
 -- the address that a text says: after + an international telephone number, 1, else one of unknown
 -- type or a name

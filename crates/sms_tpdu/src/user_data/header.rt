@@ -1,6 +1,6 @@
 //! User data headers.
 
-ghost use Rattle.std.specs.Prelude.{◌≡◌, ◌<◌, ◌≤◌, ◌++◌, length, Option, Some, IfOk, OnOk};
+ghost use Rattle.std.specs.Prelude.{◌≡◌, ◌<◌, ◌≤◌, ◌++◌, length, Option, Some, IfOk, IsOk, OnOk};
 ghost use Rattle.sms_tpdu.specs.UserData.Header.{header};
 ghost use Rattle.sms_tpdu.specs.declared.user_data.concat.Concat.{Concat};
 ghost use Rattle.sms_tpdu.specs.declared.user_data.concat.Width.TheVariants.{Eight};
@@ -63,10 +63,12 @@ impl Header {
         }
     }
 
-    /// The header of a copy of these octets, which are those after the length octet.
+    /// The header of a copy of these octets, which are those after the length octet. Up to 16 take
+    /// no memory.
     pub fn from_slice(alloc: Global, octets: &[u8]) -> Result<Header, AllocError>
         requires { length octets.now ≤ HEADER_MAX }
-        ensures { IfOk result (λ h. h ≡ octets.now) }
+        ensures octets { IfOk result (λ h. h ≡ octets.now) }
+        ensures succeeds { length octets.now ≤ 16 → IsOk result }
     {
         match ArrayVec::try_from(octets) {
             Ok(few) => Ok(Header {
@@ -78,11 +80,12 @@ impl Header {
 
     /// The header of a segment of a concatenated message.
     ///
-    /// It tells the place where the sequence is 1 to the maximum.
+    /// It tells the place where the sequence is 1 to the maximum. It takes no memory.
     pub fn of(alloc: Global, concat: Concat) -> Result<Header, AllocError>
         requires { concat.width ≡ Eight → concat.reference < 256 }
         ensures octets { IfOk result (λ h. h ≡ element_octets (concat_element concat)) }
         ensures told { IfOk result (λ h. IsInOrder concat → IsConcatOf h (Some concat)) }
+        ensures succeeds { IsOk result }
     {
         header_of_element(alloc, concat)
     }
@@ -98,9 +101,11 @@ impl Header {
         }
     }
 
-    /// The octets after the length octet, in a vector.
+    /// The octets after the length octet, in a vector. Up to 16 may lie in the value itself, and take
+    /// memory; more are handed on as they lie.
     pub fn into_vec(self, alloc: Global) -> Result<Vec<u8>, AllocError>
-        ensures { IfOk result (λ octets. octets.items ≡ self) }
+        ensures octets { IfOk result (λ octets. octets.items ≡ self) }
+        ensures succeeds { 16 < length self → IsOk result }
     {
         match self.octets {
             HeaderOctets::Few(octets) => Vec::from_slice(alloc, octets.as_slice()),
@@ -121,9 +126,10 @@ impl Header {
         HeaderView::new(self.as_slice()).concat()
     }
 
-    /// The same header.
+    /// The same header. Up to 16 octets take no memory.
     pub fn copy(&self, alloc: Global) -> Result<Header, AllocError>
-        ensures { IfOk result (λ h. h ≡ self.now) }
+        ensures octets { IfOk result (λ h. h ≡ self.now) }
+        ensures succeeds { length self.now ≤ 16 → IsOk result }
     {
         Header::from_slice(alloc, self.as_slice())
     }
@@ -132,7 +138,8 @@ impl Header {
 /// The header of the element that tells the place of a segment.
 fn header_of_element(alloc: Global, concat: Concat) -> Result<Header, AllocError>
     requires { concat.width ≡ Eight → concat.reference < 256 }
-    ensures { IfOk result (λ h. h ≡ element_octets (concat_element concat)) }
+    ensures octets { IfOk result (λ h. h ≡ element_octets (concat_element concat)) }
+    ensures succeeds { IsOk result }
 {
     let (reference, maximum, sequence) = (concat.reference, concat.maximum, concat.sequence);
     match concat.width {
