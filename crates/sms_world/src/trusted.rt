@@ -10,7 +10,7 @@ ghost use Rattle.sms_world.specs.Inside.TraceValue.{traces_in, IsBroughtBy};
 ghost use Rattle.sms_world.specs.Traces.{ground_at};
 ghost use Rattle.sms_world.specs.Trusted.{IsTrusted, BeginsTrusted, GoesOnTrusted, AcceptedIsTold, AcceptedMeansAccepted};
 ghost use Rattle.sms_world.specs.Watched.{GoesOnWatched};
-ghost use Rattle.sms_world.specs.World.Steps.{event_of, PutsMore, Steps};
+ghost use Rattle.sms_world.specs.World.Steps.{event_of, PutsMore, Steps, IfNowhere};
 
 use crate::doubt::Doubt;
 use crate::fault::WorldFault;
@@ -27,8 +27,9 @@ use std::alloc::{AllocError, Global};
 use std::marker::Model;
 
 /// A watched world, and what is noted besides of the events that have happened in it: so it can tell
-/// whether each text that is shown as accepted was. A look-up takes a time that does not grow with
-/// what has happened.
+/// whether each text that is shown as accepted was. A look-up takes a time that grows with the texts
+/// that have finished at a phone, at most as many as its store has room for, and with nothing else
+/// that has happened.
 #[derive(Drop)]
 pub struct TrustedWorld {
     alloc: Global,
@@ -94,6 +95,8 @@ impl TrustedWorld {
         ensures packets { PutsMore self.old.watched.world self.new.watched.world }
         ensures kept { OnErr result
             (self.new.watched.world.packets ≡ self.old.watched.world.packets) }
+        ensures unmoved { IfNowhere result
+            (self.new.watched.world ≡ self.old.watched.world) }
         ensures ticks { IsTick event.now
             → self.new.watched.world.packets ≡ self.old.watched.world.packets }
     {
@@ -184,6 +187,7 @@ fn happen(
         ≡ length watched.old.world.parties.phones }
     ensures packets { PutsMore watched.old.world watched.new.world }
     ensures kept { OnErr result (watched.new.world.packets ≡ watched.old.world.packets) }
+    ensures unmoved { IfNowhere result (watched.new.world ≡ watched.old.world) }
     ensures ticks { IsTick event.now → watched.new.world.packets ≡ watched.old.world.packets }
 {
     if is_honest {
@@ -211,6 +215,7 @@ fn happen_honestly(
         ≡ length watched.old.world.parties.phones }
     ensures packets { PutsMore watched.old.world watched.new.world }
     ensures kept { OnErr result (watched.new.world.packets ≡ watched.old.world.packets) }
+    ensures unmoved { IfNowhere result (watched.new.world ≡ watched.old.world) }
     ensures ticks { IsTick event.now → watched.new.world.packets ≡ watched.old.world.packets }
 {
     traces_tell();
@@ -241,6 +246,7 @@ fn happen_at_phone(
         ≡ length watched.old.world.parties.phones }
     ensures packets { PutsMore watched.old.world watched.new.world }
     ensures kept { OnErr result (watched.new.world.packets ≡ watched.old.world.packets) }
+    ensures unmoved { IfNowhere result (watched.new.world ≡ watched.old.world) }
     ensures ticks { IsTick event.now → watched.new.world.packets ≡ watched.old.world.packets }
 {
     laws_below();

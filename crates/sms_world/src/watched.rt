@@ -31,7 +31,8 @@ use std::alloc::{AllocError, Global};
 use std::marker::Model;
 
 /// A world, and what is noted of the events that have happened in it: so it can tell whether they
-/// came in order. A look-up takes a time that does not grow with what has happened.
+/// came in order. A look-up takes a time that grows with the texts that have finished at a phone, at
+/// most as many as its store has room for, and with nothing else that has happened.
 #[derive(Drop)]
 pub struct WatchedWorld {
     world: World,
@@ -99,6 +100,7 @@ impl WatchedWorld {
             ≡ length self.old.world.parties.phones }
         ensures packets { PutsMore self.old.world self.new.world }
         ensures kept { OnErr result (self.new.world.packets ≡ self.old.world.packets) }
+        ensures unmoved { IfNowhere result (self.new.world ≡ self.old.world) }
         ensures ticks { IsTick event.now → self.new.world.packets ≡ self.old.world.packets }
     {
         watching_goes_on();
@@ -203,6 +205,7 @@ fn happen(
     ensures phones { length world.new.parties.phones ≡ length world.old.parties.phones }
     ensures packets { PutsMore world.old world.new }
     ensures kept { OnErr result (world.new.packets ≡ world.old.packets) }
+    ensures unmoved { IfNowhere result (world.new ≡ world.old) }
     ensures ticks { IsTick event.now → world.new.packets ≡ world.old.packets }
 {
     if in_order {
@@ -228,6 +231,7 @@ fn happen_in_order(
     ensures phones { length world.new.parties.phones ≡ length world.old.parties.phones }
     ensures packets { PutsMore world.old world.new }
     ensures kept { OnErr result (world.new.packets ≡ world.old.packets) }
+    ensures unmoved { IfNowhere result (world.new ≡ world.old) }
     ensures ticks { IsTick event.now → world.new.packets ≡ world.old.packets }
 {
     laws_below();
@@ -257,6 +261,7 @@ fn happen_at_phone(
     ensures phones { length world.new.parties.phones ≡ length world.old.parties.phones }
     ensures packets { PutsMore world.old world.new }
     ensures kept { OnErr result (world.new.packets ≡ world.old.packets) }
+    ensures unmoved { IfNowhere result (world.new ≡ world.old) }
     ensures ticks { IsTick event.now → world.new.packets ≡ world.old.packets }
 {
     laws_below();

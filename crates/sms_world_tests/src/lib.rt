@@ -18,4 +18,6 @@ mod segments;
 #[cfg(test)]
 mod two;
 #[cfg(test)]
+mod verdicts;
+#[cfg(test)]
 mod way;

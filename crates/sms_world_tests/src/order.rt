@@ -178,7 +178,7 @@ fn key_comes_again(alloc: Global, world: &mut WatchedWorld) -> Result<(), AllocE
 }
 
 /// What is told of a text of the first phone.
-fn breach(event: u64, disorder: Disorder, text: usize) -> Option<Breach> {
+pub(crate) fn breach(event: u64, disorder: Disorder, text: usize) -> Option<Breach> {
     Some(Breach {
         event,
         disorder,
