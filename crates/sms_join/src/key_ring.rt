@@ -100,7 +100,8 @@ fn unlink(keys: &HeapCircularBuffer<Key>, oldest: usize, heads: &mut [u32], next
     requires heads { 0 < length heads.old }
     requires next { length keys.now.items ≤ length next.old }
     requires small { length next.old < NONE }
-    requires lie { LieIn (laid oldest keys.now.items) (entries oldest (laid oldest keys.now.items)) }
+    requires lie { LieIn (laid oldest keys.now.items)
+        (entries oldest (laid oldest keys.now.items)) }
     requires apart { LieApart (entries oldest (laid oldest keys.now.items)) }
     requires linked { AreLinked (rings.head_of hash_of (length heads.old))
         next.old heads.old (entries oldest (laid oldest keys.now.items)) }

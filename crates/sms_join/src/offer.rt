@@ -9,7 +9,8 @@ use thiserror::Error;
 /// The answer to a piece.
 #[derive(Drop)]
 pub enum Offer {
-    /// The piece is there already, or its set finished lately: nothing changes.
+    /// The piece is there already, or its set is among the last that finished, as many as are
+    /// remembered, however long ago: nothing changes.
     Repeat,
     /// The piece is kept, and others are missing.
     Kept,

@@ -66,7 +66,8 @@ pub enum Outcome {
     Finished,
     /// The piece that came is kept, and others are missing.
     Kept,
-    /// The piece that came was there already, or its text finished lately.
+    /// The piece that came was there already, or its text is among the last that finished, as many
+    /// as are remembered, however long ago.
     Repeat,
     /// The clock has moved.
     Ticked,
