@@ -450,7 +450,7 @@ static SUBCOMMANDS: [Subcommand; 6] = [
             Word {
                 name: "orderly",
                 form: WordForm::Flag,
-                help: "Tells at the end whether the run was orderly, so that each store is just the texts typed to it; or the first event that came out of order, and how",
+                help: "Tells at the end whether the run was orderly, so that each store is just the texts typed to it of which every segment was taken; or the first event that came out of order, and how",
             },
             Word {
                 name: "accepted",

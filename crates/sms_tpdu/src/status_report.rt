@@ -34,7 +34,8 @@ pub struct StatusReport {
     pub qualifier: bool,
     /// TP-UDHI: the data begin with a header.
     pub has_header: bool,
-    /// TP-MR: the reference of the submission, or of the command.
+    /// TP-MR: the reference of the submission, where a command enquired after it too; of any other
+    /// command its own.
     pub reference: u8,
     /// TP-RA: the recipient of the message.
     pub recipient: Address,
