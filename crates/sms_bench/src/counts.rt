@@ -1,6 +1,6 @@
 //! How much of what came out of a job, by how its lines begin and end.
 
-use memchr::memrchr;
+use memchr::{memchr, memrchr};
 use std::fmt;
 
 /// Whose answers are counted, and in which form.
@@ -52,12 +52,22 @@ pub fn add_one(count: &mut u64) {
 /// What a text of several units begins with.
 static MARK: &[u8] = b"* ";
 
-/// Whether a text that stands from a place on has several units.
-fn is_marked(line: &[u8], place: usize) -> bool {
-    match line.get(place..) {
-        Some(text) => text.starts_with(MARK),
-        None => false,
+/// What stands behind the first blank.
+fn after_blank(line: &[u8]) -> &[u8] {
+    match memchr(b' ', line) {
+        Some(place) => line.get(place.saturating_add(1)..).unwrap_or(&[]),
+        None => &[],
     }
+}
+
+/// The text in a line of `join`, behind the moment and the origin, in which there is no blank.
+fn text_in(line: &[u8]) -> &[u8] {
+    after_blank(after_blank(line))
+}
+
+/// The text in a line of `join --json`, and what stands behind it.
+fn text_in_json(line: &[u8]) -> &[u8] {
+    line.get(9..).unwrap_or(&[])
 }
 
 /// What stands after the digits in front.
@@ -105,8 +115,8 @@ impl Counts {
     }
 
     /// Counts a text that is whole.
-    fn take_text(&mut self, is_marked: bool) {
-        if is_marked {
+    fn take_text(&mut self, text: &[u8]) {
+        if text.starts_with(MARK) {
             add_one(&mut self.several);
         } else {
             add_one(&mut self.single);
@@ -121,15 +131,14 @@ impl Counts {
             [b'l', .., b'e', b'a', b't'] => add_one(&mut self.repeats),
             [b'l', .., b'e', b't', b's'] => add_one(&mut self.refused),
             [b'l', ..] => add_one(&mut self.faults),
-            [_, _, _, _, _, _, _, _, _, b' ', ..] => self.take_text(is_marked(line, 23)),
-            _ => self.take_text(is_marked(line, 24)),
+            _ => self.take_text(text_in(line)),
         }
     }
 
     /// Counts a line of `join --json`.
     fn take_joined_json(&mut self, line: &[u8]) {
         match line {
-            [b'{', b'"', b't', ..] => self.take_text(is_marked(line, 9)),
+            [b'{', b'"', b't', ..] => self.take_text(text_in_json(line)),
             [b'{', b'"', b'o', ..] => add_one(&mut self.open),
             [b'{', b'"', b'd', ..] => add_one(&mut self.dropped),
             [.., b'e', b'a', b't', b'"', b'}'] => add_one(&mut self.repeats),

@@ -4,6 +4,7 @@ use crate::answers::Answers;
 use crate::campaign::write;
 use crate::chance::Chance;
 use crate::counts::Form;
+use crate::letters::letters_of;
 use crate::lines::{Made, Maker};
 use crate::pool::{Units, pool_of};
 use crate::scripts::{Script, texts_of};
@@ -33,9 +34,12 @@ const NARROW: Shape = Shape {
     fault: 100,
     repeat: 50,
     recent: 32,
+    is_soon: false,
     lost: 40,
+    lost_segments: 0,
     pace: 1_801,
     has_centre: false,
+    has_letters: false,
 };
 
 /// Segments of thousands of texts among each other, within a day.
@@ -45,9 +49,12 @@ const CROWD: Shape = Shape {
     fault: 100,
     repeat: 50,
     recent: 10_000,
+    is_soon: false,
     lost: 100,
+    lost_segments: 0,
     pace: 1,
     has_centre: false,
+    has_letters: false,
 };
 
 /// A capture of which one line in ten is at fault.
@@ -57,9 +64,12 @@ const CAPTURE: Shape = Shape {
     fault: 10,
     repeat: 0,
     recent: 0,
+    is_soon: false,
     lost: 0,
+    lost_segments: 0,
     pace: 61,
     has_centre: false,
+    has_letters: false,
 };
 
 /// The same with the addresses of centres, and reports.
@@ -69,9 +79,42 @@ const LISTING: Shape = Shape {
     fault: 10,
     repeat: 0,
     recent: 0,
+    is_soon: false,
     lost: 0,
+    lost_segments: 0,
     pace: 61,
     has_centre: true,
+    has_letters: false,
+};
+
+/// Texts with letters that are escaped, in the order of one joiner's narrow limits.
+const LETTERS: Shape = Shape {
+    flights: 8,
+    origins: 10_000,
+    fault: 100,
+    repeat: 50,
+    recent: 32,
+    is_soon: false,
+    lost: 40,
+    lost_segments: 0,
+    pace: 1_801,
+    has_centre: false,
+    has_letters: true,
+};
+
+/// Months of a gateway, 86,400 lines a week.
+const GATEWAY: Shape = Shape {
+    flights: 1_000,
+    origins: 1_000_000,
+    fault: 100,
+    repeat: 30,
+    recent: 20_000,
+    is_soon: true,
+    lost: 0,
+    lost_segments: 20,
+    pace: 7,
+    has_centre: false,
+    has_letters: false,
 };
 
 /// The seed of the input of a number.
@@ -88,10 +131,18 @@ fn run_on<M: Maker>(alloc: Global, words: &[&str], form: Form, maker: M, answers
     answers.finish(status);
 }
 
+/// The units of the texts of a shape.
+fn pool_for(alloc: Global, shape: Shape, chance: &mut Chance) -> Result<Vec<Units>> {
+    if shape.has_letters {
+        return letters_of(alloc, chance, POOL);
+    }
+    pool_of(alloc, chance, POOL)
+}
+
 /// Traffic of a shape.
 fn traffic(alloc: Global, shape: Shape, seed: u64, count: u64) -> Result<Traffic> {
     let mut chance = Chance::new(seed);
-    let pool: Vec<Units> = pool_of(alloc, &mut chance, POOL)?;
+    let pool = pool_for(alloc, shape, &mut chance)?;
     let mut traffic = Traffic {
         shape,
         chance,
@@ -101,6 +152,7 @@ fn traffic(alloc: Global, shape: Shape, seed: u64, count: u64) -> Result<Traffic
         left: count,
         clock: 1,
         begun: 0,
+        digits: Vec::new(alloc),
     };
     traffic.fill()?;
     Ok(traffic)
@@ -244,6 +296,50 @@ fn texts(alloc: Global, seed: u64, count: u64, answers: &mut Answers) -> Result<
     take_units(alloc, &mut units, count.saturating_mul(2), answers)
 }
 
+/// Shows or joins letters, as objects or as lines.
+fn letters_one(
+    alloc: Global,
+    seed: u64,
+    number: u64,
+    lines: u64,
+    answers: &mut Answers,
+) -> Result<()> {
+    let own = traffic(alloc, LETTERS, seed_of(seed, number), lines)?;
+    let shown = ["sms", "show", "deliver", "--lines", "--json"];
+    let joined = ["sms", "join", "--verbose", "--json"];
+    match number {
+        0 => run_on(alloc, &shown, Form::ShownJson, own, answers),
+        1 => run_on(alloc, &shown[..4], Form::Shown, own, answers),
+        2 => run_on(alloc, &joined, Form::JoinedJson, own, answers),
+        _ => run_on(alloc, &joined[..3], Form::Joined, own, answers),
+    }
+    Ok(())
+}
+
+/// Shows and joins letters, a quarter of the lines in each way.
+fn letters(alloc: Global, seed: u64, count: u64, answers: &mut Answers) -> Result<()> {
+    for number in 0..4 {
+        letters_one(alloc, seed, number, count / 4, answers)?;
+    }
+    Ok(())
+}
+
+/// Joins a gateway's traffic, of which all is told.
+fn gateway(alloc: Global, seed: u64, count: u64, answers: &mut Answers) -> Result<()> {
+    let own = traffic(alloc, GATEWAY, seed_of(seed, 0), count)?;
+    let words = [
+        "sms",
+        "join",
+        "--open",
+        "20000",
+        "--remembered",
+        "65536",
+        "--verbose",
+    ];
+    run_on(alloc, &words, Form::Joined, own, answers);
+    Ok(())
+}
+
 /// Runs a job, and gives its answers.
 pub fn run(alloc: Global, name: &str, seed: u64, count: u64) -> Result<Answers> {
     let mut answers = Answers::new(alloc);
@@ -256,6 +352,8 @@ pub fn run(alloc: Global, name: &str, seed: u64, count: u64) -> Result<Answers> 
         "ways" => ways(alloc, seed, count, told)?,
         "chart" => chart(alloc, seed, count, told)?,
         "texts" => texts(alloc, seed, count, told)?,
+        "letters" => letters(alloc, seed, count, told)?,
+        "gateway" => gateway(alloc, seed, count, told)?,
         _ => bail!("no such job"),
     }
     Ok(answers)

@@ -9,6 +9,7 @@ mod counts;
 mod date;
 mod digest;
 mod jobs;
+mod letters;
 mod lines;
 mod pool;
 mod scripts;
@@ -46,7 +47,9 @@ fn words_of(rt: &HostRuntime) -> Result<Asked> {
 }
 
 /// The jobs that are run one after another where all are asked for.
-static JOBS: [&str; 6] = ["join", "crowd", "show", "ways", "chart", "texts"];
+static JOBS: [&str; 8] = [
+    "join", "crowd", "show", "ways", "chart", "texts", "letters", "gateway",
+];
 
 /// Runs a job, and prints what it answers.
 fn tell(rt: &HostRuntime, name: &str, seed: u64, count: u64) -> Result<()> {

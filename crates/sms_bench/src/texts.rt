@@ -4,7 +4,7 @@ use crate::chance::Chance;
 use std::alloc::{AllocError, Global};
 
 /// Words with letters that are the same in ASCII.
-static PLAIN: [&str; 12] = [
+pub static PLAIN: [&str; 12] = [
     "your", "code", "is", "meet", "me", "at", "the", "station", "tomorrow", "delivery", "of",
     "order",
 ];

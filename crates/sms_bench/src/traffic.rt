@@ -1,7 +1,7 @@
 //! A gateway's traffic: SMS-DELIVERs of many origins, one a line, segments of some texts at a time
 //! among each other.
 
-ghost use Rattle.std.specs.Prelude.{◌≡◌, ◌+◌, ◌%◌};
+ghost use Rattle.std.specs.Prelude.{◌≡◌, ◌+◌, ◌-◌, ◌%◌, ◌≤◌};
 
 use crate::chance::Chance;
 use crate::date::date_of;
@@ -23,13 +23,20 @@ pub struct Shape {
     pub repeat: usize,
     /// Among so many lines such a unit was sent.
     pub recent: usize,
+    /// Whether most of these came shortly before.
+    pub is_soon: bool,
     /// Of so many texts of several segments one lacks a segment; none at 0.
     pub lost: usize,
+    /// Of so many segments one never comes; none at 0.
+    pub lost_segments: usize,
     /// How many seconds the clock goes on before each line.
     pub pace: u64,
     /// Whether the address of a service centre stands before each unit, and other units than
     /// SMS-DELIVER are among them.
     pub has_centre: bool,
+    /// Whether the texts have letters that are escaped, and come from names too, in lines that have
+    /// lower case digits or blanks.
+    pub has_letters: bool,
 }
 
 /// A text of which segments are on their way.
@@ -66,6 +73,8 @@ pub struct Traffic {
     pub clock: u64,
     /// The number of the text begun last.
     pub begun: usize,
+    /// Room for the digits of a line, which is kept.
+    pub digits: Vec<u8>,
 }
 
 /// The last digit of a number.
@@ -117,16 +126,20 @@ fn put_reference(room: &mut [u8], reference: u8) {
     }
 }
 
-/// Puts what is a unit's own: its origin, its stamp, and its reference where it is a segment.
-fn put_own(unit: &mut [u8], flight: Flight, is_segment: bool) {
-    if let Some(room) = unit.get_mut(6..18) {
-        put_origin(room, flight.origin);
+/// Puts what is a unit's own: its origin where that is a number, its stamp, and its reference where
+/// it is a segment of several, behind the stamp, TP-UDL, the header's length, and the identifier and
+/// the length of its first element.
+fn put_own(unit: &mut [u8], flight: Flight, units: &Units) {
+    if !units.is_named {
+        if let Some(room) = unit.get_mut(6..18) {
+            put_origin(room, flight.origin);
+        }
     }
-    if let Some(room) = unit.get_mut(22..36) {
+    if let Some(room) = unit.get_mut(units.stamp..) {
         put_stamp(room, flight.taken);
     }
-    if is_segment {
-        if let Some(room) = unit.get_mut(44..46) {
+    if units.lines.len() > 1 {
+        if let Some(room) = unit.get_mut(units.stamp.saturating_add(22)..) {
             put_reference(room, flight.reference);
         }
     }
@@ -140,6 +153,26 @@ static STATUS_REPORT: &[u8] = b"06070B916407000000F04210100000000042101000000000
 
 /// A report of an accepted submission, of which the stamp stands at 4.
 static ACCEPTED: &[u8] = b"010042101000000000";
+
+/// Among so many of the last units are most that come again shortly after.
+const SOON: usize = 100;
+
+/// Makes the digits that stand from a place on lower case.
+fn lower(room: &mut Vec<u8>, start: usize) {
+    for octet in room.as_mut_slice().get_mut(start..).into_iter().flatten() {
+        *octet = octet.to_ascii_lowercase();
+    }
+}
+
+/// Adds digits with a blank behind each octet.
+fn put_spread(room: &mut Vec<u8>, digits: &[u8]) -> Result<(), AllocError> {
+    let (octets, last) = digits.as_chunks::<2>();
+    for octet in octets {
+        room.extend_from_slice(octet.as_slice())?;
+        room.push(b' ')?;
+    }
+    room.extend_from_slice(last)
+}
 
 /// Puts an octet at a place.
 fn put_octet(room: &mut Vec<u8>, place: usize, octet: u8) {
@@ -161,16 +194,32 @@ impl Traffic {
         self.begun = self.begun.wrapping_add(1);
         let text = self.chance.below(self.pool.len());
         let count = self.count_of(text);
-        let lacks = count > 1 && self.chance.once_in(self.shape.lost);
+        let lost = self.lost_of(count);
         Flight {
             text,
             origin: self.chance.below(self.shape.origins),
             reference: (self.begun % 256) as u8,
             first: self.chance.below(count),
             come: 0,
-            comes: count.saturating_sub(usize::from(lacks)),
+            comes: count.saturating_sub(lost),
             taken: self.clock,
         }
+    }
+
+    /// How many segments of a text of so many never come. One comes always.
+    fn lost_of(&mut self, count: usize) -> usize
+        ensures { result ≤ count - 1 }
+    {
+        if count < 2 {
+            return 0;
+        }
+        let mut lost = usize::from(self.chance.once_in(self.shape.lost));
+        for _ in 0..count {
+            if self.chance.once_in(self.shape.lost_segments) {
+                lost = lost.saturating_add(1);
+            }
+        }
+        lost.min(count - 1)
     }
 
     /// How many segments a text has.
@@ -205,7 +254,7 @@ impl Traffic {
             room.extend_from_slice(line.as_bytes())?;
         }
         if let Some(unit) = room.as_mut_slice().get_mut(start..) {
-            put_own(unit, flight, count > 1);
+            put_own(unit, flight, units);
         }
         Ok(())
     }
@@ -250,10 +299,26 @@ impl Traffic {
         Ok(())
     }
 
+    /// Which of the last units comes again.
+    fn sent_before(&mut self) -> usize {
+        let count = self.sent.len();
+        if !self.shape.is_soon {
+            return self.chance.below(count);
+        }
+        let among = if self.chance.once_in(10) {
+            count
+        } else {
+            count.min(SOON)
+        };
+        count
+            .saturating_sub(1)
+            .saturating_sub(self.chance.below(among))
+    }
+
     /// Adds a unit: the next one of a flight, or one that was sent before.
     fn put_unit(&mut self, room: &mut Vec<u8>, is_spoiled: bool) -> Result<(), AllocError> {
         if self.chance.once_in(self.shape.repeat) {
-            let which = self.chance.below(self.sent.len());
+            let which = self.sent_before();
             if let Some(flight) = self.sent.get(which).copied() {
                 return self.put_segment(flight, room);
             }
@@ -302,6 +367,28 @@ impl Traffic {
             _ => put_octet(room, length, b'9'),
         }
     }
+
+    /// Writes the line that stands from a place on with a blank behind each octet.
+    fn spread(&mut self, room: &mut Vec<u8>, start: usize) -> Result<(), AllocError> {
+        self.digits.clear();
+        self.digits
+            .extend_from_slice(room.get(start..).unwrap_or(&[]))?;
+        room.truncate(start);
+        put_spread(room, self.digits.as_slice())
+    }
+
+    /// Leaves the line that stands from a place on, or writes it with lower case digits, with blanks,
+    /// or with both.
+    fn write_otherwise(&mut self, room: &mut Vec<u8>, start: usize) -> Result<(), AllocError> {
+        let way = self.chance.below(4);
+        if way % 2 == 1 {
+            lower(room, start);
+        }
+        if way >= 2 {
+            self.spread(room, start)?;
+        }
+        Ok(())
+    }
 }
 
 impl Maker for Traffic {
@@ -316,6 +403,9 @@ impl Maker for Traffic {
         self.put_any(room, is_spoiled)?;
         if is_spoiled {
             self.spoil(room, start);
+        }
+        if self.shape.has_letters {
+            self.write_otherwise(room, start)?;
         }
         room.push(b'\n')?;
         Ok(true)
