@@ -6,12 +6,12 @@ room=${BENCH_ROOM:-${TMPDIR:-/tmp}/sms-bench}
 seconds=${1:-2} word=${2:-}
 crates="sms_text sms_field sms_tpdu sms_join"
 
-# the library's crate and copies of those it stands on, with the proofs that earlier checks kept in out/
+# the library's crate and the sources of those it stands on; what is proved of them stays in the room
 mkdir -p "$room/crates/sms_bench/src"
 : > "$room/crates.txt"
 for crate in $crates; do
 	from=$here/../crates/$crate to=$room/crates/$crate
-	[ -d "$to" ] || cp -a "$from" "$to"
+	mkdir -p "$to"
 	for part in src specs proofs; do
 		rm -rf "${to:?}/$part"
 		cp -a "$from/$part" "$to/"
