@@ -116,6 +116,13 @@ if there python3; then
 	echo "== python3"
 	export SMS_LIBRARY="$prefix/lib/libsms.so.1" PYTHONPATH="$here/../python/src"
 	python3 -m unittest discover -q -s "$here/../python/tests"
+	asan=$(gcc -print-file-name=libasan.so 2>/dev/null || true)
+	if [ -f "$asan" ]; then
+		echo "== python3 under the address sanitizer"
+		LD_PRELOAD=$asan ASAN_OPTIONS=detect_leaks=0 python3 -m unittest discover -q -s "$here/../python/tests"
+	else
+		left_out "gcc brings no address sanitizer for python3"
+	fi
 	for example in read write join; do
 		python3 "$here/../python/examples/$example.py" >"$room/told"
 		cmp "$room/told" "$here/examples/$example.out"

@@ -15,8 +15,9 @@
  * and free of the program, and answer SMS_NO_MEMORY where these refuse; what they had taken is free
  * again then (a joiner may keep room that it made), and the call may be made again.
  * Threads. Any number of threads may call at the same time on values of their own. A joiner is one
- * value: one call at a time, from whichever thread, as far as the program orders the calls. Not from a
- * signal handler, nor in the forked child of a process with threads.
+ * value: one call at a time, from whichever thread, as far as the program orders the calls; threads that
+ * share one hold a lock over sms_joiner_offer and the sms_joiner_text that takes its text. Not from a signal
+ * handler, nor in the forked child of a process with threads.
  * Text is UTF-8 and has no NUL at its end; its length is told.
  * Answers of unknown length ("out, room, needed"): where the answer has at most `room` octets they are
  * written to `out` and the call answers SMS_OK; else nothing is written and the call answers
@@ -170,9 +171,9 @@ typedef struct sms_submit {
 
 typedef struct sms_report {
     sms_span data;   /* TP-UD */
-    sms_span header; /* TP-UDH in it, after its length octet; offset 0 where there is none */
+    sms_span header; /* TP-UDH in it, after its length octet; offset 0 where none lies within it */
     size_t used;
-    uint8_t has_header; /* TP-UDHI: the data begin with a header */
+    uint8_t has_header; /* TP-UDHI: a header is announced, which may go beyond the data (header.offset is 0 then) */
     uint8_t has_cause;
     uint8_t cause; /* TP-FCS */
     uint8_t has_stamp;
@@ -189,16 +190,17 @@ typedef struct sms_report {
 typedef struct sms_status_report {
     sms_address recipient; /* TP-RA */
     sms_span data;         /* TP-UD */
-    sms_span header;       /* TP-UDH in it, after its length octet; offset 0 where there is none */
+    sms_span header;       /* TP-UDH in it, after its length octet; offset 0 where none lies within it */
     size_t used;
     uint8_t more;         /* TP-MMS as its meaning: 1 where more messages wait */
     uint8_t looped;       /* TP-LP */
     uint8_t qualifier;    /* TP-SRQ: 1 where it is the result of an SMS-COMMAND, 0 of an SMS-SUBMIT */
-    uint8_t has_header;   /* TP-UDHI: the data begin with a header */
+    uint8_t has_header;   /* TP-UDHI: a header is announced, which may go beyond the data (header.offset is 0 then) */
     uint8_t reference;    /* TP-MR of the submission, or of the command */
     sms_stamp stamp;      /* TP-SCTS: when the centre took the message */
     sms_stamp discharged; /* TP-DT: when it came to its recipient, or when the centre last tried */
-    uint8_t status;       /* TP-ST, the octet as it came: 3GPP TS 23.040, 9.2.3.15 */
+    uint8_t status;       /* TP-ST, the octet as it came: 3GPP TS 23.040, 9.2.3.15. A reserved one (03 to 0F, 26 to
+                           * 2F, 4A to 4F, 66 to 6F, 80 to FF) counts as 63: temporary error, no more attempts */
     uint8_t has_pid;
     uint8_t pid;
     uint8_t has_dcs;
@@ -211,9 +213,9 @@ typedef struct sms_status_report {
 typedef struct sms_command {
     sms_address target; /* TP-DA of the message in question */
     sms_span data;      /* TP-CD; its length is TP-CDL */
-    sms_span header;    /* TP-UDH in it, after its length octet; offset 0 where there is none */
+    sms_span header;    /* TP-UDH in it, after its length octet; offset 0 where none lies within it */
     size_t used;
-    uint8_t has_header; /* TP-UDHI: the data begin with a header */
+    uint8_t has_header; /* TP-UDHI: a header is announced, which may go beyond the data (header.offset is 0 then) */
     uint8_t report;     /* TP-SRR */
     uint8_t reference;  /* TP-MR of the command */
     uint8_t pid;
@@ -345,8 +347,9 @@ sms_status sms_deliver_write(const sms_deliver_fields *fields, const uint8_t *or
                              uint8_t *out, size_t room, size_t *needed, size_t *segments);
 
 /* The user data of all segments, each from its TP-UDL on, one after another, and where each lies in
- * out. *dcs is the TP-DCS of all. Where there is too little room for the octets or for the spans, the
- * call answers SMS_NO_ROOM and writes neither; *needed and *segments tell how much is wanted. */
+ * out. *segments is how many there are, and *dcs the TP-DCS of all. Where there is too little room for
+ * the octets or for the spans, the call answers SMS_NO_ROOM and writes neither, but *segments and *dcs,
+ * and *needed: so much is wanted. Also SMS_NOT_UTF8, SMS_TOO_LONG, SMS_OUT_OF_RANGE, SMS_NO_MEMORY. */
 sms_status sms_split(const sms_reference *reference, const uint8_t *text, size_t text_count,
                      uint8_t *out, size_t room, size_t *needed,
                      sms_span *spans, size_t span_count, size_t *segments, uint8_t *dcs);
@@ -363,19 +366,22 @@ typedef struct sms_joiner {
 enum { SMS_REPEAT = 0, SMS_KEPT = 1, SMS_FINISHED = 2 };
 
 /* Opens it for at most so many messages at a time that are not whole, and so many finished ones that
- * are remembered, so that none finishes twice; both from 1 (SMS_OUT_OF_RANGE). An open one is closed
- * first. SMS_NO_MEMORY: it is closed. */
+ * are remembered, so that none finishes twice: they are forgotten by number, never by time. Both are
+ * from 1 on. SMS_OUT_OF_RANGE: one is 0, and the joiner is as it was. Else an open one is closed first.
+ * SMS_NO_MEMORY: it is closed. */
 sms_status sms_joiner_open(sms_joiner *joiner, size_t open_max, size_t remembered);
 /* Frees what it holds. On a closed one it does nothing. */
 void sms_joiner_close(sms_joiner *joiner);
-/* Offers an SMS-DELIVER that came at a moment. SMS_OK: *outcome is SMS_REPEAT (it was there or finished
- * lately), SMS_KEPT or SMS_FINISHED. SMS_REFUSED: as sms_deliver_read. SMS_TOO_MANY_OPEN, SMS_NO_MEMORY:
- * the joiner is as it was, and the same unit may be offered again. SMS_NOT_THERE: no text. SMS_CLOSED. */
+/* Offers an SMS-DELIVER that came at a moment. SMS_OK: *outcome is SMS_REPEAT (it is there, or its message
+ * is a finished one that is remembered), SMS_KEPT or SMS_FINISHED. After another status the joiner is as it
+ * was. SMS_REFUSED: as sms_deliver_read. SMS_NOT_THERE: the user data are no text (8-bit, compressed).
+ * SMS_TOO_MANY_OPEN, SMS_NO_MEMORY: the same unit may be offered again. SMS_CLOSED. */
 sms_status sms_joiner_offer(sms_joiner *joiner, uint64_t seconds, const uint8_t *octets, size_t count,
                             uint32_t *outcome, sms_refused *refused);
 /* The text that finished last, as often as one asks; empty before one did. */
 sms_status sms_joiner_text(sms_joiner *joiner, uint8_t *out, size_t room, size_t *needed);
-/* Whether an SMS-DELIVER would finish its message: *finishes is 0 or 1; nothing changes. */
+/* Whether an SMS-DELIVER would finish its message: *finishes is 0 or 1; nothing changes. What
+ * sms_joiner_offer answers with SMS_NOT_THERE is answered so. Also SMS_REFUSED, SMS_CLOSED. */
 sms_status sms_joiner_would_finish(sms_joiner *joiner, const uint8_t *octets, size_t count,
                                    uint8_t *finishes, sms_refused *refused);
 /* Drops the messages whose first segment came 604,800 seconds before the moment, or earlier. */

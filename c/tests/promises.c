@@ -390,6 +390,73 @@ static void joins(void)
     CHECK(joiner.open == 0);
 }
 
+/* a limit that is 0 is told before an open joiner is closed, which goes on with what it holds */
+static void limits(void)
+{
+    static const sms_deliver_fields fields = {{8, 42}, 0, 0, 0, 0, 0, {{0x99, 0x30, 0x92, 0x51, 0x61, 0x95, 0x80}}};
+    uint8_t text[200], units[2][SMS_UNIT_MAX], out[SMS_TEXT_MAX];
+    size_t sizes[2], needed, segments;
+    sms_joiner joiner = SMS_JOINER_CLOSED;
+    sms_refused refused;
+    uint32_t outcome;
+    memset(text, 'a', sizeof text);
+    for (size_t i = 0; i < 2; i++)
+        CHECK(sms_deliver_write(&fields, (const uint8_t *)"12345", 5, text, sizeof text, i, units[i], SMS_UNIT_MAX, &sizes[i],
+                                &segments) == SMS_OK);
+    CHECK(sms_joiner_open(&joiner, 1, 0) == SMS_OUT_OF_RANGE && sms_joiner_age(&joiner, 0) == SMS_CLOSED);
+    CHECK(sms_joiner_open(&joiner, 1, 8) == SMS_OK);
+    CHECK(sms_joiner_offer(&joiner, 5, units[1], sizes[1], &outcome, &refused) == SMS_OK && outcome == SMS_KEPT);
+    CHECK(sms_joiner_open(&joiner, 0, 8) == SMS_OUT_OF_RANGE);
+    CHECK(sms_joiner_open(&joiner, 1, 0) == SMS_OUT_OF_RANGE);
+    CHECK(sms_joiner_open(&joiner, 0, 0) == SMS_OUT_OF_RANGE);
+    CHECK(sms_joiner_offer(&joiner, 5, units[1], sizes[1], &outcome, &refused) == SMS_OK && outcome == SMS_REPEAT);
+    CHECK(sms_joiner_offer(&joiner, 5, units[0], sizes[0], &outcome, &refused) == SMS_OK && outcome == SMS_FINISHED);
+    CHECK(sms_joiner_text(&joiner, out, sizeof out, &needed) == SMS_OK && needed == sizeof text);
+    CHECK(sms_joiner_open(&joiner, 1, SIZE_MAX) == SMS_NO_MEMORY && sms_joiner_age(&joiner, 0) == SMS_CLOSED);
+}
+
+/* a text that is not cut leaves how many segments there are, and their TP-DCS, as they were */
+static void uncut(void)
+{
+    static uint8_t text[153 * 255 + 1];
+    sms_reference reference = {8, 42}, wide = {9, 42};
+    sms_span span;
+    size_t needed, segments = 77;
+    uint8_t out[1], dcs = 77;
+    CHECK(sms_split(&reference, (const uint8_t *)"\xff", 1, out, 1, &needed, &span, 1, &segments, &dcs) == SMS_NOT_UTF8);
+    CHECK(segments == 77 && dcs == 77 && needed == 0);
+    CHECK(sms_split(&wide, (const uint8_t *)"a", 1, out, 1, &needed, &span, 1, &segments, &dcs) == SMS_OUT_OF_RANGE);
+    CHECK(segments == 77 && dcs == 77 && needed == 0);
+    memset(text, 'a', sizeof text);
+    CHECK(sms_split(&reference, text, sizeof text, out, 1, &needed, &span, 1, &segments, &dcs) == SMS_TOO_LONG);
+    CHECK(segments == 77 && dcs == 77 && needed == 0);
+    CHECK(sms_split(&reference, text, sizeof text - 1, out, 1, &needed, &span, 1, &segments, &dcs) == SMS_NO_ROOM);
+    CHECK(segments == 255 && dcs == 0 && needed == 255 * 141);
+}
+
+/* data that are no text (8-bit, compressed) finish nothing: both calls say so */
+static void no_text(void)
+{
+    size_t count;
+    uint8_t *octets = block("040BC87238880900F100049930925161958003AABBCC", &count);
+    static const uint8_t schemes[] = {0x04, 0x20, 0xF4};
+    sms_joiner joiner = SMS_JOINER_CLOSED;
+    sms_refused refused;
+    uint32_t outcome = 99;
+    uint8_t finishes = 99;
+    CHECK(sms_joiner_open(&joiner, 1, 8) == SMS_OK);
+    for (size_t i = 0; i < sizeof schemes; i++) {
+        octets[10] = schemes[i];
+        CHECK(sms_joiner_would_finish(&joiner, octets, count, &finishes, &refused) == SMS_NOT_THERE && finishes == 99);
+        CHECK(sms_joiner_offer(&joiner, 5, octets, count, &outcome, &refused) == SMS_NOT_THERE && outcome == 99);
+    }
+    octets[10] = 0x00; /* three septets, in 21 bits */
+    CHECK(sms_joiner_would_finish(&joiner, octets, count, &finishes, &refused) == SMS_OK && finishes == 1);
+    CHECK(sms_joiner_offer(&joiner, 5, octets, count, &outcome, &refused) == SMS_OK && outcome == SMS_FINISHED);
+    sms_joiner_close(&joiner);
+    free(octets);
+}
+
 typedef sms_status (*reader)(const uint8_t *, size_t, sms_refused *);
 static sms_status deliver(const uint8_t *octets, size_t count, sms_refused *refused)
 {
@@ -559,6 +626,9 @@ int main(int argc, char **argv)
     status_reports();
     commands();
     joins();
+    limits();
+    uncut();
+    no_text();
     cuts();
     rubbish(argc > 1 ? (unsigned)strtoul(argv[1], NULL, 10) : 200000);
     printf("%d failures\n", failures);

@@ -1,5 +1,8 @@
 """What the package promises: python3 -m unittest discover -s python/tests, with SMS_LIBRARY and PYTHONPATH=python/src."""
 
+import copy
+import itertools
+import pickle
 import threading
 import unittest
 from datetime import datetime, timedelta, timezone
@@ -10,6 +13,15 @@ HELLO = bytes.fromhex("040BC87238880900F10000993092516195800AE8329BFD4697D9EC37"
 STAMP = sms.Stamp(bytes.fromhex("99309251619580"))
 LONG = "".join(chr(ord("a") + i % 26) for i in range(200))
 NOW = datetime(2024, 2, 29, 12, 0, tzinfo=timezone.utc)
+
+
+def together(call):
+    """Eight threads at the same time, each with its number."""
+    threads = [threading.Thread(target=call, args=(number,)) for number in range(8)]
+    for it in threads:
+        it.start()
+    for it in threads:
+        it.join()
 
 
 class Readers(unittest.TestCase):
@@ -158,12 +170,67 @@ class Joins(unittest.TestCase):
                 told.append([joiner.offer(it, NOW) for it in sms.Deliver.write("1", text, STAMP)][-1] == text)
 
         told = []
-        threads = [threading.Thread(target=join, args=(number,)) for number in range(8)]
-        for it in threads:
-            it.start()
-        for it in threads:
-            it.join()
+        together(join)
         self.assertEqual(told, [True] * 8)
+
+    def test_threads_share_a_joiner(self):
+        texts = [[f"{thread}, {number}: {LONG}{LONG}" for number in range(200)] for thread in range(8)]
+        units = [
+            [sms.Deliver.write(f"1{thread}", text, STAMP, reference=number) for number, text in enumerate(own)]
+            for thread, own in enumerate(texts)
+        ]
+        told = [[] for _ in texts]
+        start = threading.Barrier(8)
+
+        def offer(thread):
+            start.wait()
+            for unit in itertools.chain.from_iterable(units[thread]):
+                finishes = joiner.would_finish(unit)
+                told[thread].append((finishes, joiner.offer(unit, NOW)))
+                joiner.age(NOW)
+
+        with sms.Joiner() as joiner:
+            together(offer)
+        for thread, own in enumerate(texts):
+            wanted = [[(False, None), (False, None), (True, text)] for text in own]
+            self.assertEqual(told[thread], list(itertools.chain.from_iterable(wanted)))
+
+    def test_closed_while_threads_offer(self):
+        first = sms.Deliver.write("12345", LONG, STAMP)[0]
+        joiner, ended = sms.Joiner(), []
+        start = threading.Barrier(8)
+
+        def offer(thread):
+            start.wait()
+            if thread == 0:
+                joiner.close()
+            try:
+                while joiner.offer(first, NOW) is None:
+                    pass
+            except sms.Closed:
+                ended.append(thread)
+
+        together(offer)
+        self.assertEqual(sorted(ended), list(range(8)))
+
+    def test_no_copy(self):
+        first, second = sms.Deliver.write("12345", LONG, STAMP)
+        with sms.Joiner() as joiner:
+            joiner.offer(first, NOW)
+            for copied in (copy.copy, copy.deepcopy, pickle.dumps):
+                with self.subTest(call=copied.__name__), self.assertRaises(TypeError):
+                    copied(joiner)
+            self.assertEqual(joiner.offer(second, NOW), LONG)
+
+    def test_no_text(self):
+        with sms.Joiner() as joiner:
+            for scheme in (0x04, 0x20, 0xF4):
+                unit = HELLO[:10] + bytes([scheme]) + HELLO[11:18] + bytes.fromhex("03AABBCC")
+                with self.subTest(scheme=scheme):
+                    with self.assertRaises(sms.NotThere):
+                        joiner.would_finish(unit)
+                    with self.assertRaises(sms.NotThere):
+                        joiner.offer(unit, NOW)
 
 
 if __name__ == "__main__":

@@ -635,7 +635,7 @@ impl SubmitFields {
 /// SMS-DELIVER-REPORT or SMS-SUBMIT-REPORT (3GPP TS 23.040, 9.2.2.1a and 9.2.2.2a).
 #[derive(Clone, Debug, PartialEq, Eq)]
 pub struct Report {
-    /// TP-UDHI: the data begin with a header.
+    /// TP-UDHI: a header is announced, which may go beyond the data (`header` is none then).
     pub has_header: bool,
     /// TP-FCS.
     pub cause: Option<u8>,
@@ -708,7 +708,7 @@ pub struct StatusReport {
     pub looped: bool,
     /// TP-SRQ: it is the result of an SMS-COMMAND, and not of an SMS-SUBMIT.
     pub qualifier: bool,
-    /// TP-UDHI: the data begin with a header.
+    /// TP-UDHI: a header is announced, which may go beyond the data (`header` is none then).
     pub has_header: bool,
     /// TP-MR of the submission, or of the command.
     pub reference: u8,
@@ -720,7 +720,8 @@ pub struct StatusReport {
     pub stamp: Stamp,
     /// TP-DT: when it came to its recipient, or when the centre last tried.
     pub discharged: Stamp,
-    /// TP-ST, the octet as it came (9.2.3.15).
+    /// TP-ST, the octet as it came (9.2.3.15). A reserved one (03 to 0F, 26 to 2F, 4A to 4F, 66 to 6F, 80 to FF) counts
+    /// as 63: temporary error, no more attempts.
     pub status: u8,
     pub pid: Option<u8>,
     pub dcs: Option<u8>,
@@ -766,7 +767,7 @@ impl StatusReport {
 /// SMS-COMMAND: what a phone asks of a centre about a message that it has submitted (3GPP TS 23.040, 9.2.2.4).
 #[derive(Clone, Debug, PartialEq, Eq)]
 pub struct Command {
-    /// TP-UDHI: the data begin with a header.
+    /// TP-UDHI: a header is announced, which may go beyond the data (`header` is none then).
     pub has_header: bool,
     /// TP-SRR.
     pub report: bool,
@@ -971,7 +972,7 @@ pub fn split(reference: Reference, text: &str) -> Result<(Vec<Vec<u8>>, u8), Err
 /// What becomes of a segment that is offered.
 #[derive(Clone, Debug, PartialEq, Eq)]
 pub enum Offer {
-    /// It was there already, or finished lately.
+    /// It is there already, or its message is a finished one that is remembered.
     Repeat,
     /// Others are missing.
     Kept,
@@ -980,6 +981,9 @@ pub enum Offer {
 }
 
 /// Joins segments, whichever way they come, to texts, each once.
+///
+/// It may go from thread to thread (`Send`), takes one call at a time (`&mut`), and is neither shared (`Sync`) nor
+/// copied: threads that offer to one joiner have it in a `Mutex`.
 #[derive(Debug)]
 pub struct Joiner(raw::Joiner);
 
@@ -988,7 +992,7 @@ unsafe impl Send for Joiner {}
 
 impl Joiner {
     /// A joiner for at most so many messages at a time that are not whole, and so many finished ones that are
-    /// remembered, so that none finishes twice; both from 1.
+    /// remembered, so that none finishes twice: they are forgotten by number, never by time. Both are from 1 on.
     pub fn open(open_max: usize, remembered: usize) -> Result<Joiner, Error> {
         let mut joiner = raw::Joiner::CLOSED;
         // SAFETY: it is ours, and closed.
@@ -998,7 +1002,8 @@ impl Joiner {
         }
     }
 
-    /// Offers an SMS-DELIVER that came at a moment, in seconds from the beginning of 2000.
+    /// Offers an SMS-DELIVER that came at a moment, in seconds from the beginning of 2000; `NotThere` where its user
+    /// data are no text (8-bit, compressed).
     pub fn offer(&mut self, seconds: u64, octets: &[u8]) -> Result<Offer, Error> {
         let (mut outcome, mut refused) = (0, raw::Refused::default());
         // SAFETY: the octets are as many as counted, and the rest is ours.
@@ -1022,7 +1027,7 @@ impl Joiner {
         Ok(text_of(text))
     }
 
-    /// Whether an SMS-DELIVER would finish its message; nothing changes.
+    /// Whether an SMS-DELIVER would finish its message; nothing changes. `NotThere` where `offer` answers so.
     pub fn would_finish(&mut self, octets: &[u8]) -> Result<bool, Error> {
         let (mut finishes, mut refused) = (0, raw::Refused::default());
         // SAFETY: the octets are as many as counted, and the rest is ours.

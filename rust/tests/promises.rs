@@ -4,6 +4,7 @@ use sms::{
     Alphabet, Command, Cp, CpBody, Deliver, DeliverFields, Envelope, Error, Joiner, Offer, Place, Reason, Reference, Refused,
     Report, Rp, RpBody, Stamp, StatusReport, Submit, SubmitFields, Validity,
 };
+use std::sync::Mutex;
 
 const HELLO: [u8; 28] = [
     0x04, 0x0B, 0xC8, 0x72, 0x38, 0x88, 0x09, 0x00, 0xF1, 0x00, 0x00, 0x99, 0x30, 0x92, 0x51, 0x61, 0x95, 0x80, 0x0A, 0xE8,
@@ -154,4 +155,33 @@ fn goes_to_another_thread() {
     let (second, _) = Deliver::write(&fields, "1", &long(), 1).unwrap();
     let told = std::thread::spawn(move || joiner.offer(0, &second)).join().unwrap();
     assert_eq!(told, Ok(Offer::Finished(long())));
+}
+
+#[test]
+fn is_shared_in_a_mutex() {
+    let joiner = Mutex::new(Joiner::open(8, 64).unwrap());
+    std::thread::scope(|scope| {
+        for thread in 0..8 {
+            let joiner = &joiner;
+            scope.spawn(move || {
+                let text = format!("{thread}: {}", long());
+                let fields = DeliverFields::new(Reference::Eight(thread), STAMP);
+                let told = [0, 1].map(|index| {
+                    let (unit, _) = Deliver::write(&fields, "1", &text, index).unwrap();
+                    joiner.lock().unwrap().offer(0, &unit)
+                });
+                assert_eq!(told, [Ok(Offer::Kept), Ok(Offer::Finished(text))]);
+            });
+        }
+    });
+}
+
+#[test]
+fn data_without_a_text_finish_nothing() {
+    let mut joiner = Joiner::open(1, 1).unwrap();
+    for scheme in [0x04, 0x20, 0xF4] {
+        let unit = [&HELLO[..10], &[scheme], &HELLO[11..18], &[0x03, 0xAA, 0xBB, 0xCC]].concat();
+        assert_eq!(joiner.would_finish(&unit), Err(Error::NotThere));
+        assert_eq!(joiner.offer(0, &unit), Err(Error::NotThere));
+    }
 }

@@ -1,5 +1,5 @@
 -- What a joiner of C makes of an SMS-DELIVER.
-use Rattle.std.specs.Prelude.{◌≡◌, ℕ, List, Option, Some, Result, Ok, Err}
+use Rattle.std.specs.Prelude.{◌≡◌, ℕ, Bool, true, false, List, Option, Some, is_some, Result, Ok, Err}
 use Rattle.std.specs.String.{string_bytes}
 use Rattle.sms_field.specs.Reading.{Reads}
 use Rattle.sms_field.specs.Reading.WholeAnswer.{IsFaultOf}
@@ -71,12 +71,28 @@ RefusesUnit status octets refused =
     status ≡ 1 → (fault : Fault UnitFault)
     × IsFaultOf deliver Short octets fault × (refused ≡ unit_refused fault)
 
--- it is read, and its piece would finish its message, or would not, whenever it came and whatever
--- its units are
+-- the user data are a text: septets of the default alphabet, or UCS-2 (3GPP TS 23.038, 4)
+abbrev pub has_text : Delivery → Bool
+has_text value = is_some (units_of_body (alphabet_at value.dcs) value.user.body)
+
+-- an SMS-DELIVER is read, and its user data are no text
+pub record HasNoText (octets : List ℕ) : Type 0 where
+  pub value : Delivery
+  pub used : ℕ
+  pub read : Reads deliver value octets used
+  pub none : has_text value ≡ false
+
+-- under status 8 it is read, and has no text
+abbrev pub LacksText : ℕ → List ℕ → Type 0
+LacksText status octets = status ≡ 8 → HasNoText octets
+
+-- it is read and has a text, and its piece would finish its message, or would not, whenever it came
+-- and whatever its units are
 pub record WouldFinish (inside : Inside) (octets : List ℕ) (answer : ℕ) : Type 0 where
   pub value : Delivery
   pub used : ℕ
   pub read : Reads deliver value octets used
+  pub text : has_text value ≡ true
   pub origin : AddressValue
   pub origin_is : origin ≡ value.origin
   pub stamp : List ℕ

@@ -1,20 +1,21 @@
 //! A joiner that C keeps.
 
-ghost use Rattle.std.specs.Prelude.{◌≡◌, ◌≤◌, ◌<◌, ℕ, length, Some, None, MatchOption, IfSome, IfOk, IfErr, OnErr};
+ghost use Rattle.std.specs.Prelude.{◌≡◌, ◌≤◌, ◌<◌, ◌⊎◌, ◌↔◌, ℕ, length, true, false, is_some, Some, None, Err, IsSome, MatchOption, MatchResult, IfSome, IfOk, IfErr, OnErr};
 ghost use Rattle.std.specs.String.{string_bytes};
 ghost use Rattle.sms_field.specs.Reading.{Reads};
-ghost use Rattle.sms_tpdu.specs.Deliver.{deliver};
+ghost use Rattle.sms_tpdu.specs.Deliver.{Delivery, deliver};
+ghost use Rattle.sms_tpdu.specs.UserData.BodySeen.{seen_body};
 ghost use Rattle.sms_field.specs.Coding.{alphabet_at};
 ghost use Rattle.sms_join.specs.BodyUnits.{units_of_body};
 ghost use Rattle.sms_join.specs.Joiner.Aging.{aged};
 ghost use Rattle.sms_join.specs.Joiner.{new_joiner};
 ghost use Rattle.sms_join.specs.Joiner.Value.{SameLimits};
 ghost use Rattle.sms_join.specs.Joiner.Same.{IsSame};
-ghost use Rattle.sms_c.specs.Offers.{Offers, OnOkIs, RefusesUnit, WouldFinish};
+ghost use Rattle.sms_c.specs.Offers.{has_text, HasNoText, LacksText, Offers, OnOkIs, RefusesUnit, WouldFinish};
 ghost use Rattle.sms_c.specs.HandedOut.{ArePut, LackRoom};
 ghost use Rattle.sms_c.specs.Kept.{count};
 ghost use Rattle.sms_c.specs.Status as numbers;
-ghost use Rattle.sms_c.specs.declared.status.Failure.TheVariants.{Refused as TheRefused};
+ghost use Rattle.sms_c.specs.declared.status.Failure.TheVariants.{Refused as TheRefused, Memory, NotThere};
 
 pub mod inside;
 pub mod kept;
@@ -26,9 +27,9 @@ use crate::joiner::parts::Parts;
 use crate::out::hand_out;
 use crate::parts::bit;
 use crate::status::{Failure, OK, Refused, status_of, unit_refused};
-use sms_field::alphabet_of;
+use sms_field::{Alphabet, alphabet_of};
 use sms_join::{Joiner, Offer, OfferFault, Units};
-use sms_tpdu::DeliverView;
+use sms_tpdu::{BodyView, DeliverView};
 use std::alloc::Global;
 use std::mem;
 
@@ -74,18 +75,18 @@ impl Handle {
 
 /// A box with a joiner that holds nothing.
 fn opened(alloc: Global, open_max: usize, remembered: usize) -> Result<Box<Inside, Global>, Failure>
-    ensures { IfOk result (λ inside. inside.value.joiner
+    requires sets { 0 < open_max }
+    requires keys { 0 < remembered }
+    ensures holds { IfOk result (λ inside. inside.value.joiner
         ≡ record { open_max = open_max; remembered = remembered; holds = new_joiner }) }
+    ensures memory { IfErr result (λ why. why ≡ Memory) }
 {
-    if open_max == 0 || remembered == 0 {
-        return Err(Failure::OutOfRange);
-    }
     let joiner = Joiner::new(alloc, open_max, remembered)?;
     let text = String::new(alloc);
     Ok(Box::new(alloc, Inside { joiner, text })?)
 }
 
-/// Opens a joiner, which is closed first.
+/// Opens a joiner, which is closed first, unless a limit is 0: then it is as it was.
 #[unsafe(no_mangle)]
 pub extern "C" fn sms_joiner_open(
     alloc: Global,
@@ -93,10 +94,16 @@ pub extern "C" fn sms_joiner_open(
     open_max: usize,
     remembered: usize,
 ) -> u32
+    ensures range { (result ≡ 7) ↔ ((open_max ≡ 0) ⊎ (remembered ≡ 0)) }
+    ensures same { result ≡ 7 → handle.new ≡ handle.old }
+    ensures closed { (result ≡ 0 → ⊥) → (result ≡ 7 → ⊥) → handle.new.kept.held ≡ None }
     ensures held { result ≡ 0 → count handle.new.kept.held ≡ 1 }
     ensures holds { result ≡ 0 → IfSome handle.new.kept.held (λ inside. inside.joiner
         ≡ record { open_max = open_max; remembered = remembered; holds = new_joiner }) }
 {
+    if open_max == 0 || remembered == 0 {
+        return Failure::OutOfRange.status();
+    }
     let old = mem::replace(handle, Handle::closed(alloc)).into_box();
     drop(old);
     match opened(alloc, open_max, remembered) {
@@ -120,6 +127,8 @@ pub extern "C" fn sms_joiner_close(alloc: Global, handle: &mut Handle)
 /// An SMS-DELIVER.
 fn delivered<'a>(octets: &'a [u8], refused: &mut Refused) -> Result<DeliverView<'a>, Failure>
     ensures read { IfOk result (λ view. (used : ℕ) × Reads deliver view octets.now used) }
+    ensures exact { (value : Delivery) (used : ℕ) → Reads deliver value octets.now used
+        → MatchResult result (λ view. view ≡ value) (λ _. ⊥) }
     ensures refused { IfErr result (λ why. (why ≡ TheRefused)
         × RefusesUnit 1 octets.now refused.new) }
 {
@@ -132,11 +141,24 @@ fn delivered<'a>(octets: &'a [u8], refused: &mut Refused) -> Result<DeliverView<
     }
 }
 
+/// Whether the body of user data is a text.
+fn is_text(alphabet: Alphabet, body: &BodyView) -> bool
+    ensures { result ≡ is_some (units_of_body alphabet (seen_body body.now)) }
+{
+    match (alphabet, body) {
+        (Alphabet::Gsm7, BodyView::Septets(_)) => true,
+        (Alphabet::Ucs2, BodyView::Octets(_)) => true,
+        _ => false,
+    }
+}
+
 /// The units of an SMS-DELIVER, where it has a text.
 fn units_of(alloc: Global, view: &DeliverView) -> Result<Units, Failure>
     ensures units { IfOk result (λ units.
         units_of_body (alphabet_at view.now.dcs) view.now.user.body ≡ Some units) }
     ensures read { IfErr result (λ why. numbers.status_of why ≡ 1 → ⊥) }
+    ensures no_text { IfErr result (λ why. numbers.status_of why ≡ 8
+        → has_text view.now ≡ false) }
 {
     let alphabet = alphabet_of(view.dcs);
     match Units::of_body_view(alloc, alphabet, &view.user.body())? {
@@ -156,6 +178,7 @@ fn offered(
     ensures same { OnErr result (inside.new ≡ inside.old) }
     ensures refused { IfErr result (λ why. RefusesUnit (numbers.status_of why) octets.now
         refused.new) }
+    ensures no_text { IfErr result (λ why. LacksText (numbers.status_of why) octets.now) }
     ensures offers { OnOkIs result (Offers inside.old inside.new seconds octets.now) }
 {
     let view = delivered(octets, refused)?;
@@ -192,6 +215,7 @@ pub extern "C" fn sms_joiner_offer(
     ensures same { (result ≡ 0 → ⊥) → handle.new.kept.held ≡ handle.old.kept.held }
     ensures outcome { (result ≡ 0 → ⊥) → outcome.new ≡ outcome.old }
     ensures refused { RefusesUnit result octets.now refused.new }
+    ensures no_text { LacksText result octets.now }
     ensures offers { result ≡ 0 → IfSome handle.old.kept.held (λ before.
         IfSome handle.new.kept.held (λ after.
         Offers before after seconds octets.now outcome.new)) }
@@ -237,7 +261,7 @@ pub extern "C" fn sms_joiner_text(
     status_of(answer)
 }
 
-/// Whether an SMS-DELIVER would finish its message: 1, or 0.
+/// Whether an SMS-DELIVER with a text would finish its message: 1, or 0.
 fn finishes(
     alloc: Global,
     inside: &Inside,
@@ -246,9 +270,14 @@ fn finishes(
 ) -> Result<u8, Failure>
     ensures refused { IfErr result (λ why. RefusesUnit (numbers.status_of why) octets.now
         refused.new) }
+    ensures no_text { IfErr result (λ why. LacksText (numbers.status_of why) octets.now) }
+    ensures not_there { HasNoText octets.now → result ≡ Err NotThere }
     ensures finishes { OnOkIs result (WouldFinish inside.now octets.now) }
 {
     let view = delivered(octets, refused)?;
+    if !is_text(alphabet_of(view.dcs), &view.user.body()) {
+        return Err(Failure::NotThere);
+    }
     let origin = view.origin.to_value(alloc)?;
     let place = view.user.concat();
     Ok(bit(inside.joiner.would_finish(&origin, view.stamp, place)))
@@ -267,6 +296,8 @@ pub extern "C" fn sms_joiner_would_finish(
     ensures same { handle.new.kept.held ≡ handle.old.kept.held }
     ensures none { (result ≡ 0 → ⊥) → answer.new ≡ answer.old }
     ensures refused { RefusesUnit result octets.now refused.new }
+    ensures no_text { LacksText result octets.now }
+    ensures not_there { IsSome handle.old.kept.held → HasNoText octets.now → result ≡ 8 }
     ensures finishes { result ≡ 0 → IfSome handle.old.kept.held (λ inside.
         WouldFinish inside octets.now answer.new) }
 {

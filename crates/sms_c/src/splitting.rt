@@ -91,12 +91,14 @@ fn put_split(
         (OneLacksRoom out.old out.new needed.new spans.old spans.new) }
     ensures none { OnErr result ((out.new ≡ out.old) × (spans.new ≡ spans.old)) }
     ensures needed { IfErr result (λ why. IsNotRoom why → needed.new ≡ needed.old) }
+    ensures told { IfErr result (λ why. IsNotRoom why
+        → (count.new ≡ count.old) × (dcs.new ≡ dcs.old)) }
 {
     let width = width_of(reference)?;
     let segments = segments_of(alloc, text, width)?;
+    let (octets, told) = users_of(alloc, &segments, width, reference.reference)?;
     *count = segments.len();
     *dcs = coding_scheme(&segments);
-    let (octets, told) = users_of(alloc, &segments, width, reference.reference)?;
     hand_out_both(&octets, &told, out, needed, spans)
 }
 
@@ -118,9 +120,9 @@ pub extern "C" fn sms_split(
         (OneLacksRoom out.old out.new needed.new spans.old spans.new) }
     ensures none { (result ≡ 0 → ⊥) → (out.new ≡ out.old) × (spans.new ≡ spans.old) }
     ensures needed { (result ≡ 0 → ⊥) → (result ≡ 3 → ⊥) → needed.new ≡ 0 }
+    ensures told { (result ≡ 0 → ⊥) → (result ≡ 3 → ⊥)
+        → (count.new ≡ count.old) × (dcs.new ≡ dcs.old) }
 {
     *needed = 0;
-    *count = 0;
-    *dcs = 0;
     status_of(put_split(alloc, *reference, text, out, needed, spans, count, dcs))
 }

@@ -17,10 +17,11 @@ reason. Octets are `bytes`, text is `str`, and moments are aware `datetime` valu
 from __future__ import annotations
 
 import enum
+import threading
 from ctypes import byref, c_size_t, c_uint8, c_uint32, c_uint64
 from dataclasses import dataclass, field
 from datetime import datetime, timedelta, timezone
-from typing import Any, Callable, List, Optional, Union
+from typing import Any, Callable, List, NoReturn, Optional, Union
 
 from . import raw
 
@@ -193,6 +194,10 @@ def _seconds(moment: datetime) -> int:
     if seconds < 0:
         raise OutOfRange("a moment does not lie before 2000")
     return seconds
+
+
+def _seconds_or_now(moment: Optional[datetime]) -> int:
+    return _seconds(moment or datetime.now(timezone.utc))
 
 
 # ---- parts
@@ -480,8 +485,8 @@ def _octet(value: int) -> int:
 
 @dataclass(frozen=True)
 class Report:
-    """SMS-DELIVER-REPORT or SMS-SUBMIT-REPORT (3GPP TS 23.040, 9.2.2.1a and 9.2.2.2a). `header` is TP-UDH in `data`,
-    after its length octet, where TP-UDHI is set and it lies within."""
+    """SMS-DELIVER-REPORT or SMS-SUBMIT-REPORT (3GPP TS 23.040, 9.2.2.1a and 9.2.2.2a). `has_header` is TP-UDHI, which
+    announces a header; `header` is TP-UDH in `data`, after its length octet, and None where it goes beyond them."""
 
     used: int
     has_header: bool
@@ -543,7 +548,9 @@ class SubmitReport:
 @dataclass(frozen=True)
 class StatusReport:
     """SMS-STATUS-REPORT: how it stands with a message that a phone has submitted (3GPP TS 23.040, 9.2.2.3). `status` is
-    the octet TP-ST (9.2.3.15), `discharged` is TP-DT, and `qualifier` says that it is the result of an SMS-COMMAND."""
+    the octet TP-ST as it came (9.2.3.15), of which a reserved one (03 to 0F, 26 to 2F, 4A to 4F, 66 to 6F, 80 to FF)
+    counts as 63: temporary error, no more attempts. `discharged` is TP-DT, `qualifier` says that it is the result of an
+    SMS-COMMAND, and `has_header` and `header` are as in a `Report`."""
 
     used: int
     more: bool
@@ -595,7 +602,8 @@ class StatusReport:
 @dataclass(frozen=True)
 class Command:
     """SMS-COMMAND: what a phone asks of a centre about a message that it has submitted (3GPP TS 23.040, 9.2.2.4). `kind`
-    is the octet TP-CT (9.2.3.19), `message` is TP-MN, and `data` is TP-CD."""
+    is the octet TP-CT (9.2.3.19), `message` is TP-MN, `data` is TP-CD, and `has_header` and `header` are as in a
+    `Report`."""
 
     used: int
     has_header: bool
@@ -753,50 +761,69 @@ class Joiner:
     """Joins segments, whichever way they come, to texts, each once.
 
     At most `open_max` messages at a time are not whole, and so many finished ones are remembered, so that none finishes
-    twice. One call at a time; any thread.
+    twice: they are forgotten by number, never by time. Threads may share a joiner, whose calls wait for one another (so
+    a signal handler makes none). It is neither copied nor pickled.
     """
 
     def __init__(self, open_max: int = 1024, remembered: int = 4096):
+        self._lock = threading.Lock()
         self._handle = raw.Joiner()
         if open_max < 1 or remembered < 1:
             raise OutOfRange("both limits are from 1 on")
         _raise(raw.lib.sms_joiner_open(byref(self._handle), open_max, remembered))
 
     def offer(self, octets: Octets, at: Optional[datetime] = None) -> Optional[str]:
-        """Offers an SMS-DELIVER that came at a moment (now, if none is given): the text where it finishes its message.
-        None where others are missing, or it is a repeat; `outcome` tells which."""
-        return self._text() if self.outcome(octets, at) == Offer.FINISHED else None
+        """Offers an SMS-DELIVER that came at a moment (now, if none is given): the text where it finishes its message,
+        whatever other threads offer meanwhile. None where others are missing, or it is a repeat; `outcome` tells which.
+        NotThere where its user data are no text (8-bit, compressed)."""
+        octets, seconds = bytes(octets), _seconds_or_now(at)
+        with self._lock:
+            return self._text() if self._offer(octets, seconds) == Offer.FINISHED else None
 
     def outcome(self, octets: Octets, at: Optional[datetime] = None) -> Offer:
-        """As `offer`, but what becomes of the segment; `text` is then the text that finished last."""
-        octets, outcome, refused = bytes(octets), c_uint32(), raw.Refused()
-        seconds = _seconds(at or datetime.now(timezone.utc))
-        given = byref(self._handle), seconds, octets, len(octets)
-        _raise(raw.lib.sms_joiner_offer(*given, byref(outcome), byref(refused)), refused)
-        return Offer(outcome.value)
+        """As `offer`, but what becomes of the segment; `text` is then the text that finished last, in any thread."""
+        octets, seconds = bytes(octets), _seconds_or_now(at)
+        with self._lock:
+            return self._offer(octets, seconds)
 
     @property
     def text(self) -> str:
         """The text that finished last; empty before one did."""
-        return self._text()
+        with self._lock:
+            return self._text()
 
     def would_finish(self, octets: Octets) -> bool:
-        """Whether an SMS-DELIVER would finish its message; nothing changes."""
+        """Whether an SMS-DELIVER would finish its message; nothing changes. NotThere where `offer` raises it."""
         octets, answer, refused = bytes(octets), c_uint8(), raw.Refused()
-        given = byref(self._handle), octets, len(octets)
-        _raise(raw.lib.sms_joiner_would_finish(*given, byref(answer), byref(refused)), refused)
+        with self._lock:
+            given = byref(self._handle), octets, len(octets)
+            _raise(raw.lib.sms_joiner_would_finish(*given, byref(answer), byref(refused)), refused)
         return answer.value == 1
 
     def age(self, at: Optional[datetime] = None) -> None:
         """Drops the messages whose first segment came a week before the moment, or earlier."""
-        _raise(raw.lib.sms_joiner_age(byref(self._handle), _seconds(at or datetime.now(timezone.utc))))
+        seconds = _seconds_or_now(at)
+        with self._lock:
+            _raise(raw.lib.sms_joiner_age(byref(self._handle), seconds))
 
     def close(self) -> None:
         """Frees what it holds; a closed one stays so."""
-        raw.lib.sms_joiner_close(byref(self._handle))
+        with self._lock:
+            raw.lib.sms_joiner_close(byref(self._handle))
+
+    def _offer(self, octets: bytes, seconds: int) -> Offer:
+        """What becomes of a segment; the lock is held."""
+        outcome, refused = c_uint32(), raw.Refused()
+        given = byref(self._handle), seconds, octets, len(octets)
+        _raise(raw.lib.sms_joiner_offer(*given, byref(outcome), byref(refused)), refused)
+        return Offer(outcome.value)
 
     def _text(self) -> str:
+        """The text that finished last; the lock is held."""
         return _answer(TEXT_MAX, raw.lib.sms_joiner_text, byref(self._handle)).decode()
+
+    def __reduce_ex__(self, protocol: object) -> NoReturn:
+        raise TypeError("a joiner is neither copied nor pickled")
 
     def __enter__(self) -> Joiner:
         return self
