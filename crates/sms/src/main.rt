@@ -1,7 +1,7 @@
 //! The command line of the short message tools.
 #![tactic(auto)]
 
-use sms_command::{command, finish};
+use sms_command::{command_with_notes, finish};
 use std::env;
 use std::io::{self, BufReader, BufWriter, ErrorKind, Write};
 use std::process::ExitCode;
@@ -17,7 +17,9 @@ fn run(rt: &HostRuntime) -> io::Result<u8> {
     let words: Vec<String> = env::args(rt)?.collect(alloc)?;
     let mut input = BufReader::new(alloc, rt.reader())?;
     let mut output = BufWriter::new(alloc, io::writer(rt))?;
-    let status = command(alloc, words.as_slice(), &mut input, &mut output);
+    let errors = rt.stderr();
+    let mut notes = io::writer(&errors);
+    let status = command_with_notes(alloc, words.as_slice(), &mut input, &mut output, &mut notes);
     Ok(finish(status, &mut output, &mut io::writer(rt)))
 }
 

@@ -16,20 +16,21 @@ use clap::error::ErrorKind;
 use sms_page::Page;
 use std::alloc::Global;
 use std::convert::AsStr;
-use std::io::{Read, Write};
+use std::io::{Read, Write, sink};
 
 /// Does what a request asks, and writes what comes of it. A script, and lines, are read from the
-/// input.
-fn answer<R: Read, W: Write>(
+/// input. What is lost where units are joined goes to the notes.
+fn answer<R: Read, W: Write, N: Write>(
     alloc: Global,
     request: Request<'_>,
     input: &mut R,
     output: &mut W,
+    notes: &mut N,
 ) -> Result<Done, Fault> {
     match request {
         Request::Show(shown) => return show(alloc, shown, input, output),
         Request::Chart => put_chart(alloc, input, output)?,
-        Request::Join(joined) => return join(alloc, joined, input, output),
+        Request::Join(joined) => return join(alloc, joined, input, output, notes),
         Request::Encode(draft) => put_units(alloc, &draft, output)?,
         Request::Split(long) => put_segments(alloc, &long, output)?,
         Request::Play(played) => return play(alloc, played, input, output),
@@ -81,7 +82,28 @@ fn explain<W: Write>(alloc: Global, error: &clap::Error, output: &mut W) -> u8
 
 /// Does what the words ask, the program's name first, and answers the exit status: 0 done, 1
 /// refused input, 2 wrong words, 3 memory or a device. A script is read from the input. The output
-/// is not flushed.
+/// is not flushed. Where `join` loses segments and does not tell which, a line that counts them goes
+/// to the notes, before a fault that ends the run is told.
+pub fn command_with_notes<S: AsStr, R: Read, W: Write, N: Write>(
+    alloc: Global,
+    words: &[S],
+    input: &mut R,
+    output: &mut W,
+    notes: &mut N,
+) -> u8
+    ensures { result ≤ 3 }
+{
+    match parse_words(alloc, words) {
+        Ok(request) => match answer(alloc, request, input, output, notes) {
+            Ok(Done::Whole) => 0,
+            Ok(Done::Faulty) => 1,
+            Err(fault) => refuse(alloc, request.is_explained(), &fault, output),
+        },
+        Err(error) => explain(alloc, &error, output),
+    }
+}
+
+/// Does what the words ask, as `command_with_notes` does, without notes.
 pub fn command<S: AsStr, R: Read, W: Write>(
     alloc: Global,
     words: &[S],
@@ -90,12 +112,5 @@ pub fn command<S: AsStr, R: Read, W: Write>(
 ) -> u8
     ensures { result ≤ 3 }
 {
-    match parse_words(alloc, words) {
-        Ok(request) => match answer(alloc, request, input, output) {
-            Ok(Done::Whole) => 0,
-            Ok(Done::Faulty) => 1,
-            Err(fault) => refuse(alloc, request.is_explained(), &fault, output),
-        },
-        Err(error) => explain(alloc, &error, output),
-    }
+    command_with_notes(alloc, words, input, output, &mut sink())
 }

@@ -6,9 +6,11 @@ ghost use Rattle.sms_page.specs.Plain.{is_plain};
 ghost use Rattle.sms_tpdu.specs.UserData.ConcatenationFound.{IsPlace};
 
 use crate::address_text::AddressText;
+use crate::clock::Clock;
 use crate::digits::read_octets;
 use crate::fault::Fault;
 use crate::lines::{Form, Layer, Lines, Printed};
+use crate::losses::Losses;
 use crate::many::{Taker, take_lines};
 use crate::open_texts::{OpenText, OpenTexts, Place};
 use crate::printed::{Escaped, Moment, Number, Numbering, Party, bits_of, put_escaped};
@@ -99,8 +101,10 @@ struct Joining {
     joiner: Joiner,
     /// The sets that the joiner has open.
     open: OpenTexts,
-    /// The greatest moment of a stamp so far, in seconds since the beginning of 2000.
-    clock: u64,
+    /// The clock that the stamps set.
+    clock: Clock,
+    /// What is lost so far.
+    losses: Losses,
     /// Room for the octets of a line, which is kept.
     room: Vec<u8>,
     /// Whether a line was at fault.
@@ -143,39 +147,47 @@ impl Joining {
         Ok(())
     }
 
-    /// Drops the sets that are old at a moment, where it is the greatest so far.
-    fn go_on(&mut self, moment: Option<u64>, page: &mut Page) -> Result<(), Fault> {
+    /// Takes the stamp of a unit, if it has a moment, and drops the sets that are old then.
+    fn go_on(
+        &mut self,
+        origin: &Address,
+        moment: Option<u64>,
+        page: &mut Page,
+    ) -> Result<(), Fault> {
         let Some(moment) = moment else {
             return Ok(());
         };
-        if moment <= self.clock {
+        let before = self.clock.time;
+        self.clock.take(origin, moment);
+        let now = self.clock.time;
+        if now <= before || !self.open.has_old(now) {
             return Ok(());
         }
-        self.clock = moment;
-        if self.open.has_old(moment) {
-            self.joiner.age(moment);
-            self.drop_old(page)?;
-        }
-        Ok(())
+        let count = self.joiner.open_count();
+        self.joiner.age(now);
+        self.losses
+            .drop_sets(count.saturating_sub(self.joiner.open_count()));
+        self.drop_old(now, page)
     }
 
-    /// Tells the sets that are old, and forgets them.
-    fn drop_old(&mut self, page: &mut Page) -> Result<(), Fault> {
+    /// Tells the sets that are old at a moment, and forgets them.
+    fn drop_old(&mut self, now: u64, page: &mut Page) -> Result<(), Fault> {
         if self.is_verbose {
-            self.tell_old(page)?;
+            self.open.gather(now);
+            self.tell_old(now, page)?;
         }
-        self.open.age(self.clock);
+        self.open.age(now);
         Ok(())
     }
 
-    /// Tells the sets that are old, which are the ones that were opened first.
-    fn tell_old(&self, page: &mut Page) -> Result<(), Fault> {
+    /// Tells the sets that are old at a moment, which come first, in the order of opening.
+    fn tell_old(&self, now: u64, page: &mut Page) -> Result<(), Fault> {
         let mut next = self.open.first();
         for _ in 0..self.open.count() {
             let Some((place, text)) = next else {
                 break;
             };
-            if !text.is_old(self.clock) {
+            if !text.is_old(now) {
                 break;
             }
             put_open(self.alloc, self.form, "dropped", place, text, page)?;
@@ -197,6 +209,19 @@ impl Joining {
         Ok(())
     }
 
+    /// Tells in one line what is lost, where something is and nothing else tells it.
+    fn tell_losses<N: Write>(&self, notes: &mut N) {
+        if !self.is_verbose {
+            self.losses.tell(self.joiner.open_count(), notes);
+        }
+    }
+
+    /// Tells that a segment is turned away.
+    fn turn_away(&mut self, number: u64, page: &mut Page) {
+        self.losses.turn_away();
+        self.tell(number, "too many open sets", page);
+    }
+
     /// Offers a piece, of which the moment is given, and adds what comes of it.
     fn offer(
         &mut self,
@@ -213,29 +238,29 @@ impl Joining {
             concat,
             units,
         } = piece;
-        match self.joiner.offer(self.clock, &origin, stamp, concat, units) {
+        let opening = self.clock.opening(moment);
+        let now = opening.moment;
+        match self.joiner.offer(now, &origin, stamp, concat, units) {
             Ok(Offer::Finished(text)) => {
                 put_text(self.alloc, self.form, &origin, moment, &text, page)?;
                 drop(text);
                 self.open.close(origin, concat);
-                Ok(())
             }
-            Ok(Offer::Kept) => Ok(self.open.keep(self.alloc, origin, concat, self.clock)?),
+            Ok(Offer::Kept) => self.open.keep(self.alloc, origin, concat, opening)?,
             Ok(Offer::Repeat) => {
                 drop(origin);
                 self.tell(number, "repeat", page);
-                Ok(())
             }
             Err(OfferFault::TooManyOpen) => {
                 drop(origin);
-                self.tell(number, "too many open sets", page);
-                Ok(())
+                self.turn_away(number, page);
             }
             Err(OfferFault::Memory) => {
                 drop(origin);
-                Err(Fault::Memory)
+                return Err(Fault::Memory);
             }
         }
+        Ok(())
     }
 
     /// Takes a piece, after what is old at its moment is dropped.
@@ -243,7 +268,7 @@ impl Joining {
         requires { IsPlace piece.concat }
     {
         let moment = piece.stamp.moment();
-        let gone = self.go_on(moment, page);
+        let gone = self.go_on(&piece.origin, moment, page);
         let offered = self.offer(number, piece, moment, page);
         gone?;
         offered
@@ -383,16 +408,19 @@ impl Taker for Joining {
     }
 
     fn finish(&mut self, page: &mut Page) -> Result<(), Fault> {
+        self.open.gather(u64::MAX);
         self.tell_open(page)
     }
 }
 
-/// Joins the units that the lines of an input have, and writes each text when it is whole.
-pub fn join<R: Read, W: Write>(
+/// Joins the units that the lines of an input have, and writes each text when it is whole. What is
+/// lost goes to the notes.
+pub fn join<R: Read, W: Write, N: Write>(
     alloc: Global,
     joined: Joined,
     input: &mut R,
     output: &mut W,
+    notes: &mut N,
 ) -> Result<Done, Fault> {
     if joined.open == 0 || joined.remembered == 0 {
         return Err(Fault::WrongOption);
@@ -404,12 +432,14 @@ pub fn join<R: Read, W: Write>(
         is_verbose: joined.is_verbose,
         joiner: Joiner::new(alloc, joined.open, joined.remembered)?,
         open: OpenTexts::new(alloc),
-        clock: 0,
+        clock: Clock::new(),
+        losses: Losses::none(),
         room: Vec::new(alloc),
         is_faulty: false,
     };
     let taken = take_lines(alloc, &mut joining, input, output);
     let done = Done::unless(joining.is_faulty);
+    joining.tell_losses(notes);
     drop(joining);
     taken?;
     Ok(done)

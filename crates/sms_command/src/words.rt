@@ -428,7 +428,7 @@ static SUBCOMMANDS: [Subcommand; 6] = [
             Word {
                 name: "verbose",
                 form: WordForm::Flag,
-                help: "Repeats, segments for which too many texts are open, and sets that are dropped after a week are told",
+                help: "Repeats, segments for which too many texts are open, and sets that are dropped after a week are told; else what is lost is only counted, on standard error",
             },
         ],
         example: None,

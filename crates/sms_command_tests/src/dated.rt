@@ -54,7 +54,7 @@ fn stamps(alloc: Global) -> Result<Vec<[u8; 7]>, Fail> {
 }
 
 /// Octets in upper case hexadecimal digits.
-fn digits_of(alloc: Global, octets: &[u8]) -> Result<String, Fail> {
+pub fn digits_of(alloc: Global, octets: &[u8]) -> Result<String, Fail> {
     let mut digits = String::new(alloc);
     for octet in octets {
         let pair = format!(in alloc; "{octet:02X}")?;

@@ -8,6 +8,8 @@ mod arrivals;
 #[cfg(test)]
 mod charts;
 #[cfg(test)]
+mod clocks;
+#[cfg(test)]
 mod dated;
 #[cfg(test)]
 mod digits;
@@ -28,9 +30,13 @@ mod heard;
 #[cfg(test)]
 mod joins;
 #[cfg(test)]
+mod jumps;
+#[cfg(test)]
 mod lines;
 #[cfg(test)]
 mod made;
+#[cfg(test)]
+mod notes;
 #[cfg(test)]
 mod objects;
 #[cfg(test)]

@@ -164,8 +164,8 @@ enum Order {
     Made,
 }
 
-/// The moment of the stamp that follows: some are just before, at and after the moment at which one
-/// of the first sets is old.
+/// The moment of the stamp that follows, at most a week ahead: some are just before, at and after the
+/// moment at which one of the first sets is old.
 fn made_moment(made: &mut Made, listed: &Listed) -> Option<u64> {
     let now = listed.clock;
     match made.below(16) {
@@ -177,7 +177,8 @@ fn made_moment(made: &mut Made, listed: &Listed) -> Option<u64> {
         8 => {
             let opened = listed.opened_at(made.below(4));
             let due = opened.saturating_add(OLD).saturating_sub(1);
-            Some(due.saturating_add(made.below(3) as u64))
+            let due = due.saturating_add(made.below(3) as u64);
+            Some(due.min(now.saturating_add(OLD)))
         }
         _ => Some(now.saturating_add(made.below(7_200) as u64)),
     }
@@ -247,7 +248,7 @@ struct ComingSet {
 
 /// The sets of a window, of which segments come.
 #[derive(Drop)]
-struct Coming {
+pub struct Coming {
     made: Made,
     sets: [ComingSet; WINDOW],
     /// The reference of the next set.
@@ -256,7 +257,7 @@ struct Coming {
 
 impl Coming {
     /// The sets of the first window.
-    fn new(seed: u64) -> Coming {
+    pub fn new(seed: u64) -> Coming {
         let first = ComingSet {
             reference: 0,
             awaited: [true; 3],
@@ -274,7 +275,7 @@ impl Coming {
 
     /// The reference and the sequence of a segment that comes next. One in eight sets is given up
     /// before it is whole.
-    fn next(&mut self) -> Option<(usize, usize)> {
+    pub fn next(&mut self) -> Option<(usize, usize)> {
         let place = self.made.below(WINDOW);
         let sequence = self.made.below(3);
         let gives_up = self.made.octet() < 32;
@@ -311,7 +312,7 @@ fn filled(alloc: Global, seed: u64, order: Order, listed: &mut Listed) -> Result
 }
 
 /// The lines of an output that tell sets.
-fn lines_of_sets(alloc: Global, output: &str) -> Result<String, Fail> {
+pub fn lines_of_sets(alloc: Global, output: &str) -> Result<String, Fail> {
     let mut lines = String::new(alloc);
     for line in output.lines() {
         let name = line.trim_start_matches("{\"");

@@ -16,6 +16,9 @@ const OLD: u64 = 604_800;
 /// No stamp is made after as many seconds of a year.
 const LAST: u64 = 364 * 86_400;
 
+/// After as many units with a stamp the clock is sure, of however few origins they are.
+const SURE: usize = 4;
+
 /// The octets before the stamp, of three senders, without the first one.
 static ORIGINS: [&str; 3] = ["049101300008", "049101400008", "038101F50008"];
 
@@ -28,6 +31,8 @@ struct Sender {
     made: Made,
     /// The greatest moment so far, in seconds since the beginning of 2024.
     clock: u64,
+    /// How many stamps had a moment.
+    dated: usize,
     /// Moments at which segments came.
     seen: [u64; 8],
     /// How much later the next stamp may be.
@@ -47,6 +52,7 @@ impl Sender {
         Sender {
             made,
             clock: 0,
+            dated: 0,
             seen: [0; 8],
             step,
             references,
@@ -79,9 +85,20 @@ impl Sender {
         }
     }
 
+    /// The greatest moment that may follow: it is at most a week ahead, and none is far behind
+    /// another one while the clock is not sure.
+    fn greatest(&mut self) -> u64 {
+        self.dated = self.dated.saturating_add(1);
+        if self.dated <= SURE {
+            OLD
+        } else {
+            self.clock.saturating_add(OLD).min(LAST)
+        }
+    }
+
     /// The moment of the stamp that follows, which is noted.
     fn moment(&mut self) -> Option<u64> {
-        let moment = self.next()?.min(LAST);
+        let moment = self.next()?.min(self.greatest());
         self.clock = self.clock.max(moment);
         let place = self.made.below(8) % 8;
         self.seen[place] = self.clock;
@@ -127,8 +144,11 @@ fn lines_of(alloc: Global, seed: u64) -> Result<String, Fail> {
     let undated = sender.made.below(12);
     let mut input = String::new(alloc);
     for place in 0..240 {
-        let moment = sender.moment();
-        let moment = if place < undated { None } else { moment };
+        let moment = if place < undated {
+            None
+        } else {
+            sender.moment()
+        };
         let line = sender.line(alloc, moment)?;
         input.push_str(&line)?;
         input.push('\n')?;
