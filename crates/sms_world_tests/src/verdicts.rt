@@ -12,6 +12,7 @@ use std::alloc::{AllocError, Global};
 use std::test::Fail;
 
 /// A script, and what is told of its run.
+#[derive(Drop)]
 struct Told {
     script: &'static str,
     verdicts: Verdicts,
