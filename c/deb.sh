@@ -150,8 +150,8 @@ python3_sms() {
 	chmod 755 "$room/python3-sms/DEBIAN/postinst" "$room/python3-sms/DEBIAN/prerm"
 	finish python3-sms all python "libsms1 (>= ${version%-1}), python3:any" foreign <<END
 short messages read, written, cut and joined (Python 3)
- The package sms of Python over libsms1: units, texts and a joiner that threads
- may share.
+ The package sms of Python over libsms1: units and texts as classes and
+ strings, and a joiner.
 END
 }
 
