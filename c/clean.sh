@@ -77,7 +77,7 @@ put_files() {
 	chmod 666 "$root/tally"
 }
 
-# What runs in the shell of the user: each line, what it printed last, and how it ended.
+# What runs in the shell of the user: each line, its titles and what it printed last, and whether it failed.
 put_runner() {
 	cat >"$root/runner" <<'END'
 cd "$1" || exit 1
@@ -86,14 +86,13 @@ while IFS= read -r line <&3; do
 	'' | rt\ *) [ -z "$line" ] || printf '$ %s\n    left out: it needs the kit\n' "$line"; continue ;;
 	esac
 	printf '$ %s\n' "$line"
-	shows=3
 	if eval "$line" </dev/null >/tmp/told 2>&1; then
 		echo ok >>/tally
+		{ grep -e '^==' -e '^left out' /tmp/told; tail -n 3 /tmp/told; } | sed 's/^/    /'
 	else
 		echo "FAILED with $?: $line" | tee -a /tally
-		shows=30
+		tail -n 30 /tmp/told | sed 's/^/    /'
 	fi
-	tail -n "$shows" /tmp/told | sed 's/^/    /'
 done 3</lines
 END
 }
@@ -124,7 +123,7 @@ faces() {
 	session "C, with gcc and clang" . <<'END'
 PREFIX=$HOME/.local c/build.sh
 PREFIX=$HOME/.local CCS=gcc CXXS=g++ UNITS=1000 c/check.sh
-sudo apt install clang
+sudo apt install clang valgrind
 PREFIX=$HOME/.local CCS=clang CXXS=clang++ UNITS=1000 c/check.sh
 PREFIX=$HOME/.local c/build.sh --uninstall
 END
