@@ -34,7 +34,8 @@ SOURCE_DATE_EPOCH=${SOURCE_DATE_EPOCH:-$(of_commit %ct || stat -c %Y "$here/VERS
 export SOURCE_DATE_EPOCH
 name=${DEBFULLNAME:-$(of_commit %an || id -un)}
 maintainer="$name <${DEBEMAIL:-$(of_commit %ae || echo "$(id -un)@$(uname -n)")}>"
-version=$(sed -n 's/^Version: //p' "$prefix/lib/pkgconfig/sms.pc")-1
+upstream=$(sed -n 's/^Version: //p' "$prefix/lib/pkgconfig/sms.pc")
+version=$upstream-0sms1 # below what Debian itself would make of it
 machine=$(dpkg --print-architecture)
 triplet=$(dpkg-architecture -qDEB_HOST_MULTIARCH)
 room=$(mktemp -d)
@@ -67,7 +68,7 @@ Copyright $(date -u -d "@$SOURCE_DATE_EPOCH" +%Y) $name
 The sources name no licence: ask $maintainer before you pass it on.
 END
 	{
-		printf 'sms (%s) unstable; urgency=medium\n\n  * Package of sms %s.\n\n' "$version" "${version%-1}"
+		printf 'sms (%s) unstable; urgency=medium\n\n  * Package of sms %s.\n\n' "$version" "$upstream"
 		printf ' -- %s  %s\n' "$maintainer" "$(LC_ALL=C date -u -R -d "@$SOURCE_DATE_EPOCH")"
 	} | gzip -9n >"$doc/changelog.Debian.gz"
 }
@@ -95,7 +96,7 @@ libsms1() {
 	strip --strip-unneeded "$room/libsms1/usr/lib/$triplet/libsms.so.1"
 	mkdir -p "$room/libsms1/DEBIAN"
 	echo "activate-noawait ldconfig" >"$room/libsms1/DEBIAN/triggers"
-	echo "libsms 1 libsms1 (>= ${version%-1})" >"$room/libsms1/DEBIAN/shlibs"
+	echo "libsms 1 libsms1 (>= $upstream)" >"$room/libsms1/DEBIAN/shlibs"
 	finish libsms1 "$machine" libs "$(wants "$prefix/lib/libsms.so.1")" same <<END
 short messages read, written, cut and joined (library)
  The codec and the joiner of sms, for C and what calls C: units of 3GPP TS
@@ -148,7 +149,7 @@ python3_sms() {
 	printf '#!/bin/sh\nset -e\n! command -v py3clean >/dev/null || py3clean -p python3-sms\n' \
 		>"$room/python3-sms/DEBIAN/prerm"
 	chmod 755 "$room/python3-sms/DEBIAN/postinst" "$room/python3-sms/DEBIAN/prerm"
-	finish python3-sms all python "libsms1 (>= ${version%-1}), python3:any" foreign <<END
+	finish python3-sms all python "libsms1 (>= $upstream), python3:any" foreign <<END
 short messages read, written, cut and joined (Python 3)
  The package sms of Python over libsms1: units and texts as classes and
  strings, and a joiner.
