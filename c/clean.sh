@@ -63,10 +63,11 @@ make_root() {
 	quietly as_root apt-get update
 }
 
-# The checkout without what it has built, but for the program; the library below /built; the packages, if they are given.
+# Of the checkout what the pages and the tests of the faces read, and the program; the library below /built; the packages, if
+# they are given.
 put_files() {
 	mkdir -p "$root/built/lib" "$root/built/include" "$root/home/user/sms/crates/sms/out" "$root/debs"
-	tar -C "$top" --exclude=target --exclude=__pycache__ -cf - c docs python rust README.md install.sh |
+	tar -C "$top" --exclude=target --exclude=__pycache__ -cf - c crates/sms_c/src docs python rust README.md install.sh |
 		tar -C "$root/home/user/sms" -xf -
 	cp "$top/crates/sms/out/sms" "$root/home/user/sms/crates/sms/out/"
 	cp "$1/lib/libsms.a" "$1/lib/libsms.so.1" "$root/built/lib/"
