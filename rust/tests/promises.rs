@@ -114,12 +114,18 @@ fn wraps_and_reads_packets() {
     let packet = envelope.wrap("+1234", &HELLO).unwrap();
     let (cp, used) = Cp::read(&packet).unwrap();
     assert_eq!((cp.flag, cp.value, used), (false, 3, packet.len()));
-    let CpBody::Data(user) = cp.body else { panic!("{cp:?}") };
+    let user = match cp.body {
+        CpBody::Data(user) => user,
+        other => panic!("{other:?}"),
+    };
     let (rp, _) = Rp::read(user).unwrap();
     assert_eq!((rp.to_phone, rp.reference), (true, 9));
     assert_eq!(rp.body, RpBody::Data { address: Some(&[0x03, 0x91, 0x21, 0x43]), user: &HELLO });
     let packet = envelope.wrap_error(22, &[]).unwrap();
-    let CpBody::Data(user) = Cp::read(&packet).unwrap().0.body else { panic!("{packet:?}") };
+    let user = match Cp::read(&packet).unwrap().0.body {
+        CpBody::Data(user) => user,
+        other => panic!("{other:?}"),
+    };
     assert_eq!(Rp::read(user).unwrap().0.body, RpBody::Error { cause: 22, diagnostic: None, user: None });
     assert_eq!(Cp::read(&envelope.cp_ack().unwrap()).unwrap().0.body, CpBody::Ack);
     assert_eq!(Cp::read(&envelope.cp_error(97).unwrap()).unwrap().0.body, CpBody::Error(97));
