@@ -127,8 +127,8 @@ fn put_reference(room: &mut [u8], reference: u8) {
 }
 
 /// Puts what is a unit's own: its origin where that is a number, its stamp, and its reference where
-/// it is a segment of several, behind the stamp, TP-UDL, the header's length, and the identifier and
-/// the length of its first element.
+/// it is a segment of several, behind the stamp, TP-UDL, the header's length, and the identifier
+/// and the length of its first element.
 fn put_own(unit: &mut [u8], flight: Flight, units: &Units) {
     if !units.is_named {
         if let Some(room) = unit.get_mut(6..18) {
@@ -377,8 +377,8 @@ impl Traffic {
         put_spread(room, self.digits.as_slice())
     }
 
-    /// Leaves the line that stands from a place on, or writes it with lower case digits, with blanks,
-    /// or with both.
+    /// Leaves the line that stands from a place on, or writes it with lower case digits, with
+    /// blanks, or with both.
     fn write_otherwise(&mut self, room: &mut Vec<u8>, start: usize) -> Result<(), AllocError> {
         let way = self.chance.below(4);
         if way % 2 == 1 {

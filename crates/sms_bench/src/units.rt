@@ -179,8 +179,8 @@ fn see(alloc: Global, octets: &[u8], digest: &mut Digest) -> Result<()> {
     Ok(())
 }
 
-/// Takes so many units, each with an origin, a stamp and a reference of its own: one is seen where it
-/// lies, the next is read as a value.
+/// Takes so many units, each with an origin, a stamp and a reference of its own: one is seen where
+/// it lies, the next is read as a value.
 pub fn take_units(
     alloc: Global,
     units: &mut Vec<Vec<u8>>,

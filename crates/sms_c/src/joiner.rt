@@ -1,6 +1,6 @@
 //! A joiner that C keeps.
 
-ghost use Rattle.std.specs.Prelude.{◌≡◌, ◌≤◌, ◌<◌, ◌⊎◌, ◌↔◌, ℕ, length, true, false, is_some, Some, None, Err, IsSome, MatchOption, MatchResult, IfSome, IfOk, IfErr, OnErr};
+ghost use Rattle.std.specs.Prelude.{◌≡◌, ◌≢◌, ◌≤◌, ◌<◌, ◌⊎◌, ◌↔◌, ℕ, length, true, false, is_some, Some, None, Err, IsSome, MatchOption, MatchResult, IfSome, IfOk, IfErr, OnErr};
 ghost use Rattle.std.specs.String.{string_bytes};
 ghost use Rattle.sms_field.specs.Reading.{Reads};
 ghost use Rattle.sms_tpdu.specs.Deliver.{Delivery, deliver};
@@ -96,7 +96,7 @@ pub extern "C" fn sms_joiner_open(
 ) -> u32
     ensures range { (result ≡ 7) ↔ ((open_max ≡ 0) ⊎ (remembered ≡ 0)) }
     ensures same { result ≡ 7 → handle.new ≡ handle.old }
-    ensures closed { (result ≡ 0 → ⊥) → (result ≡ 7 → ⊥) → handle.new.kept.held ≡ None }
+    ensures closed { result ≢ 0 → result ≢ 7 → handle.new.kept.held ≡ None }
     ensures held { result ≡ 0 → count handle.new.kept.held ≡ 1 }
     ensures holds { result ≡ 0 → IfSome handle.new.kept.held (λ inside. inside.joiner
         ≡ record { open_max = open_max; remembered = remembered; holds = new_joiner }) }

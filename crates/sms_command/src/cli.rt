@@ -82,8 +82,8 @@ fn explain<W: Write>(alloc: Global, error: &clap::Error, output: &mut W) -> u8
 
 /// Does what the words ask, the program's name first, and answers the exit status: 0 done, 1
 /// refused input, 2 wrong words, 3 memory or a device. A script is read from the input. The output
-/// is not flushed. Where `join` loses segments and does not tell which, a line that counts them goes
-/// to the notes, before a fault that ends the run is told.
+/// is not flushed. Where `join` loses segments and does not tell which, a line that counts them
+/// goes to the notes, before a fault that ends the run is told.
 pub fn command_with_notes<S: AsStr, R: Read, W: Write, N: Write>(
     alloc: Global,
     words: &[S],

@@ -3,8 +3,9 @@
 use crate::fault::Fault;
 use memchr::memchr;
 use sms_page::Page;
+use sms_script::read_again;
 use std::alloc::{AllocError, Global};
-use std::io::{ErrorKind, Read, Write};
+use std::io::{Read, Write};
 
 /// The most octets of a line, without its line feed and the carriage return before it.
 const LINE_MAX: usize = 4_096;
@@ -147,7 +148,7 @@ impl Feed {
         let Some(room) = self.room.as_mut_slice().get_mut(self.end..) else {
             return Err(Fault::Read);
         };
-        let Some(count) = read_some(input, room) else {
+        let Ok(count) = read_again(input, room) else {
             return Err(Fault::Read);
         };
         self.end = self.end.saturating_add(count);
@@ -174,18 +175,6 @@ impl Feed {
         }
         Ok(None)
     }
-}
-
-/// Reads some octets, again where a read was interrupted, and says how many; none where it fails.
-pub fn read_some<R: Read>(input: &mut R, room: &mut [u8]) -> Option<usize> {
-    for _ in 0..u64::MAX {
-        match input.read(room) {
-            Ok(count) => return Some(count),
-            Err(error) if error.kind() == ErrorKind::Interrupted => {}
-            Err(_) => return None,
-        }
-    }
-    None
 }
 
 /// Moves as many octets from a place to the front.

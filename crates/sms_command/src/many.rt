@@ -48,8 +48,8 @@ fn take_line<T: Taker>(taker: &mut T, line: Line<'_>, page: &mut Page) -> Result
     taker.take(line.number, Ok(octets), page)
 }
 
-/// Hands on a line. Where memory runs out for what is told of it while more stands on the page, that
-/// is written, and the line is handed on once more with an empty page.
+/// Hands on a line. Where memory runs out for what is told of it while more stands on the page,
+/// that is written, and the line is handed on once more with an empty page.
 fn take_or_again<T: Taker, W: Write>(
     taker: &mut T,
     line: Line<'_>,

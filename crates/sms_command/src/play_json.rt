@@ -289,8 +289,8 @@ fn watching(asked: Played) -> Watching {
 }
 
 /// Plays the script that an input has, and writes an object for each event, and at the end one for
-/// each phone, and those that tell whether the run was orderly and whether `accepted` means accepted
-/// where that is asked for. Where events that name nothing count, they are faults.
+/// each phone, and those that tell whether the run was orderly and whether `accepted` means
+/// accepted where that is asked for. Where events that name nothing count, they are faults.
 pub fn play_as_json<R: Read, W: Write>(
     alloc: Global,
     asked: Played,

@@ -74,8 +74,8 @@ impl Running {
         }
     }
 
-    /// What is told of `accepted`, where that is noted: the first event after which it need not mean
-    /// accepted, if there is one.
+    /// What is told of `accepted`, where that is noted: the first event after which it need not
+    /// mean accepted, if there is one.
     pub fn accepted(&self) -> Option<Option<Doubt>> {
         match self {
             Running::Plain(_) | Running::Watched(_) => None,

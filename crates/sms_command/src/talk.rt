@@ -3,8 +3,7 @@
 
 ghost use Rattle.std.specs.Prelude.{◌≡◌, ◌≤◌, length, true, false, None, IfOk, IsErr, IsOk};
 
-use crate::feed::read_some;
-use sms_script::copy_in_line;
+use sms_script::{copy_in_line, read_again};
 use sms_world::{DeviceFailed, Sink, Source};
 use std::alloc::{AllocError, Global};
 use std::cell::RefCell;
@@ -259,10 +258,7 @@ fn fill<R: Read, W: Write>(
     if !flush(outlet) {
         return Err(Silence::Mute);
     }
-    match read_some(input, room.as_mut_slice()) {
-        Some(count) => Ok(count),
-        None => Err(Silence::Deaf),
-    }
+    read_again(input, room.as_mut_slice()).map_err(|_| Silence::Deaf)
 }
 
 /// Copies the front of octets into a buffer, and says how many.

@@ -164,8 +164,8 @@ enum Order {
     Made,
 }
 
-/// The moment of the stamp that follows, at most a week ahead: some are just before, at and after the
-/// moment at which one of the first sets is old.
+/// The moment of the stamp that follows, at most a week ahead: some are just before, at and after
+/// the moment at which one of the first sets is old.
 fn made_moment(made: &mut Made, listed: &Listed) -> Option<u64> {
     let now = listed.clock;
     match made.below(16) {

@@ -235,8 +235,8 @@ fn user_data_of_some(alloc: Global, octets: Option<&[u8]>) -> Result<Option<Octe
     }
 }
 
-/// The octets of a CP-DATA around the answer to a transfer, and these octets if there are any, which
-/// are not looked at: an RP-ACK, or an RP-ERROR with a cause of 0 to 127.
+/// The octets of a CP-DATA around the answer to a transfer, and these octets if there are any,
+/// which are not looked at: an RP-ACK, or an RP-ERROR with a cause of 0 to 127.
 ///
 /// The flag and the value are those of the transaction identifier (3GPP TS 24.011, 8.1.2). The flag
 /// is false from the side that opened the transaction, and true from the other; the value is 0 to

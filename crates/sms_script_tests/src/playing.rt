@@ -441,7 +441,8 @@ fn writes_that_are_interrupted(rt: HostRuntime) {
     is(&rt, 0, &paused(rt.alloc()), wanted_of(TRANSCRIPT.len()));
 }
 
-/// Plays the whole script into a sink with room for as many octets, and tells whether the sink failed.
+/// Plays the whole script into a sink with room for as many octets, and tells whether the sink
+/// failed.
 fn narrowed(alloc: Global, room: usize) -> Outcome {
     let mut source = Watched::new(WHOLE);
     let mut sink = Watched::new(Narrow {

@@ -28,8 +28,8 @@ fn pair_spelled(high: u16, low: u16) -> [u8; 4]
     ]
 }
 
-/// Writes the character of the half in front: that of the pair that it begins, or U+FFFD where it is
-/// without the other. Returns the place after it and the octets that are left; four octets may
+/// Writes the character of the half in front: that of the pair that it begins, or U+FFFD where it
+/// is without the other. Returns the place after it and the octets that are left; four octets may
 /// change.
 #[inline(always)]
 pub(crate) fn put_half<'a>(out: &mut [u8], at: usize, octets: &'a [u8]) -> (usize, &'a [u8])

@@ -13,8 +13,8 @@ use crate::ucs2::unit;
 use crate::written::{put_word, text_of_utf8};
 use std::alloc::{AllocError, Global};
 
-/// Writes the text of octets from a place on, a unit or a pair at a time, and stops where at most so
-/// many octets are left, or one, which it returns with the place after the text.
+/// Writes the text of octets from a place on, a unit or a pair at a time, and stops where at most
+/// so many octets are left, or one, which it returns with the place after the text.
 #[inline(always)]
 fn put_each<'a>(out: &mut [u8], at: usize, octets: &'a [u8], stop: usize) -> (usize, &'a [u8])
     requires room { at + 3 * (length octets.now / 2) + 16 ≤ length out.old }
@@ -64,8 +64,8 @@ fn put_ucs2(out: &mut [u8], octets: &[u8]) -> usize
     at
 }
 
-/// The text of octets in UCS-2, the high octet of each unit first; an odd last octet is dropped, and
-/// an unpaired half is U+FFFD (3GPP TS 23.038, 6.2.3).
+/// The text of octets in UCS-2, the high octet of each unit first; an odd last octet is dropped,
+/// and an unpaired half is U+FFFD (3GPP TS 23.038, 6.2.3).
 pub fn text_of_ucs2_octets(alloc: Global, octets: &[u8]) -> Result<String, AllocError>
     ensures { IfOk result (λ text.
         chars (string_bytes text) ≡ utf16_lossy_chars (units_high_first octets.now)) }

@@ -20,7 +20,8 @@ pub fn address_seen_at<'a>(input: &mut Cursor<'a>) -> Result<AddressView<'a>, Fa
     AddressView::read_at(input).map_err(Fault::map_reason)
 }
 
-/// Where the address lies that begins after so many octets. Not looked at is whether it can be read.
+/// Where the address lies that begins after so many octets. Not looked at is whether it can be
+/// read.
 pub fn address_after(octets: &[u8], before: usize) -> Span
     ensures begins { result.offset ≡ before }
     ensures takes { TakesOctets address (drop before octets.now) result.length }

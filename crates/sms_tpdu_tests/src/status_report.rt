@@ -1,5 +1,5 @@
-//! Status reports. The first four are read so by others too: three stand in the tests of oFono 1.31,
-//! one in those of Gammu 1.42.
+//! Status reports. The first four are read so by others too: three stand in the tests of oFono
+//! 1.31, one in those of Gammu 1.42.
 
 use crate::again::rewritten;
 use crate::alike::{Kind, agree_everywhere};

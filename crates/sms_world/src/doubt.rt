@@ -7,8 +7,8 @@ use crate::order::TextSegment;
 #[derive(Clone, Copy, Debug, PartialEq, Eq)]
 pub enum Ground {
     /// An RP-ACK or RP-ERROR came to this phone with the transaction value and the RP reference of
-    /// the last submission that the phone has put out, and it answers an earlier one: answers are to
-    /// answer what they name.
+    /// the last submission that the phone has put out, and it answers an earlier one: answers are
+    /// to answer what they name.
     AnswerToAnother {
         /// The phone, counted from 0.
         phone: usize,

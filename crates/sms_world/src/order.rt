@@ -7,8 +7,8 @@ pub enum Disorder {
     /// An SMS-SUBMIT came to the centre although the validity of an accepted one of the same
     /// segment had ended: repeats are to come in time.
     RepeatAfterTheEnd,
-    /// An SMS-SUBMIT without TP-RD came to the centre although one of the same segment was accepted:
-    /// repeats are to ask for the rejection of duplicates.
+    /// An SMS-SUBMIT without TP-RD came to the centre although one of the same segment was
+    /// accepted: repeats are to ask for the rejection of duplicates.
     RepeatWithoutRejection,
     /// A segment of a concatenated text came to a phone where another text with its key was open,
     /// or among the last that finished: no key is to be used again meanwhile.

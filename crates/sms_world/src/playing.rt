@@ -55,10 +55,10 @@ pub fn play<S: Source, K: Sink>(
 /// order, if one did. No line of the script is taken yet; it is left with what its lines have said,
 /// from which `order_line` makes the line that tells this answer.
 ///
-/// The transcript is that of `play`. Where the answer is none, its run was orderly, and each phone's
-/// store is, in order of completion, exactly the texts typed to it of which every segment was taken,
-/// each once, whole and as typed. Else the run was not orderly, and this was its first event that
-/// did not meet the condition.
+/// The transcript is that of `play`. Where the answer is none, its run was orderly, and each
+/// phone's store is, in order of completion, exactly the texts typed to it of which every segment
+/// was taken, each once, whole and as typed. Else the run was not orderly, and this was its first
+/// event that did not meet the condition.
 pub fn play_watched<S: Source, K: Sink>(
     alloc: Global,
     source: &mut S,
@@ -96,8 +96,8 @@ pub fn play_watched<S: Source, K: Sink>(
     Ok(world.order())
 }
 
-/// As `play`, and after the transcript comes the line that tells whether its run was orderly: that of
-/// `order_line`, of what `play_watched` answers.
+/// As `play`, and after the transcript comes the line that tells whether its run was orderly: that
+/// of `order_line`, of what `play_watched` answers.
 pub fn play_with_order<S: Source, K: Sink>(
     alloc: Global,
     source: &mut S,

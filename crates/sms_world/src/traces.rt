@@ -274,8 +274,8 @@ impl TraceNotes {
         }
     }
 
-    /// This came to the centre from a phone, of this segment, and was answered so. There is room for
-    /// what it adds.
+    /// This came to the centre from a phone, of this segment, and was answered so. There is room
+    /// for what it adds.
     fn take(&mut self, phone: usize, seen: Seen, part: Option<Part>, told: Outcome)
         requires { 0 < spare self.old.held }
         ensures sent { self.new.sent ≡ self.old.sent }
@@ -346,8 +346,8 @@ fn no_outs(alloc: Global, count: usize) -> Result<Vec<u64>, AllocError>
     Ok(all)
 }
 
-/// Traces of as many packets that are of no segment, and came of this putting out. There is room for
-/// them.
+/// Traces of as many packets that are of no segment, and came of this putting out. There is room
+/// for them.
 fn put_bare(sent: &mut VecDeque<Trace>, count: usize, putting: Option<u64>)
     requires { deque_len sent.old + count ≤ deque_capacity sent.old }
     ensures { sent.new.items ≡ entered (bare_traces count putting) sent.old.items }

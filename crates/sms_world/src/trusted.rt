@@ -26,10 +26,10 @@ use sms_script::{Event, Limits};
 use std::alloc::{AllocError, Global};
 use std::marker::Model;
 
-/// A watched world, and what is noted besides of the events that have happened in it: so it can tell
-/// whether each text that is shown as accepted was. A look-up takes a time that grows with the texts
-/// that have finished at a phone, at most as many as its store has room for, and with nothing else
-/// that has happened.
+/// A watched world, and what is noted besides of the events that have happened in it: so it can
+/// tell whether each text that is shown as accepted was. A look-up takes a time that grows with the
+/// texts that have finished at a phone, at most as many as its store has room for, and with nothing
+/// else that has happened.
 #[derive(Drop)]
 pub struct TrustedWorld {
     alloc: Global,
@@ -148,8 +148,8 @@ impl TrustedWorld {
     }
 }
 
-/// The first doubt: this one, if it came before; else one that comes now, as the one of this number,
-/// if the event breaks a condition.
+/// The first doubt: this one, if it came before; else one that comes now, as the one of this
+/// number, if the event breaks a condition.
 fn doubt_after(
     notes: &TraceNotes,
     first: Option<Doubt>,

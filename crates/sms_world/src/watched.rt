@@ -31,8 +31,8 @@ use std::alloc::{AllocError, Global};
 use std::marker::Model;
 
 /// A world, and what is noted of the events that have happened in it: so it can tell whether they
-/// came in order. A look-up takes a time that grows with the texts that have finished at a phone, at
-/// most as many as its store has room for, and with nothing else that has happened.
+/// came in order. A look-up takes a time that grows with the texts that have finished at a phone,
+/// at most as many as its store has room for, and with nothing else that has happened.
 #[derive(Drop)]
 pub struct WatchedWorld {
     world: World,

@@ -102,8 +102,8 @@ impl World {
     }
 
     /// What happens at an event. If it answers a fault, the clock, the phones, the centre and the
-    /// packets stand as before; where there is no such packet or phone, or the clock would reach its
-    /// end, the world is as it was.
+    /// packets stand as before; where there is no such packet or phone, or the clock would reach
+    /// its end, the world is as it was.
     ///
     /// A text is typed at a phone, a packet comes to its destination, a phone has waited long
     /// enough for an answer, the centre hands a message to a phone, the clock moves on by some

@@ -252,8 +252,8 @@ fn tells_a_key_that_is_used_again(rt: HostRuntime) -> Result<(), Fail> {
     Ok(())
 }
 
-/// Lets a script happen, an event once more where it wants memory, and answers how many events there
-/// were before the last one first came.
+/// Lets a script happen, an event once more where it wants memory, and answers how many events
+/// there were before the last one first came.
 fn let_happen_at_last(
     alloc: Global,
     world: &mut WatchedWorld,

@@ -1,5 +1,5 @@
-//! The rows and the packets of a chart, in which each arrival is searched for and counted: the plain
-//! form, with which the other is compared.
+//! The rows and the packets of a chart, in which each arrival is searched for and counted: the
+//! plain form, with which the other is compared.
 
 use sms_world::{Event, Outcome, World, WorldFault};
 use std::alloc::Global;

@@ -44,8 +44,8 @@ pub struct Words {
     pub words: &'static str,
 }
 
-/// TP-ST: each value that the standard names, and one of each other range, of a reserved one the first
-/// and the last, but temporary errors twice.
+/// TP-ST: each value that the standard names, and one of each other range, of a reserved one the
+/// first and the last, but temporary errors twice.
 pub static STATUSES: [Words; 35] = [
     Words {
         octet: "00",

@@ -137,7 +137,8 @@ pub static STAMPS: [Shown; 4] = [
     },
 ];
 
-/// Deliveries by their TP-DCS, their text or data and what stands after it, and lines of the answer.
+/// Deliveries by their TP-DCS, their text or data and what stands after it, and lines of the
+/// answer.
 pub static TEXTS: [Shown; 9] = [
     Shown {
         octets: "0404911010000400101000000000030041FF",

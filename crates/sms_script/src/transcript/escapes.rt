@@ -32,7 +32,8 @@ impl Escape {
         }
     }
 
-    /// Whether an octet of a text in UTF-8 stands in one line as it is. It is told without a branch.
+    /// Whether an octet of a text in UTF-8 stands in one line as it is. It is told without a
+    /// branch.
     pub fn is_plain(octet: u8) -> bool
         ensures { IsTrue result ↔ (escape octet ≡ octet ∷ []) }
     {

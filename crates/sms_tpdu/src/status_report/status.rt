@@ -65,8 +65,8 @@ pub enum StatusMeaning {
     Unknown,
     /// The service centre gives the value a meaning of its own.
     CentreSpecific,
-    /// The standard leaves it open. A phone takes it as 63, `ServiceRejected` without more attempts,
-    /// whose group it has.
+    /// The standard leaves it open. A phone takes it as 63, `ServiceRejected` without more
+    /// attempts, whose group it has.
     Reserved,
 }
 

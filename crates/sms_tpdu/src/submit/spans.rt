@@ -18,7 +18,8 @@ pub struct SubmitSpans {
 }
 
 impl<'a> SubmitView<'a> {
-    /// Where the parts of a submission lie in the octets at whose front it was read, `used` of them.
+    /// Where the parts of a submission lie in the octets at whose front it was read, `used` of
+    /// them.
     pub fn spans(&self, octets: &[u8], used: usize) -> SubmitSpans
         requires { Reads submit self.now octets.now used }
         ensures { SubmissionLies self.now octets.now used result }

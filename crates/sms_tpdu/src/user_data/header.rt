@@ -101,8 +101,8 @@ impl Header {
         }
     }
 
-    /// The octets after the length octet, in a vector. Up to 16 may lie in the value itself, and take
-    /// memory; more are handed on as they lie.
+    /// The octets after the length octet, in a vector. Up to 16 may lie in the value itself, and
+    /// take memory; more are handed on as they lie.
     pub fn into_vec(self, alloc: Global) -> Result<Vec<u8>, AllocError>
         ensures octets { IfOk result (λ octets. octets.items ≡ self) }
         ensures succeeds { 16 < length self → IsOk result }

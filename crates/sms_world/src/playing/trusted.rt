@@ -67,8 +67,8 @@ pub fn play_trusted<S: Source, K: Sink>(
     })
 }
 
-/// As `play`, and after the transcript come the lines that tell what `play_trusted` answers: whether
-/// its run was orderly, where that is asked for, and whether `accepted` means accepted.
+/// As `play`, and after the transcript come the lines that tell what `play_trusted` answers:
+/// whether its run was orderly, where that is asked for, and whether `accepted` means accepted.
 pub fn play_with_accepted<S: Source, K: Sink>(
     alloc: Global,
     tells_order: bool,
