@@ -7,17 +7,17 @@ use Rattle.std.specs.Prelude.{◌&&◌, ◌==◌}
 use Rattle.std.proofs.lemmas.Bool.{eqb-true, eq-eqb, ltb-true}
 use Rattle.sms_text.specs.Tables.{main, extension, escape, code_of, character_of}
 
-abbrev lacks : ℕ → List (ℕ × ℕ) → Bool
+abbrev pub lacks : ℕ → List (ℕ × ℕ) → Bool
 lacks code [] = true
 lacks code (entry ∷ others) = not (entry.0 == code) && lacks code others
 
 -- no code stands twice
-abbrev is_unambiguous : List (ℕ × ℕ) → Bool
+abbrev pub is_unambiguous : List (ℕ × ℕ) → Bool
 is_unambiguous [] = true
 is_unambiguous (entry ∷ others) = lacks entry.0 others && is_unambiguous others
 
 -- each code is a septet
-abbrev has_septets : List (ℕ × ℕ) → Bool
+abbrev pub has_septets : List (ℕ × ℕ) → Bool
 has_septets [] = true
 has_septets (entry ∷ others) = ltb entry.0 128 && has_septets others
 
@@ -40,7 +40,7 @@ lacked_one at code c rest true l others f =
 lacked_one at code c rest false l others f = others f
 
 -- a code that the table lacks is no character's code
-lacked : (code c : ℕ) (table : List (ℕ × ℕ)) → lacks code table ≡ true → code_of table c ≡ Some code → ⊥
+pub lacked : (code c : ℕ) (table : List (ℕ × ℕ)) → lacks code table ≡ true → code_of table c ≡ Some code → ⊥
 unfolding code_of
 lacked code c [] l e = absurd cc
 lacked code c (entry ∷ others) l e =
@@ -58,7 +58,7 @@ again_one entry others c code false is l rest f = other_one (entry.0 == code) re
     other_one true e = absurd (lacked entry.0 c others l (f ∙ ap {B = Option ℕ} Some (sym (eqb-true entry.0 code e))))
     other_one false e = rest f
 
-character_again : (table : List (ℕ × ℕ)) (c code : ℕ) → is_unambiguous table ≡ true → code_of table c ≡ Some code → character_of table code ≡ Some c
+pub character_again : (table : List (ℕ × ℕ)) (c code : ℕ) → is_unambiguous table ≡ true → code_of table c ≡ Some code → character_of table code ≡ Some c
 unfolding code_of character_of
 character_again [] c code u e = absurd cc
 character_again (entry ∷ others) c code u e =
@@ -69,7 +69,7 @@ septet_one : (at code : ℕ) (rest : Option ℕ) (b : Bool) → ltb at 128 ≡ t
 septet_one at code rest true low others f = subst (λ (n : ℕ). n < 128) (same_some at code f) (ltb-true at 128 low)
 septet_one at code rest false low others f = others f
 
-septet : (table : List (ℕ × ℕ)) (c code : ℕ) → has_septets table ≡ true → code_of table c ≡ Some code → code < 128
+pub septet : (table : List (ℕ × ℕ)) (c code : ℕ) → has_septets table ≡ true → code_of table c ≡ Some code → code < 128
 unfolding code_of
 septet [] c code low e = absurd cc
 septet (entry ∷ others) c code low e =

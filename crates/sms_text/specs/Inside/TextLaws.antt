@@ -13,7 +13,7 @@ use Rattle.sms_text.specs.Inside.FrontLaws.{text_after_escape, text_from_plain}
 abbrev some_list : List ℕ → Option (List ℕ)
 some_list l = Some l
 
-same_list : (a b : List ℕ) → some_list a ≡ some_list b → a ≡ b
+pub same_list : (a b : List ℕ) → some_list a ≡ some_list b → a ≡ b
 same_list a b e = cc
 
 one_again : (c : ℕ) (front rest : List ℕ) (m e : Option ℕ) → code_of main c ≡ m → code_of extension c ≡ e → code_or_escaped m e ≡ Some front → text_of_septets (front ++ rest) ≡ c ∷ text_of_septets rest
@@ -25,7 +25,7 @@ one_again c front rest None (Some code) is also s =
     ap (λ (l : List ℕ). text_of_septets (l ++ rest)) (sym front_is) ∙ text_after_escape code rest ∙ ap (λ (o : Option ℕ). unwrap_or o (cond (code == escape) space (plain_character code)) ∷ text_of_septets rest) (extension_again c code also)
 one_again c front rest None None is also s = absurd cc
 
-appended_parts : (a b : Option (List ℕ)) (s : List ℕ) → appended a b ≡ Some s → (x : List ℕ) × (y : List ℕ) × (a ≡ Some x) × (b ≡ Some y) × (x ++ y ≡ s)
+pub appended_parts : (a b : Option (List ℕ)) (s : List ℕ) → appended a b ≡ Some s → (x : List ℕ) × (y : List ℕ) × (a ≡ Some x) × (b ≡ Some y) × (x ++ y ≡ s)
 appended_parts (Some x) (Some y) s e = (x, y, refl, refl, same_list (x ++ y) s e)
 appended_parts (Some x) None s e = absurd cc
 appended_parts None b s e = absurd cc
@@ -39,7 +39,7 @@ text_again (c ∷ text) septets e =
 
 -- ---- the septets of a text are septets
 
-septets-append : (xs ys : List ℕ) → AreSeptets xs → AreSeptets ys → AreSeptets (xs ++ ys)
+pub septets-append : (xs ys : List ℕ) → AreSeptets xs → AreSeptets ys → AreSeptets (xs ++ ys)
 septets-append [] ys p q = q
 septets-append (x ∷ xs) ys p q = (p.0, septets-append xs ys p.1 q)
 
