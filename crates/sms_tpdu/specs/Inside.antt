@@ -1,4 +1,5 @@
 -- What a reader may pass by: no public contract cites it.
+pub mod AloneLaws
 pub mod AnnouncedPartsLaws
 pub mod CommandLaws
 pub mod DataSpansLaws
@@ -13,6 +14,7 @@ pub mod RefusalLaws
 pub mod ReportKindLaws
 pub mod ReportLaws
 pub mod ReportOctetLaws
+pub mod SinglesLaws
 pub mod SizeLaws
 pub mod SpansLaws
 pub mod SpellingLaws

@@ -5,6 +5,7 @@ ghost use Rattle.sms_tpdu.specs.UserData.ConcatenationFound.{IsPlace, concat_of_
 
 pub mod body;
 pub mod concat;
+pub mod data_fault;
 pub mod elements;
 pub mod header;
 pub mod lengths;

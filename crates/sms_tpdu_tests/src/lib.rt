@@ -6,6 +6,8 @@ mod again;
 #[cfg(test)]
 mod alike;
 #[cfg(test)]
+mod alone;
+#[cfg(test)]
 mod command;
 #[cfg(test)]
 mod deliver;

@@ -9,8 +9,10 @@ ghost use Rattle.sms_tpdu.specs.UserData.ConcatenationFound.{IsPlace, concat_of_
 ghost use Rattle.sms_tpdu.specs.Inside.UserDataSeen.{user_data_in};
 ghost use Rattle.sms_tpdu.specs.UserData.Spans.{body_count, fill_of, span_of, spans_before};
 
+pub mod alone;
 pub mod body;
 pub mod header;
+pub mod singles;
 
 use crate::fault::UnitFault;
 use crate::user_data::UserData;

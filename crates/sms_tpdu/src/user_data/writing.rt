@@ -5,6 +5,8 @@ ghost use Rattle.sms_field.specs.declared.coding.Alphabet.{Alphabet};
 ghost use Rattle.sms_field.specs.declared.coding.Alphabet.TheVariants.{Gsm7};
 ghost use Rattle.sms_tpdu.specs.UserData.{header_octets, FitsAlphabet, SpellsBody, SpellsUserData};
 ghost use Rattle.sms_tpdu.specs.UserData.Lengths as lengths;
+ghost use Rattle.sms_tpdu.specs.UserData.Alone.{SpellsAlone};
+ghost use Rattle.sms_tpdu.specs.UserData.Singles.{single_octets};
 ghost use Rattle.sms_tpdu.specs.UserData.Lent.{place_header, units_body, user_after, SeptetsHaveRoom, Ucs2HaveRoom, HasRoom, IsReferenceInRange};
 ghost use Rattle.sms_tpdu.specs.declared.user_data.body.Body.TheVariants as body;
 ghost use Rattle.sms_text.specs.Bits.{AreSeptets};
@@ -246,5 +248,37 @@ impl UserData {
         let mut octets = Vec::with_capacity(alloc, room_for_user_data(self))?;
         put_user_data(&mut octets, self)?;
         Ok(octets)
+    }
+}
+
+impl UserData {
+    /// The octets of the user data alone, with no length before them: the header, and the septets
+    /// packed or the octets.
+    pub fn write_alone(&self, alloc: Global) -> Result<Vec<u8>, AllocError>
+        requires { (alphabet : Alphabet) × FitsAlphabet alphabet self.now }
+        ensures { IfOk result (λ octets. SpellsAlone self.now octets.items) }
+    {
+        let mut out = Vec::with_capacity(alloc, room_for_user_data(self))?;
+        let taken = octets_taken(&self.header);
+        put_header(&mut out, &self.header)?;
+        match &self.body {
+            Body::Septets(septets) => put_septets(&mut out, taken, septets.as_slice())?,
+            Body::Octets(octets) => out.extend_from_slice(octets.as_slice())?,
+        }
+        Ok(out)
+    }
+
+    /// The octets of the user data alone, with no length before them: the header, and the septets
+    /// one an octet, with no fill bits.
+    pub fn write_singles(&self, alloc: Global) -> Result<Vec<u8>, AllocError>
+        requires { FitsAlphabet Gsm7 self.now }
+        ensures { IfOk result (λ octets. octets.items ≡ single_octets self.now) }
+    {
+        let mut out = Vec::with_capacity(alloc, OCTETS_MAX + SEPTETS_MAX)?;
+        put_header(&mut out, &self.header)?;
+        if let Body::Septets(septets) = &self.body {
+            out.extend_from_slice(septets.as_slice())?;
+        }
+        Ok(out)
     }
 }
