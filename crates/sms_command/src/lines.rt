@@ -69,6 +69,8 @@ enum Out {
 pub struct Lines {
     out: Out,
     layer: Layer,
+    /// Whether texts are read under the national language tables that their headers tell.
+    heeds_languages: bool,
     /// Whether the layer lies in another one, and has no member yet.
     is_awaited: bool,
     /// How many layers lie in another one and have a member.
@@ -89,9 +91,20 @@ impl Lines {
         Lines {
             out,
             layer: Layer::Digits,
+            heeds_languages: false,
             is_awaited: false,
             inner: 0,
         }
+    }
+
+    /// Says whether texts are read under the national language tables that their headers tell.
+    pub fn heed_languages(&mut self, heeded: bool) {
+        self.heeds_languages = heeded;
+    }
+
+    /// Whether texts are read under the national language tables that their headers tell.
+    pub fn heeds_languages(&self) -> bool {
+        self.heeds_languages
     }
 
     /// What comes next is of this layer, whose members stand beside those before.

@@ -16,7 +16,7 @@ use crate::status_reports::{show_command, show_status_report};
 use crate::words::UnitKind;
 use sms_field::{AddressView, Alphabet, FieldFault, RpAddressView, alphabet_of};
 use sms_tpdu::{BodyView, DeliverView, HeaderView, SubmitView, UserDataView};
-use std::alloc::Global;
+use std::alloc::{AllocError, Global};
 
 /// The lines of a header: its octets, and the concatenation that it tells.
 fn put_header(lines: &mut Lines, header: &HeaderView<'_>) {
@@ -28,16 +28,31 @@ fn put_header(lines: &mut Lines, header: &HeaderView<'_>) {
     }
 }
 
+/// The text of user data, under the national language tables that their header tells where these
+/// are heeded.
+fn text_of(
+    alloc: Global,
+    lines: &Lines,
+    alphabet: Alphabet,
+    view: &UserDataView<'_>,
+) -> Result<Option<String>, AllocError> {
+    if lines.heeds_languages() {
+        view.body().text_under(alloc, alphabet, view.tables())
+    } else {
+        view.body().text(alloc, alphabet)
+    }
+}
+
 /// The line of a body: its text, or its octets where they are no text.
 fn put_body(
     alloc: Global,
     lines: &mut Lines,
     alphabet: Alphabet,
-    body: &BodyView<'_>,
+    view: &UserDataView<'_>,
 ) -> Result<(), Fault> {
-    if let Some(text) = body.text(alloc, alphabet)? {
+    if let Some(text) = text_of(alloc, lines, alphabet, view)? {
         lines.put("text", Escaped(&text));
-    } else if let BodyView::Octets(octets) = body {
+    } else if let BodyView::Octets(octets) = view.body() {
         lines.put("data", Hexadecimal(octets));
     }
     Ok(())
@@ -54,7 +69,7 @@ fn put_user(
     if let Some(header) = view.header() {
         put_header(lines, header);
     }
-    put_body(alloc, lines, alphabet_of(dcs), &view.body())
+    put_body(alloc, lines, alphabet_of(dcs), view)
 }
 
 /// The lines of an address, by the name of its party.

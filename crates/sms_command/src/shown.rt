@@ -94,6 +94,7 @@ fn put_entry(
     page: &mut Page,
 ) -> Result<bool, Fault> {
     let mut lines = Lines::new(shown.form, page.take(alloc));
+    lines.heed_languages(shown.heeds_languages);
     if let Some(number) = number {
         lines.put_json("line", Number(number));
     }

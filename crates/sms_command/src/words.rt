@@ -84,6 +84,8 @@ pub struct Shown<'a> {
     pub is_explained: bool,
     /// Whether a message of the relay may be any of the standard's.
     pub any: bool,
+    /// Whether texts are read under the national language tables that their headers tell.
+    pub heeds_languages: bool,
 }
 
 impl Shown<'_> {
@@ -293,6 +295,11 @@ static SUBCOMMANDS: [Subcommand; 6] = [
                 name: "any",
                 form: WordForm::Flag,
                 help: "rp, cp: the unit inside is of the kind that its first octet tells",
+            },
+            Word {
+                name: "languages",
+                form: WordForm::Flag,
+                help: "Texts are read under the national language tables that their headers tell",
             },
         ],
         example: None,
@@ -581,6 +588,7 @@ fn shown_of<'a>(found: &ArgMatches<'a>) -> Option<Request<'a>> {
         form: form_found(found),
         is_explained: found.get_flag("explain"),
         any: found.get_flag("any"),
+        heeds_languages: found.get_flag("languages"),
     }))
 }
 

@@ -32,6 +32,8 @@ mod joins;
 #[cfg(test)]
 mod jumps;
 #[cfg(test)]
+mod languages;
+#[cfg(test)]
 mod lines;
 #[cfg(test)]
 mod made;

@@ -6,8 +6,8 @@ ghost use Rattle.sms_language.specs.Inside.Words.{AreWords, AreWordsOf};
 
 use crate::tables::{Locking, Single, Tables};
 
-/// The UTF-8 of the character of each code of the default alphabet, a space at the escape: the octets,
-/// the lowest first, and in the highest how many they are.
+/// The UTF-8 of the character of each code of the default alphabet, a space at the escape: the
+/// octets, the lowest first, and in the highest how many they are.
 static DEFAULT_PLAIN: [u32; 128] = [
     0x100_0040, 0x200_A3C2, 0x100_0024, 0x200_A5C2, 0x200_A8C3, 0x200_A9C3, 0x200_B9C3, 0x200_ACC3,
     0x200_B2C3, 0x200_87C3, 0x100_000A, 0x200_98C3, 0x200_B8C3, 0x100_000D, 0x200_85C3, 0x200_A5C3,
@@ -67,8 +67,8 @@ static PORTUGUESE_PLAIN: [u32; 128] = [
     0x100_0078, 0x100_0079, 0x100_007A, 0x200_A3C3, 0x200_B5C3, 0x100_0060, 0x200_BCC3, 0x200_A0C3,
 ];
 
-/// The same of the character of each code after the escape, by the extension table; 0 at a code that
-/// it leaves reserved.
+/// The same of the character of each code after the escape, by the extension table; 0 at a code
+/// that it leaves reserved.
 static DEFAULT_SINGLE: [u32; 128] = [
     0, 0, 0, 0, 0, 0, 0, 0, 0, 0, 0x100_000C, 0, 0, 0, 0, 0, 0, 0, 0, 0, 0x100_005E, 0, 0, 0, 0, 0,
     0, 0, 0, 0, 0, 0, 0, 0, 0, 0, 0, 0, 0, 0, 0x100_007B, 0x100_007D, 0, 0, 0, 0, 0, 0x100_005C, 0,

@@ -1,5 +1,5 @@
-//! What follows from the definitions of user data alone. Each function is empty: its contract is the
-//! law.
+//! What follows from the definitions of user data alone. Each function is empty: its contract is
+//! the law.
 
 ghost use Rattle.sms_tpdu.specs.UserData.Alone.{UnitsReadTheSame, AloneComesBack, WholeIsLength, AloneIsKept, AloneIsRewritten};
 ghost use Rattle.sms_tpdu.specs.UserData.Singles.{SinglesComeBack, SinglesAreWritten};

@@ -27,8 +27,8 @@ const SECOND: [u8; 8] = [0x05, 0x00, 0x03, 0x07, 0x02, 0x02, 0xD0, 0x69];
 /// The same, a septet an octet.
 const SECOND_SINGLES: [u8; 8] = [0x05, 0x00, 0x03, 0x07, 0x02, 0x02, 0x68, 0x69];
 
-/// Octets that are read as data: whether a header stands before them, their alphabet and length, how
-/// many of them they take, and their text.
+/// Octets that are read as data: whether a header stands before them, their alphabet and length,
+/// how many of them they take, and their text.
 struct Row {
     octets: &'static [u8],
     with_header: bool,

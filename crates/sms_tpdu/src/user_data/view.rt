@@ -12,6 +12,7 @@ ghost use Rattle.sms_tpdu.specs.UserData.Spans.{body_count, fill_of, span_of, sp
 pub mod alone;
 pub mod body;
 pub mod header;
+mod languages;
 pub mod singles;
 
 use crate::fault::UnitFault;
