@@ -13,7 +13,6 @@ use Rattle.sms_language.specs.declared.tables.Tables.{Tables}
 use Rattle.sms_language.specs.Inside.Words.{AreWords, AreWordsOf, SpellsMaybe}
 use Rattle.sms_language.specs.declared.tables.Locking.{Locking}
 use Rattle.sms_language.specs.declared.tables.Locking.TheVariants as locking
-use Rattle.sms_language.specs.declared.tables.Single.{Single}
 use Rattle.sms_language.specs.declared.tables.Single.TheVariants as single
 use Rattle.sms_language.proofs.Passes.{both, each_passes}
 
