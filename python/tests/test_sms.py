@@ -32,7 +32,15 @@ class Readers(unittest.TestCase):
         self.assertEqual((message.body, message.header, message.place), (HELLO[19:], None, None))
         self.assertEqual(message.stamp.date, sms.Date(2099, 3, 29, 15, 16, 59, 8))
         self.assertEqual(message.stamp.moment, datetime(2099, 3, 29, 13, 16, 59, tzinfo=timezone.utc))
-        self.assertEqual(sms.Deliver.read(memoryview(HELLO + b"more")).used, 28)
+
+    def test_what_follows_a_unit_is_no_part_of_it(self):
+        message = sms.Deliver.read(HELLO)
+        for octets in (HELLO + b"more", bytearray(HELLO + b"x"), memoryview(HELLO + b"more")):
+            longer = sms.Deliver.read(octets)
+            self.assertEqual((longer, hash(longer), longer.octets, longer.used), (message, hash(message), HELLO, 28))
+            self.assertEqual((longer.text, pickle.loads(pickle.dumps(longer))), ("hellohello", message))
+        (unit,) = sms.Submit.write("+46708251358", "hellohello")
+        self.assertEqual(sms.Submit.read(unit + b"more").octets, unit)
 
     def test_each_front_is_refused_at_its_end(self):
         for front in range(len(HELLO)):
@@ -109,6 +117,8 @@ class Writers(unittest.TestCase):
             (sms.TooLong, lambda: sms.split("a" * 39016)),
             (sms.OutOfRange, lambda: sms.split("", reference=256)),
             (sms.OutOfRange, lambda: sms.Joiner(0, 1)),
+            (sms.OutOfRange, lambda: sms.Joiner(1, 2**64 + 1)),
+            (sms.OutOfRange, lambda: sms.Submit.write("1", "", pid=256)),
             (sms.OutOfRange, lambda: sms.Stamp.at(datetime(1999, 12, 31, tzinfo=timezone.utc))),
             (sms.OutOfRange, lambda: sms.Validity(1, b"").end(NOW)),
             (sms.NotThere, lambda: sms.Validity(2, bytes(7)).end(NOW)),
@@ -116,6 +126,66 @@ class Writers(unittest.TestCase):
         for error, call in cases:
             with self.subTest(error=error), self.assertRaises(error):
                 call()
+
+
+class Mistakes(unittest.TestCase):
+    def test_octets_are_octets(self):
+        with sms.Joiner() as joiner:
+            calls = [
+                sms.Deliver.read,
+                sms.Submit.read,
+                sms.DeliverReport.read_ack,
+                sms.SubmitReport.read_error,
+                sms.StatusReport.read,
+                sms.Command.read,
+                sms.Cp.read,
+                sms.Rp.read,
+                sms.Stamp,
+                lambda octets: sms.Validity(sms.Format.ENHANCED, octets),
+                lambda octets: sms.wrap(octets, flag=False, value=0, to_phone=True, reference=0),
+                lambda octets: sms.wrap_answer(octets, flag=False, value=0, to_phone=True, reference=0),
+                joiner.offer,
+                joiner.outcome,
+                joiner.would_finish,
+            ]
+            for call, wrong in itertools.product(calls, (7, 28.0, "0" * 7, None, [0] * 7)):
+                with self.subTest(call=call, wrong=wrong):
+                    with self.assertRaisesRegex(TypeError, f"^octets are bytes, .* not {type(wrong).__name__}$"):
+                        call(wrong)
+
+    def test_texts_moments_and_numbers_are_such(self):
+        cases = [
+            ("a text is a str, and not bytes", lambda: sms.split(b"text")),
+            ("a text is a str, and not int", lambda: sms.Submit.write(46708251358, "text")),
+            ("a moment is a datetime, and not int", lambda: sms.Stamp.at(0)),
+            ("a moment is a datetime, and not int", lambda: sms.Joiner().offer(HELLO, 0)),
+            ("a moment is a datetime, and not float", lambda: sms.Validity().end(0.0)),
+            ("'float' object", lambda: sms.split("", reference=1.0)),
+            ("'float' object", lambda: sms.Joiner(1.0, 1)),
+            ("'str'", lambda: sms.Submit.write("1", "", pid="0")),
+        ]
+        for told, call in cases:
+            with self.subTest(told=told), self.assertRaisesRegex(TypeError, told):
+                call()
+
+    def test_each_error_comes_back(self):
+        errors = [it for it in vars(sms).values() if isinstance(it, type) and issubclass(it, sms.Error)]
+        self.assertEqual(len(errors), 10)
+        told = [it() for it in errors if it is not sms.Refused] + [sms.OutOfRange("a moment has a time zone")]
+        told += [sms.Refused(18, sms.Reason.DATA_TOO_LONG), sms.Refused(0, sms.Reason(99))]
+        for protocol, error in itertools.product(range(pickle.HIGHEST_PROTOCOL + 1), told):
+            for again in (pickle.loads(pickle.dumps(error, protocol)), copy.copy(error), copy.deepcopy(error)):
+                self.assertIs(type(again), type(error))
+                self.assertEqual((again, hash(again), str(again)), (error, hash(error), str(error)))
+                self.assertEqual((again.args, vars(again)), (error.args, vars(error)))
+        self.assertNotEqual(told[-2], told[-1])
+        self.assertNotEqual(sms.NotThere(), sms.NotUtf8())
+
+    def test_a_reason_without_a_name(self):
+        self.assertEqual(str(sms.Refused(3, sms.Reason(99))), "at 3: reason 99")
+        self.assertEqual(sms.Reason(99), 99)
+        with self.assertRaises(ValueError):
+            sms.Reason("short")
 
 
 class Packets(unittest.TestCase):

@@ -3,9 +3,33 @@
 from __future__ import annotations
 
 import ctypes
+import enum
 import os
 from ctypes import POINTER, Structure, c_char_p, c_int8, c_size_t, c_uint8, c_uint16, c_uint32, c_uint64, c_void_p
 from pathlib import Path
+from typing import Any, Dict, List
+
+# The number of the interface, and the sizes that are always enough.
+ABI = 1
+TEXT_MAX, UNIT_MAX, PACKET_MAX, ADDRESS_TEXT_MAX = 480, 184, 258, 33
+# Of packets: CP-DATA and RP-DATA, CP-ACK and RP-ACK, CP-ERROR and RP-ERROR.
+KINDS = ("data", "ack", "error")
+
+
+class Status(enum.IntEnum):
+    """What a call answers."""
+
+    OK = 0
+    REFUSED = 1
+    NO_MEMORY = 2
+    NO_ROOM = 3
+    NOT_UTF8 = 4
+    BAD_ADDRESS = 5
+    TOO_LONG = 6
+    OUT_OF_RANGE = 7
+    NOT_THERE = 8
+    TOO_MANY_OPEN = 9
+    CLOSED = 10
 
 
 class Span(Structure):
@@ -210,7 +234,7 @@ class Joiner(Structure):
 
 
 # The structs by their names in sms.h.
-STRUCTS = {
+STRUCTS: Dict[str, Any] = {
     "sms_refused": Refused,
     "sms_span": Span,
     "sms_address": Address,
@@ -233,14 +257,14 @@ STRUCTS = {
     "sms_joiner": Joiner,
 }
 
-_IN = [c_char_p, c_size_t]
-_OUT = [POINTER(c_uint8), c_size_t, POINTER(c_size_t)]
+_IN: List[Any] = [c_char_p, c_size_t]
+_OUT: List[Any] = [POINTER(c_uint8), c_size_t, POINTER(c_size_t)]
 _REFUSED = POINTER(Refused)
 _ENVELOPE = POINTER(Envelope)
 _JOINER = POINTER(Joiner)
 
 # The parameters of each call, as sms.h declares them.
-CALLS = {
+CALLS: Dict[str, List[Any]] = {
     "sms_deliver_read": [*_IN, POINTER(Deliver), _REFUSED],
     "sms_submit_read": [*_IN, POINTER(Submit), _REFUSED],
     "sms_deliver_ack_read": [*_IN, POINTER(Report), _REFUSED],
@@ -282,17 +306,21 @@ CALLS = {
 }
 
 
+# What a call answers, where it is no status.
+ANSWERS: Dict[str, Any] = {"sms_joiner_close": None}
+
+
 def _path() -> str:
     """The shared library: SMS_LIBRARY names it, or it lies beside this file, or the loader finds it."""
-    beside = Path(__file__).with_name("libsms.so.1")
-    return os.environ.get("SMS_LIBRARY") or (str(beside) if beside.is_file() else "libsms.so.1")
+    beside = Path(__file__).with_name("libsms.so")
+    return os.environ.get("SMS_LIBRARY") or (str(beside) if beside.is_file() else f"libsms.so.{ABI}")
 
 
 def _loaded() -> ctypes.CDLL:
     loaded = ctypes.CDLL(_path())
     for name, parameters in CALLS.items():
         call = getattr(loaded, name)
-        call.argtypes, call.restype = parameters, None if name == "sms_joiner_close" else c_uint32
+        call.argtypes, call.restype = parameters, ANSWERS.get(name, c_uint32)
     return loaded
 
 
