@@ -60,17 +60,17 @@ pub enum Reason {
 impl Reason {
     fn of(number: u32) -> Reason {
         match number {
-            1 => Reason::Short,
-            2 => Reason::WrongType,
-            3 => Reason::AddressTooLong,
-            4 => Reason::BadDigit,
-            5 => Reason::DataTooLong,
-            6 => Reason::HeaderTooLong,
-            7 => Reason::NotSms,
-            8 => Reason::BadTransaction,
-            9 => Reason::UnknownType,
-            10 => Reason::BadRelayAddress,
-            11 => Reason::BadCause,
+            raw::SMS_SHORT => Reason::Short,
+            raw::SMS_WRONG_TYPE => Reason::WrongType,
+            raw::SMS_ADDRESS_TOO_LONG => Reason::AddressTooLong,
+            raw::SMS_BAD_DIGIT => Reason::BadDigit,
+            raw::SMS_DATA_TOO_LONG => Reason::DataTooLong,
+            raw::SMS_HEADER_TOO_LONG => Reason::HeaderTooLong,
+            raw::SMS_NOT_SMS => Reason::NotSms,
+            raw::SMS_BAD_TRANSACTION => Reason::BadTransaction,
+            raw::SMS_UNKNOWN_TYPE => Reason::UnknownType,
+            raw::SMS_BAD_RELAY_ADDRESS => Reason::BadRelayAddress,
+            raw::SMS_BAD_CAUSE => Reason::BadCause,
             other => Reason::Other(other),
         }
     }
@@ -140,14 +140,14 @@ pub enum Error {
 impl Error {
     fn of(status: u32, refused: raw::Refused) -> Error {
         match status {
-            1 => Error::Refused(Refused::of(refused)),
-            2 => Error::NoMemory,
-            4 => Error::NotUtf8,
-            5 => Error::BadAddress,
-            6 => Error::TooLong,
-            7 => Error::OutOfRange,
-            8 => Error::NotThere,
-            9 => Error::TooManyOpen,
+            raw::SMS_REFUSED => Error::Refused(Refused::of(refused)),
+            raw::SMS_NO_MEMORY => Error::NoMemory,
+            raw::SMS_NOT_UTF8 => Error::NotUtf8,
+            raw::SMS_BAD_ADDRESS => Error::BadAddress,
+            raw::SMS_TOO_LONG => Error::TooLong,
+            raw::SMS_OUT_OF_RANGE => Error::OutOfRange,
+            raw::SMS_NOT_THERE => Error::NotThere,
+            raw::SMS_TOO_MANY_OPEN => Error::TooManyOpen,
             other => Error::Other(other),
         }
     }
@@ -184,37 +184,57 @@ fn read<T: Default>(call: Reader<T>, octets: &[u8]) -> Result<T, Refused> {
     let (mut seen, mut refused) = (T::default(), raw::Refused::default());
     // SAFETY: the octets are as many as counted; the structs are ours, and of the call's types.
     match unsafe { call(octets.as_ptr(), octets.len(), &mut seen, &mut refused) } {
-        0 => Ok(seen),
+        raw::SMS_OK => Ok(seen),
         _ => Err(Refused::of(refused)),
     }
 }
 
 /// What a call of the form (.., out, room, needed) writes, with room made where it wants more.
 fn answer(room: usize, mut call: impl FnMut(*mut u8, usize, *mut usize) -> u32) -> Result<Vec<u8>, Error> {
-    let mut out = vec![0; room];
+    let mut out = Vec::new();
+    grow(&mut out, room)?;
     loop {
         let mut needed = 0;
         match call(out.as_mut_ptr(), out.len(), &mut needed) {
-            0 => {
+            raw::SMS_OK => {
                 out.truncate(needed);
                 return Ok(out);
             }
-            3 if needed > out.len() => out.resize(needed, 0),
+            raw::SMS_NO_ROOM if needed > out.len() => grow(&mut out, needed)?,
             status => return Err(Error::of(status, raw::Refused::default())),
         }
     }
 }
 
-fn text_of(octets: Vec<u8>) -> String {
-    String::from_utf8(octets).expect("the library writes UTF-8")
+/// Makes so many octets of it.
+fn grow(out: &mut Vec<u8>, length: usize) -> Result<(), Error> {
+    reserve(out, length.saturating_sub(out.len()))?;
+    out.resize(length, 0);
+    Ok(())
+}
+
+fn reserve<T>(out: &mut Vec<T>, more: usize) -> Result<(), Error> {
+    out.try_reserve_exact(more).map_err(|_| Error::NoMemory)
+}
+
+fn copied(octets: &[u8]) -> Result<Vec<u8>, Error> {
+    let mut own = Vec::new();
+    reserve(&mut own, octets.len())?;
+    own.extend_from_slice(octets);
+    Ok(own)
+}
+
+/// The octets of a span; it lies in them, as it was seen there.
+fn at(octets: &[u8], span: raw::Span) -> &[u8] {
+    &octets[span.offset..][..span.length]
+}
+
+/// The library writes nothing but UTF-8.
+fn text_of(octets: Vec<u8>) -> Result<String, Error> {
+    String::from_utf8(octets).map_err(|_| Error::NotUtf8)
 }
 
 // ---- parts
-
-const TEXT_MAX: usize = 480;
-const UNIT_MAX: usize = 184;
-const PACKET_MAX: usize = 258;
-const ADDRESS_TEXT_MAX: usize = 33;
 
 /// How user data are spelled.
 #[derive(Clone, Copy, Debug, PartialEq, Eq, Hash)]
@@ -228,9 +248,9 @@ pub enum Alphabet {
 impl Alphabet {
     fn of(number: u8) -> Alphabet {
         match number {
-            0 => Alphabet::Gsm7,
-            1 => Alphabet::EightBit,
-            2 => Alphabet::Ucs2,
+            raw::SMS_GSM7 => Alphabet::Gsm7,
+            raw::SMS_EIGHT_BIT => Alphabet::EightBit,
+            raw::SMS_UCS2 => Alphabet::Ucs2,
             _ => Alphabet::Compressed,
         }
     }
@@ -287,21 +307,21 @@ impl Stamp {
     pub fn date(self) -> Option<Date> {
         let (stamp, mut date) = (self.raw(), raw::Date::default());
         // SAFETY: both are ours.
-        (unsafe { raw::sms_stamp_date(&stamp, &mut date) } == 0).then_some(date)
+        (unsafe { raw::sms_stamp_date(&stamp, &mut date) } == raw::SMS_OK).then_some(date)
     }
 
     /// The moment; none where the octets are no date, or lie before 2000.
     pub fn moment(self) -> Option<u64> {
         let (stamp, mut seconds) = (self.raw(), 0);
         // SAFETY: both are ours.
-        (unsafe { raw::sms_stamp_moment(&stamp, &mut seconds) } == 0).then_some(seconds)
+        (unsafe { raw::sms_stamp_moment(&stamp, &mut seconds) } == raw::SMS_OK).then_some(seconds)
     }
 
     /// The stamp of a moment in a zone, given in quarters of an hour, -79 to 79.
     pub fn at(seconds: u64, quarters: i8) -> Option<Stamp> {
         let mut stamp = raw::Stamp::default();
         // SAFETY: it is ours.
-        (unsafe { raw::sms_stamp_at(seconds, quarters, &mut stamp) } == 0).then_some(Stamp(stamp.octets))
+        (unsafe { raw::sms_stamp_at(seconds, quarters, &mut stamp) } == raw::SMS_OK).then_some(Stamp(stamp.octets))
     }
 }
 
@@ -317,18 +337,20 @@ pub enum Validity {
 impl Validity {
     fn raw(self) -> raw::Validity {
         match self {
-            Validity::Absent => raw::Validity { format: 0, octets: [0; 7] },
-            Validity::Relative(octet) => raw::Validity { format: 1, octets: [octet, 0, 0, 0, 0, 0, 0] },
-            Validity::Enhanced(octets) => raw::Validity { format: 2, octets },
-            Validity::Absolute(stamp) => raw::Validity { format: 3, octets: stamp.0 },
+            Validity::Absent => raw::Validity { format: raw::SMS_VALIDITY_ABSENT, octets: [0; 7] },
+            Validity::Relative(octet) => {
+                raw::Validity { format: raw::SMS_VALIDITY_RELATIVE, octets: [octet, 0, 0, 0, 0, 0, 0] }
+            }
+            Validity::Enhanced(octets) => raw::Validity { format: raw::SMS_VALIDITY_ENHANCED, octets },
+            Validity::Absolute(stamp) => raw::Validity { format: raw::SMS_VALIDITY_ABSOLUTE, octets: stamp.0 },
         }
     }
 
     fn of(validity: raw::Validity) -> Validity {
         match validity.format {
-            0 => Validity::Absent,
-            1 => Validity::Relative(validity.octets[0]),
-            2 => Validity::Enhanced(validity.octets),
+            raw::SMS_VALIDITY_ABSENT => Validity::Absent,
+            raw::SMS_VALIDITY_RELATIVE => Validity::Relative(validity.octets[0]),
+            raw::SMS_VALIDITY_ENHANCED => Validity::Enhanced(validity.octets),
             _ => Validity::Absolute(Stamp(validity.octets)),
         }
     }
@@ -338,7 +360,7 @@ impl Validity {
         let (validity, mut seconds) = (self.raw(), 0);
         // SAFETY: both are ours.
         match unsafe { raw::sms_validity_end(&validity, accepted, &mut seconds) } {
-            0 => Ok(seconds),
+            raw::SMS_OK => Ok(seconds),
             status => Err(Error::of(status, raw::Refused::default())),
         }
     }
@@ -353,33 +375,30 @@ struct Seen<T> {
 }
 
 impl<T> Seen<T> {
-    fn at(&self, span: raw::Span) -> &[u8] {
-        &self.octets[span.offset..][..span.length]
+    fn of(octets: &[u8], parts: T, address: &raw::Address) -> Result<Seen<T>, Error> {
+        Ok(Seen { octets: copied(octets)?, parts, address: address_of(octets, address)? })
     }
 
     fn header(&self, user: &raw::User) -> Option<&[u8]> {
-        (user.has_header == 1).then(|| self.at(user.header))
+        (user.has_header == 1).then(|| at(&self.octets, user.header))
     }
 
     fn text(&self, user: &raw::User) -> Result<String, Error> {
-        let text = answer(TEXT_MAX, |out, room, needed| {
+        let text = answer(raw::SMS_TEXT_MAX, |out, room, needed| {
             // SAFETY: the octets are those that the part was seen in, and the rest is ours.
             unsafe { raw::sms_user_text(self.octets.as_ptr(), self.octets.len(), user, out, room, needed) }
         })?;
-        Ok(text_of(text))
+        text_of(text)
     }
 }
 
 /// The text of an address that was seen in these octets: only want of memory can prevent it.
-fn address_of(octets: &[u8], address: &raw::Address) -> String {
-    let text = answer(ADDRESS_TEXT_MAX, |out, room, needed| {
+fn address_of(octets: &[u8], address: &raw::Address) -> Result<String, Error> {
+    let text = answer(raw::SMS_ADDRESS_TEXT_MAX, |out, room, needed| {
         // SAFETY: the octets are those that the part was seen in, and the rest is ours.
         unsafe { raw::sms_address_text(octets.as_ptr(), octets.len(), address, out, room, needed) }
-    });
-    match text {
-        Ok(text) => text_of(text),
-        Err(_) => std::alloc::handle_alloc_error(std::alloc::Layout::new::<raw::Address>()),
-    }
+    })?;
+    text_of(text)
 }
 
 macro_rules! unit_parts {
@@ -410,7 +429,7 @@ macro_rules! unit_parts {
 
         /// The octets after the header.
         pub fn body(&self) -> &[u8] {
-            self.0.at(self.0.parts.user.body)
+            at(&self.0.octets, self.0.parts.user.body)
         }
 
         /// The place among the segments of its message, where it is one.
@@ -436,17 +455,16 @@ pub struct Deliver(Seen<raw::Deliver>);
 
 impl Deliver {
     /// Reads the unit at the front of the octets, and says how many it takes.
-    pub fn read(octets: &[u8]) -> Result<(Deliver, usize), Refused> {
+    pub fn read(octets: &[u8]) -> Result<(Deliver, usize), Error> {
         let parts = read(raw::sms_deliver_read, octets)?;
-        let octets = octets[..parts.used].to_vec();
-        let address = address_of(&octets, &parts.origin);
-        Ok((Deliver(Seen { octets, parts, address }), parts.used))
+        let used = parts.used;
+        Ok((Deliver(Seen::of(&octets[..used], parts, &parts.origin)?), used))
     }
 
     /// The segment of an index of a text as a unit, and how many segments there are.
     pub fn write(fields: &DeliverFields, origin: &str, text: &str, index: usize) -> Result<(Vec<u8>, usize), Error> {
         let (fields, mut segments) = (fields.raw(), 0);
-        let unit = answer(UNIT_MAX, |out, room, needed| {
+        let unit = answer(raw::SMS_UNIT_MAX, |out, room, needed| {
             // SAFETY: each pointer is to as many octets as are counted with it.
             unsafe {
                 raw::sms_deliver_write(
@@ -505,17 +523,16 @@ pub struct Submit(Seen<raw::Submit>);
 
 impl Submit {
     /// Reads the unit at the front of the octets, and says how many it takes.
-    pub fn read(octets: &[u8]) -> Result<(Submit, usize), Refused> {
+    pub fn read(octets: &[u8]) -> Result<(Submit, usize), Error> {
         let parts = read(raw::sms_submit_read, octets)?;
-        let octets = octets[..parts.used].to_vec();
-        let address = address_of(&octets, &parts.target);
-        Ok((Submit(Seen { octets, parts, address }), parts.used))
+        let used = parts.used;
+        Ok((Submit(Seen::of(&octets[..used], parts, &parts.target)?), used))
     }
 
     /// The segment of an index of a text as a unit, and how many segments there are.
     pub fn write(fields: &SubmitFields, target: &str, text: &str, index: usize) -> Result<(Vec<u8>, usize), Error> {
         let (fields, mut segments) = (fields.raw(), 0);
-        let unit = answer(UNIT_MAX, |out, room, needed| {
+        let unit = answer(raw::SMS_UNIT_MAX, |out, room, needed| {
             // SAFETY: each pointer is to as many octets as are counted with it.
             unsafe {
                 raw::sms_submit_write(
@@ -654,21 +671,24 @@ pub struct Report {
 }
 
 /// A header that is there has octets before it.
-fn header_of(octets: &[u8], span: raw::Span) -> Option<Vec<u8>> {
-    (span.offset > 0).then(|| octets[span.offset..][..span.length].to_vec())
+fn header_of(octets: &[u8], span: raw::Span) -> Result<Option<Vec<u8>>, Error> {
+    copied_where(span.offset > 0, octets, span)
 }
 
-fn report(call: Reader<raw::Report>, octets: &[u8]) -> Result<(Report, usize), Refused> {
+fn copied_where(there: bool, octets: &[u8], span: raw::Span) -> Result<Option<Vec<u8>>, Error> {
+    there.then(|| copied(at(octets, span))).transpose()
+}
+
+fn report(call: Reader<raw::Report>, octets: &[u8]) -> Result<(Report, usize), Error> {
     let seen = read(call, octets)?;
-    let data = &octets[seen.data.offset..][..seen.data.length];
     let report = Report {
         has_header: seen.has_header == 1,
         cause: (seen.has_cause == 1).then_some(seen.cause),
         stamp: (seen.has_stamp == 1).then_some(Stamp(seen.stamp.octets)),
         pid: (seen.has_pid == 1).then_some(seen.pid),
         dcs: (seen.has_dcs == 1).then_some(seen.dcs),
-        data: (seen.has_data == 1).then(|| data.to_vec()),
-        header: header_of(octets, seen.header),
+        data: copied_where(seen.has_data == 1, octets, seen.data)?,
+        header: header_of(octets, seen.header)?,
         length: seen.length,
         alphabet: Alphabet::of(seen.alphabet),
     };
@@ -677,22 +697,22 @@ fn report(call: Reader<raw::Report>, octets: &[u8]) -> Result<(Report, usize), R
 
 impl Report {
     /// Reads an SMS-DELIVER-REPORT of an RP-ACK, and says how many octets it takes.
-    pub fn read_deliver_ack(octets: &[u8]) -> Result<(Report, usize), Refused> {
+    pub fn read_deliver_ack(octets: &[u8]) -> Result<(Report, usize), Error> {
         report(raw::sms_deliver_ack_read, octets)
     }
 
     /// Reads an SMS-DELIVER-REPORT of an RP-ERROR.
-    pub fn read_deliver_error(octets: &[u8]) -> Result<(Report, usize), Refused> {
+    pub fn read_deliver_error(octets: &[u8]) -> Result<(Report, usize), Error> {
         report(raw::sms_deliver_error_read, octets)
     }
 
     /// Reads an SMS-SUBMIT-REPORT of an RP-ACK.
-    pub fn read_submit_ack(octets: &[u8]) -> Result<(Report, usize), Refused> {
+    pub fn read_submit_ack(octets: &[u8]) -> Result<(Report, usize), Error> {
         report(raw::sms_submit_ack_read, octets)
     }
 
     /// Reads an SMS-SUBMIT-REPORT of an RP-ERROR.
-    pub fn read_submit_error(octets: &[u8]) -> Result<(Report, usize), Refused> {
+    pub fn read_submit_error(octets: &[u8]) -> Result<(Report, usize), Error> {
         report(raw::sms_submit_error_read, octets)
     }
 }
@@ -738,16 +758,15 @@ pub struct StatusReport {
 impl StatusReport {
     /// Reads the unit at the front of the octets, and says how many it takes. TP-PI is read where another octet follows
     /// TP-ST.
-    pub fn read(octets: &[u8]) -> Result<(StatusReport, usize), Refused> {
+    pub fn read(octets: &[u8]) -> Result<(StatusReport, usize), Error> {
         let seen = read(raw::sms_status_report_read, octets)?;
-        let data = &octets[seen.data.offset..][..seen.data.length];
         let report = StatusReport {
             more: seen.more == 1,
             looped: seen.looped == 1,
             qualifier: seen.qualifier == 1,
             has_header: seen.has_header == 1,
             reference: seen.reference,
-            recipient: address_of(octets, &seen.recipient),
+            recipient: address_of(octets, &seen.recipient)?,
             type_of_number: seen.recipient.type_of_number,
             plan: seen.recipient.plan,
             stamp: Stamp(seen.stamp.octets),
@@ -755,8 +774,8 @@ impl StatusReport {
             status: seen.status,
             pid: (seen.has_pid == 1).then_some(seen.pid),
             dcs: (seen.has_dcs == 1).then_some(seen.dcs),
-            data: (seen.has_data == 1).then(|| data.to_vec()),
-            header: header_of(octets, seen.header),
+            data: copied_where(seen.has_data == 1, octets, seen.data)?,
+            header: header_of(octets, seen.header)?,
             length: seen.length,
             alphabet: Alphabet::of(seen.alphabet),
         };
@@ -790,7 +809,7 @@ pub struct Command {
 
 impl Command {
     /// Reads the unit at the front of the octets, and says how many it takes.
-    pub fn read(octets: &[u8]) -> Result<(Command, usize), Refused> {
+    pub fn read(octets: &[u8]) -> Result<(Command, usize), Error> {
         let seen = read(raw::sms_command_read, octets)?;
         let command = Command {
             has_header: seen.has_header == 1,
@@ -799,11 +818,11 @@ impl Command {
             pid: seen.pid,
             kind: seen.kind,
             message: seen.message,
-            target: address_of(octets, &seen.target),
+            target: address_of(octets, &seen.target)?,
             type_of_number: seen.target.type_of_number,
             plan: seen.target.plan,
-            data: octets[seen.data.offset..][..seen.data.length].to_vec(),
-            header: header_of(octets, seen.header),
+            data: copied(at(octets, seen.data))?,
+            header: header_of(octets, seen.header)?,
         };
         Ok((command, seen.used))
     }
@@ -834,8 +853,8 @@ impl<'a> Cp<'a> {
     pub fn read(octets: &'a [u8]) -> Result<(Cp<'a>, usize), Refused> {
         let seen = read(raw::sms_cp_read, octets)?;
         let body = match seen.kind {
-            0 => CpBody::Data(&octets[seen.user.offset..][..seen.user.length]),
-            1 => CpBody::Ack,
+            raw::KIND_DATA => CpBody::Data(at(octets, seen.user)),
+            raw::KIND_ACK => CpBody::Ack,
             _ => CpBody::Error(seen.cause),
         };
         Ok((Cp { flag: seen.flag == 1, value: seen.value, body }, seen.used))
@@ -863,14 +882,13 @@ impl<'a> Rp<'a> {
     /// Reads the message at the front of the octets, and says how many it takes.
     pub fn read(octets: &'a [u8]) -> Result<(Rp<'a>, usize), Refused> {
         let seen = read(raw::sms_rp_read, octets)?;
-        let at = |span: raw::Span| &octets[span.offset..][..span.length];
-        let user = (seen.has_user == 1).then(|| at(seen.user));
+        let user = (seen.has_user == 1).then(|| at(octets, seen.user));
         let body = match seen.kind {
-            0 => RpBody::Data {
-                address: (seen.has_address == 1).then(|| at(seen.address)),
-                user: at(seen.user),
+            raw::KIND_DATA => RpBody::Data {
+                address: (seen.has_address == 1).then(|| at(octets, seen.address)),
+                user: at(octets, seen.user),
             },
-            1 => RpBody::Ack { user },
+            raw::KIND_ACK => RpBody::Ack { user },
             _ => RpBody::Error {
                 cause: seen.cause,
                 diagnostic: (seen.has_diagnostic == 1).then_some(seen.diagnostic),
@@ -907,7 +925,7 @@ impl Envelope {
     /// address is given as text, or as no text.
     pub fn wrap(self, centre: &str, unit: &[u8]) -> Result<Vec<u8>, Error> {
         let envelope = self.raw();
-        answer(PACKET_MAX, |out, room, needed| {
+        answer(raw::SMS_PACKET_MAX, |out, room, needed| {
             // SAFETY: each pointer is to as many octets as are counted with it.
             unsafe {
                 raw::sms_wrap_data(
@@ -920,7 +938,7 @@ impl Envelope {
     /// A CP-DATA around an RP-ACK, and a unit where the octets are not empty.
     pub fn wrap_ack(self, unit: &[u8]) -> Result<Vec<u8>, Error> {
         let envelope = self.raw();
-        answer(PACKET_MAX, |out, room, needed| {
+        answer(raw::SMS_PACKET_MAX, |out, room, needed| {
             // SAFETY: each pointer is to as many octets as are counted with it.
             unsafe { raw::sms_wrap_ack(&envelope, unit.as_ptr(), unit.len(), out, room, needed) }
         })
@@ -929,7 +947,7 @@ impl Envelope {
     /// A CP-DATA around an RP-ERROR with a cause of 0 to 127, and a unit where the octets are not empty.
     pub fn wrap_error(self, cause: u8, unit: &[u8]) -> Result<Vec<u8>, Error> {
         let envelope = self.raw();
-        answer(PACKET_MAX, |out, room, needed| {
+        answer(raw::SMS_PACKET_MAX, |out, room, needed| {
             // SAFETY: each pointer is to as many octets as are counted with it.
             unsafe { raw::sms_wrap_error(&envelope, cause, unit.as_ptr(), unit.len(), out, room, needed) }
         })
@@ -939,14 +957,14 @@ impl Envelope {
     pub fn cp_ack(self) -> Result<Vec<u8>, Error> {
         let envelope = self.raw();
         // SAFETY: the envelope is ours.
-        answer(PACKET_MAX, |out, room, needed| unsafe { raw::sms_cp_ack(&envelope, out, room, needed) })
+        answer(raw::SMS_PACKET_MAX, |out, room, needed| unsafe { raw::sms_cp_ack(&envelope, out, room, needed) })
     }
 
     /// A CP-ERROR.
     pub fn cp_error(self, cause: u8) -> Result<Vec<u8>, Error> {
         let envelope = self.raw();
         // SAFETY: the envelope is ours.
-        answer(PACKET_MAX, |out, room, needed| unsafe { raw::sms_cp_error(&envelope, cause, out, room, needed) })
+        answer(raw::SMS_PACKET_MAX, |out, room, needed| unsafe { raw::sms_cp_error(&envelope, cause, out, room, needed) })
     }
 }
 
@@ -965,7 +983,11 @@ pub fn split(reference: Reference, text: &str) -> Result<(Vec<Vec<u8>>, u8), Err
             )
         }
     })?;
-    let users = spans[..segments].iter().map(|it| out[it.offset..][..it.length].to_vec()).collect();
+    let mut users = Vec::new();
+    reserve(&mut users, segments)?;
+    for span in &spans[..segments] {
+        users.push(copied(at(&out, *span))?);
+    }
     Ok((users, dcs))
 }
 
@@ -997,13 +1019,14 @@ impl Joiner {
         let mut joiner = raw::Joiner::CLOSED;
         // SAFETY: it is ours, and closed.
         match unsafe { raw::sms_joiner_open(&mut joiner, open_max, remembered) } {
-            0 => Ok(Joiner(joiner)),
+            raw::SMS_OK => Ok(Joiner(joiner)),
             status => Err(Error::of(status, raw::Refused::default())),
         }
     }
 
     /// Offers an SMS-DELIVER that came at a moment, in seconds from the beginning of 2000; `NotThere` where its user
-    /// data are no text (8-bit, compressed).
+    /// data are no text (8-bit, compressed). After `NoMemory` it may be offered again: where memory ended once its message
+    /// was whole, it is a repeat then, and [`text`](Joiner::text) has the text.
     pub fn offer(&mut self, seconds: u64, octets: &[u8]) -> Result<Offer, Error> {
         let (mut outcome, mut refused) = (0, raw::Refused::default());
         // SAFETY: the octets are as many as counted, and the rest is ours.
@@ -1011,9 +1034,9 @@ impl Joiner {
             raw::sms_joiner_offer(&mut self.0, seconds, octets.as_ptr(), octets.len(), &mut outcome, &mut refused)
         };
         match (status, outcome) {
-            (0, 0) => Ok(Offer::Repeat),
-            (0, 1) => Ok(Offer::Kept),
-            (0, _) => Ok(Offer::Finished(self.text()?)),
+            (raw::SMS_OK, raw::SMS_REPEAT) => Ok(Offer::Repeat),
+            (raw::SMS_OK, raw::SMS_KEPT) => Ok(Offer::Kept),
+            (raw::SMS_OK, _) => Ok(Offer::Finished(self.text()?)),
             (status, _) => Err(Error::of(status, refused)),
         }
     }
@@ -1021,10 +1044,10 @@ impl Joiner {
     /// The text that finished last; empty before one did.
     pub fn text(&mut self) -> Result<String, Error> {
         // SAFETY: the room is as counted, and the joiner is ours.
-        let text = answer(TEXT_MAX, |out, room, needed| unsafe {
+        let text = answer(raw::SMS_TEXT_MAX, |out, room, needed| unsafe {
             raw::sms_joiner_text(&mut self.0, out, room, needed)
         })?;
-        Ok(text_of(text))
+        text_of(text)
     }
 
     /// Whether an SMS-DELIVER would finish its message; nothing changes. `NotThere` where `offer` answers so.
@@ -1034,7 +1057,7 @@ impl Joiner {
         match unsafe {
             raw::sms_joiner_would_finish(&mut self.0, octets.as_ptr(), octets.len(), &mut finishes, &mut refused)
         } {
-            0 => Ok(finishes == 1),
+            raw::SMS_OK => Ok(finishes == 1),
             status => Err(Error::of(status, refused)),
         }
     }

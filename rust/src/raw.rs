@@ -1,4 +1,54 @@
-//! The structs and calls of sms.h. The rest of this crate is the safe way to them.
+//! The numbers, structs and calls of sms.h. The rest of this crate is the safe way to them.
+
+pub const SMS_ABI: u32 = 1;
+
+pub const SMS_TEXT_MAX: usize = 480;
+pub const SMS_UNIT_MAX: usize = 184;
+pub const SMS_PACKET_MAX: usize = 258;
+pub const SMS_ADDRESS_TEXT_MAX: usize = 33;
+
+pub const SMS_OK: u32 = 0;
+pub const SMS_REFUSED: u32 = 1;
+pub const SMS_NO_MEMORY: u32 = 2;
+pub const SMS_NO_ROOM: u32 = 3;
+pub const SMS_NOT_UTF8: u32 = 4;
+pub const SMS_BAD_ADDRESS: u32 = 5;
+pub const SMS_TOO_LONG: u32 = 6;
+pub const SMS_OUT_OF_RANGE: u32 = 7;
+pub const SMS_NOT_THERE: u32 = 8;
+pub const SMS_TOO_MANY_OPEN: u32 = 9;
+pub const SMS_CLOSED: u32 = 10;
+
+pub const SMS_SHORT: u32 = 1;
+pub const SMS_WRONG_TYPE: u32 = 2;
+pub const SMS_ADDRESS_TOO_LONG: u32 = 3;
+pub const SMS_BAD_DIGIT: u32 = 4;
+pub const SMS_DATA_TOO_LONG: u32 = 5;
+pub const SMS_HEADER_TOO_LONG: u32 = 6;
+pub const SMS_NOT_SMS: u32 = 7;
+pub const SMS_BAD_TRANSACTION: u32 = 8;
+pub const SMS_UNKNOWN_TYPE: u32 = 9;
+pub const SMS_BAD_RELAY_ADDRESS: u32 = 10;
+pub const SMS_BAD_CAUSE: u32 = 11;
+
+pub const SMS_GSM7: u8 = 0;
+pub const SMS_EIGHT_BIT: u8 = 1;
+pub const SMS_UCS2: u8 = 2;
+pub const SMS_COMPRESSED: u8 = 3;
+
+pub const SMS_VALIDITY_ABSENT: u8 = 0;
+pub const SMS_VALIDITY_RELATIVE: u8 = 1;
+pub const SMS_VALIDITY_ENHANCED: u8 = 2;
+pub const SMS_VALIDITY_ABSOLUTE: u8 = 3;
+
+pub const SMS_REPEAT: u32 = 0;
+pub const SMS_KEPT: u32 = 1;
+pub const SMS_FINISHED: u32 = 2;
+
+/// CP-DATA and RP-DATA, CP-ACK and RP-ACK, CP-ERROR and RP-ERROR.
+pub const KIND_DATA: u8 = 0;
+pub const KIND_ACK: u8 = 1;
+pub const KIND_ERROR: u8 = 2;
 
 macro_rules! structs {
     ($($(#[$doc:meta])* $c:literal $name:ident { $($field:ident: $type:ty,)* })*) => {

@@ -12,6 +12,10 @@ const HELLO: [u8; 28] = [
 ];
 const STAMP: Stamp = Stamp([0x99, 0x30, 0x92, 0x51, 0x61, 0x95, 0x80]);
 
+fn refused(place: usize, reason: Reason) -> Option<Error> {
+    Some(Error::Refused(Refused { place, reason }))
+}
+
 fn long() -> String {
     (0..200).map(|i| char::from(b'a' + i % 26)).collect()
 }
@@ -31,8 +35,7 @@ fn reads_a_delivery() {
 #[test]
 fn refuses_each_front_at_its_end() {
     for front in 0..HELLO.len() {
-        let refused = Deliver::read(&HELLO[..front]).unwrap_err();
-        assert_eq!(refused, Refused { place: front, reason: Reason::Short });
+        assert_eq!(Deliver::read(&HELLO[..front]).err(), refused(front, Reason::Short));
     }
     let refused: Box<dyn std::error::Error> = Submit::read(&HELLO).unwrap_err().into();
     assert_eq!(refused.to_string(), "at 0: wrong type");
@@ -91,7 +94,7 @@ fn reads_status_reports() {
     assert_eq!((report.status, report.pid, report.dcs, used), (0x46, Some(0x7F), Some(4), 27));
     assert_eq!((report.data.as_deref(), report.length), (Some(&[0xAA, 0xBB][..]), 2));
     assert_eq!(report.alphabet, Alphabet::EightBit);
-    assert_eq!(StatusReport::read(&full[..19]), Err(Refused { place: 19, reason: Reason::Short }));
+    assert_eq!(StatusReport::read(&full[..19]).err(), refused(19, Reason::Short));
 }
 
 #[test]
@@ -104,8 +107,8 @@ fn reads_commands() {
     assert_eq!((command.data.as_slice(), command.header), (&[0xAA, 0xBB, 0xCC][..], None));
     let headed = [0xFE, 0x08, 0x41, 0x00, 0x06, 0x02, 0x81, 0x21, 0x03, 0x02, 0xBB, 0xCC];
     assert_eq!(Command::read(&headed).unwrap().0.header.as_deref(), Some(&[0xBB, 0xCC][..]));
-    let refused = Refused { place: 8, reason: Reason::DataTooLong };
-    assert_eq!(Command::read(&[0x02, 0x07, 0x00, 0x02, 0x05, 0x02, 0x81, 0x21, 0x9E]), Err(refused));
+    let beyond = [0x02, 0x07, 0x00, 0x02, 0x05, 0x02, 0x81, 0x21, 0x9E];
+    assert_eq!(Command::read(&beyond).err(), refused(8, Reason::DataTooLong));
 }
 
 #[test]
@@ -147,8 +150,7 @@ fn joins_in_any_order_once() {
     assert_eq!(joiner.offer(0, &other), Err(Error::TooManyOpen));
     assert_eq!(joiner.offer(1, &units[0]), Ok(Offer::Finished(long())));
     assert_eq!((joiner.offer(1, &units[0]), joiner.text()), (Ok(Offer::Repeat), Ok(long())));
-    let refused = Refused { place: 3, reason: Reason::Short };
-    assert_eq!(joiner.offer(1, &other[..3]), Err(Error::Refused(refused)));
+    assert_eq!(joiner.offer(1, &other[..3]).err(), refused(3, Reason::Short));
     assert_eq!(Joiner::open(0, 1).err(), Some(Error::OutOfRange));
 }
 
