@@ -167,6 +167,7 @@ if there python3; then
 	fi
 	python3 "$here/tests/shown.py" "$here/../docs/C.md"
 	python3 "$here/tests/agree.py" "$room/layout.c.txt" "$SMS_LIBRARY" ${of_rust:+"$of_rust"}
+	python3 "$here/tests/planted.py" "$room/layout.c.txt" "$SMS_LIBRARY"
 	program=${SMS_PROGRAM:-$here/../crates/sms/out/sms}
 	if [ -x "$program" ] || [ -n "${SMS_PROGRAM:-}" ]; then
 		python3 "$here/tests/beside_show.py" "$program" "$units"
