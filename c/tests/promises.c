@@ -584,18 +584,19 @@ static void rubbish(unsigned turns)
         size_t needed;
         if (sms_deliver_read(own, count, &d, &refused) == SMS_OK) {
             CHECK(d.used <= count && d.user.body.offset + d.user.body.length == d.used);
-            (void)sms_user_text(own, count, &d.user, text, sizeof text, &needed);
+            int has_text = d.user.alphabet == SMS_GSM7 || d.user.alphabet == SMS_UCS2;
+            CHECK(sms_user_text(own, count, &d.user, text, sizeof text, &needed) == (has_text ? SMS_OK : SMS_NOT_THERE));
             CHECK(needed <= sizeof text);
             CHECK(sms_address_text(own, count, &d.origin, text, SMS_ADDRESS_TEXT_MAX, &needed) == SMS_OK);
         } else
             CHECK(refused.place <= count);
-        (void)sms_submit_read(own, count, &s, &refused);
-        (void)sms_deliver_ack_read(own, count, &r, &refused);
-        (void)sms_deliver_error_read(own, count, &r, &refused);
-        (void)sms_submit_ack_read(own, count, &r, &refused);
-        (void)sms_submit_error_read(own, count, &r, &refused);
-        (void)sms_cp_read(own, count, &cp, &refused);
-        (void)sms_rp_read(own, count, &rp, &refused);
+        CHECK(sms_submit_read(own, count, &s, &refused) <= SMS_REFUSED);
+        CHECK(sms_deliver_ack_read(own, count, &r, &refused) <= SMS_REFUSED);
+        CHECK(sms_deliver_error_read(own, count, &r, &refused) <= SMS_REFUSED);
+        CHECK(sms_submit_ack_read(own, count, &r, &refused) <= SMS_REFUSED);
+        CHECK(sms_submit_error_read(own, count, &r, &refused) <= SMS_REFUSED);
+        CHECK(sms_cp_read(own, count, &cp, &refused) <= SMS_REFUSED);
+        CHECK(sms_rp_read(own, count, &rp, &refused) <= SMS_REFUSED);
         if (count > 5) {
             own[0] = (uint8_t)((own[0] & 0xFC) | 2);
             own[2] %= 12;
