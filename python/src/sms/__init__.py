@@ -95,6 +95,9 @@ class Reason(enum.IntEnum):
         other._name_, other._value_ = f"REASON_{value}", value
         return other
 
+    def __reduce_ex__(self, protocol: object) -> Tuple[Type[Reason], Tuple[int]]:
+        return type(self), (int(self),)
+
 
 class Error(Exception):
     """A call of the library did not do what it is for. Two are equal that are of one class and say the same, as one is and
