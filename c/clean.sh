@@ -126,7 +126,7 @@ faces() {
 	session "C, with gcc and clang" . <<'END'
 PREFIX=$HOME/.local c/build.sh
 PREFIX=$HOME/.local CCS=gcc CXXS=g++ UNITS=1000 c/check.sh
-sudo apt install clang valgrind
+sudo apt install clang valgrind mypy
 PREFIX=$HOME/.local CCS=clang CXXS=clang++ UNITS=1000 c/check.sh
 PREFIX=$HOME/.local c/build.sh --uninstall
 END
@@ -165,6 +165,8 @@ END
 
 packages() {
 	session "the packages, installed, used and removed" . <<'END'
+sudo apt install --no-install-recommends lintian
+lintian --fail-on error /debs/*.deb
 sudo apt purge $LIBSMS libsms-dev sms python3-sms
 sudo apt install /debs/*.deb
 dpkg --verify $LIBSMS libsms-dev sms python3-sms
