@@ -2,10 +2,10 @@
 
     python3 agree.py LAYOUT LIBRARY [RUST]
 
-LAYOUT is what layout.c prints, LIBRARY the shared library, and RUST what `cargo run --example layout` prints. Compared are
-the fields of each struct with their types, offsets and sizes; the parameters of each call with their names, types, signs and
-constness, and its answer; the names that are exported; and each number that has a name. Each difference is printed, and the
-status is 1 where there is one.
+LAYOUT is what layout.c prints, LIBRARY the shared library, beside which libsms.a lies, and RUST what `cargo run --example
+layout` prints. Compared are the fields of each struct with their types, offsets and sizes; the parameters of each call with
+their names, types, signs and constness, and its answer; the names that are exported; and each number that has a name. Each
+difference is printed, and the status is 1 where there is one.
 """
 
 import difflib
@@ -74,13 +74,19 @@ def calls(of_python):
     differs("the calls of sms.h and of Python", of_calls(seen), of_calls(of_python.calls()))
 
 
+def defined(library, which):
+    ran = subprocess.run(["nm", which, "--defined-only", library], capture_output=True, text=True, check=True)
+    return {it.split()[-1] for it in ran.stdout.splitlines() if it and not it.endswith(":")}
+
+
 def names(library):
     listed = re.findall(r"^    (\w+);$", (TOP / "c" / "sms.map").read_text(encoding="utf-8"), re.M)
     differs("the names of sms.h and of sms.map", sorted(of_header.calls()), listed)
-    ran = subprocess.run(["nm", "-D", "--defined-only", library], capture_output=True, text=True, check=True)
     version = f"SMS_{of_header.constants()['SMS_ABI']}"
-    exported = sorted({it.split()[-1] for it in ran.stdout.splitlines()} - {version})
-    differs("the names of sms.map and of the library", [f"{it}@@{version}" for it in listed], exported)
+    wanted = [f"{it}@@{version}" for it in listed]
+    differs("the names of sms.map and of the library", wanted, sorted(defined(library, "-D") - {version}))
+    archive = Path(library).with_name("libsms.a")
+    differs("the names of sms.map and of libsms.a", listed, sorted(defined(archive, "-g")))
 
 
 # ---- numbers
