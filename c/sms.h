@@ -35,8 +35,8 @@
 extern "C" {
 #endif
 
-/* The number of this interface: what stands of it changes only with that. Without it calls, statuses and
- * reasons may be added. */
+/* The number of this interface. Structs, calls and numbers that there are change only with it; calls,
+ * statuses and reasons may be added without. */
 #define SMS_ABI 1
 
 /* Enough octets for any text of one unit, any unit that is written, any packet, any text of an address. */
@@ -48,7 +48,7 @@ extern "C" {
 /* ---- what a call answers */
 
 typedef uint32_t sms_status;
-/* A call's status, where the compiler warns of a caller that does not look at it. */
+/* A status that a call answers: a compiler warns where it is not looked at. */
 #if defined(__GNUC__)
 #define SMS_STATUS __attribute__((warn_unused_result)) sms_status
 #elif defined(__STDC_VERSION__) && __STDC_VERSION__ >= 202311L
