@@ -66,11 +66,15 @@ in_c() {
 		guards=
 	fi
 	echo "== $cc, libsms.a ${guards:+under the sanitizers}"
-	$cc $flags $guards "$here/tests/promises.c" "$prefix/lib/libsms.a" -o "$room/static"
-	"$room/static" "$units"
+	for test in writers promises; do
+		$cc $flags $guards "$here/tests/$test.c" "$prefix/lib/libsms.a" -o "$room/static"
+		"$room/static" "$units"
+	done
 	echo "== $cc, libsms.so"
-	$cc $flags "$here/tests/promises.c" $dynamic -o "$room/shared"
-	"$room/shared" "$units"
+	for test in writers promises; do
+		$cc $flags "$here/tests/$test.c" $dynamic -o "$room/shared"
+		"$room/shared" "$units"
+	done
 	echo "== $cc, each request for memory refused in turn"
 	$cc $flags "$here/tests/memory.c" "$prefix/lib/libsms.a" -Wl,--wrap=malloc,--wrap=realloc,--wrap=free -o "$room/memory"
 	"$room/memory"

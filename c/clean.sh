@@ -102,10 +102,12 @@ END
 
 # session TITLE FOLDER: the lines on standard input are run in one shell of the user, which begins in the folder of the
 # checkout. BUILT stands for the proof, neither cargo nor pip may ask a registry, and LIBSMS is the package with the library.
+# The checkout there has no git that could name a maintainer.
 session() {
 	cat >"$root/lines"
 	echo "== $1"
 	chroot --userspec=user:user "$root" env -i HOME=/home/user USER=user LANG=C.UTF-8 PATH=/usr/local/bin:/usr/bin:/bin \
+		DEBFULLNAME="${DEBFULLNAME:-$(git -C "$top" log -1 --format=%an)}" DEBEMAIL="${DEBEMAIL:-$(git -C "$top" log -1 --format=%ae)}" \
 		BUILT=/built LIBSMS="libsms$abi" CARGO_NET_OFFLINE=true PIP_NO_INDEX=1 bash /runner "/home/user/sms/$2"
 }
 

@@ -37,7 +37,7 @@ extern "C" {
 
 /* The number of this interface. Structs, calls and numbers that there are change only with it; calls,
  * statuses and reasons may be added without. */
-#define SMS_ABI 1
+#define SMS_ABI 2
 
 /* Enough octets for any text of one unit, any unit that is written, any packet, any text of an address. */
 #define SMS_TEXT_MAX 480
@@ -332,6 +332,8 @@ typedef struct sms_submit_fields {
     uint8_t reference; /* TP-MR */
     uint8_t pid;
     sms_validity validity;
+    uint8_t message_class; /* 0: none; 1 to 4: class 0 to 3 (TP-DCS, 3GPP TS 23.038, 4) */
+    uint8_t spare[6];      /* must be 0 */
 } sms_submit_fields;
 
 typedef struct sms_deliver_fields {
@@ -342,6 +344,8 @@ typedef struct sms_deliver_fields {
     uint8_t reply;
     uint8_t pid;
     sms_stamp stamp;
+    uint8_t message_class; /* as above */
+    uint8_t spare[6];      /* must be 0 */
 } sms_deliver_fields;
 
 /* The segment of an index, from 0, of a text as a whole unit. *segments is how many there are (0 where
@@ -362,6 +366,30 @@ SMS_STATUS sms_deliver_write(const sms_deliver_fields *fields, const uint8_t *or
 SMS_STATUS sms_split(const sms_reference *reference, const uint8_t *text, size_t text_count,
                      uint8_t *out, size_t room, size_t *needed,
                      sms_span *spans, size_t span_count, size_t *segments, uint8_t *dcs);
+
+/* ---- the version of the library: 1,000,000 for a major number, 1,000 for a minor one, 1 for a patch */
+
+#define SMS_VERSION 2000000
+
+/* That of the library that is loaded, to be compared with SMS_VERSION at run time. */
+uint32_t sms_version(void);
+
+/* ---- more texts, as sms_address_text and sms_user_text */
+
+/* The text of the centre's address in an RP-DATA that sms_rp_read found in these octets: its digits,
+ * after a + where the type of number is 1. SMS_NOT_THERE: there is none. SMS_OUT_OF_RANGE or
+ * SMS_REFUSED: the struct does not fit these octets. Also SMS_NO_ROOM, SMS_NO_MEMORY. */
+SMS_STATUS sms_relay_address_text(const uint8_t *octets, size_t count, const sms_rp *rp,
+                                  uint8_t *out, size_t room, size_t *needed);
+/* The text of the user data of a report, or of a status report, after their header, that a call above
+ * found in these octets: septets or UCS-2 as its TP-DCS tells, septets where there is none.
+ * SMS_NOT_THERE: there are none, or they are no text (8-bit, compressed), or the header goes beyond
+ * them. SMS_OUT_OF_RANGE: the struct does not fit these octets, or has another length than its TP-UDL
+ * counts, or more than 159 octets. Also SMS_NO_ROOM, SMS_NO_MEMORY. */
+SMS_STATUS sms_report_text(const uint8_t *octets, size_t count, const sms_report *report,
+                           uint8_t *out, size_t room, size_t *needed);
+SMS_STATUS sms_status_report_text(const uint8_t *octets, size_t count, const sms_status_report *report,
+                                  uint8_t *out, size_t room, size_t *needed);
 
 /* ---- joining segments. A joiner lies in the caller's memory and holds memory of the library. Begin
  * with SMS_JOINER_CLOSED, change nothing in it, and never use a copy of an open one. */
@@ -428,8 +456,8 @@ SMS_HAS(32, sms_cp);
 SMS_HAS(48, sms_rp);
 SMS_HAS(4, sms_envelope);
 SMS_HAS(4, sms_reference);
-SMS_HAS(18, sms_submit_fields);
-SMS_HAS(16, sms_deliver_fields);
+SMS_HAS(24, sms_submit_fields);
+SMS_HAS(24, sms_deliver_fields);
 SMS_HAS(16, sms_joiner);
 #undef SMS_HAS
 #endif

@@ -106,21 +106,25 @@ def numbers(of_python):
     differs("the names of statuses and of Python's exceptions", of_python.misnamed(), [])
     wrong, count = of_rust.misnamed()
     differs("the names of numbers and of Rust's variants", wrong, [])
-    # Statuses but three (all is well, no room, closed); reasons; alphabets but the last, which stands for all else; formats
-    # as they are taken, and but the last as they are shown; outcomes but the last; kinds of CP and of RP but the last.
+    # Statuses but three (all is well, no room, closed); reasons; alphabets and formats as they are given, and as they are
+    # seen, but the last, which stands for all else; outcomes but the last; kinds of CP and of RP but the last.
     much = {group: len(members) for group, members in header.items()}
-    arms = much["status"] - 3 + much["reason"] + much["alphabet"] - 1 + 2 * much["format"] - 1 + much["outcome"] - 1 + 4
+    arms = much["status"] - 3 + much["reason"] + 2 * much["alphabet"] - 1 + 2 * much["format"] - 1 + much["outcome"] - 1 + 4
     differs("the arms of Rust", [str(arms)], [str(count)])
 
 
 def versions(of_python):
     version = told(TOP / "c" / "VERSION")[0]
-    abi = version.partition(".")[0]
+    abi, minor, patch = map(int, version.split("."))
+    number = 1_000_000 * abi + 1000 * minor + patch
     files = {it: (TOP / it).read_text(encoding="utf-8") for it in ("python/pyproject.toml", "rust/Cargo.toml", "rust/Cargo.lock")}
     own = re.compile('^name = "sms"$.*?^version = "(.*?)"$', re.M | re.S)
     found = [f"{name} {own.search(text)[1]}" for name, text in files.items()]
-    found += [f"sms.h {of_header.constants()['SMS_ABI']}", f"Python {of_python.raw.ABI}"]
-    differs("c/VERSION and what follows it", [*(f"{it} {version}" for it in files), f"sms.h {abi}", f"Python {abi}"], found)
+    header, python = of_header.constants(), of_python.raw
+    found += [f"SMS_ABI {header['SMS_ABI']}", f"SMS_VERSION {header['SMS_VERSION']}", f"sms_c {of_crate.version()}"]
+    found += [f"Python {python.ABI}", f"Python {python.VERSION}", f"the library {python.lib.sms_version()}"]
+    wanted = [*(f"{it} {version}" for it in files), f"SMS_ABI {abi}", f"SMS_VERSION {number}", f"sms_c {number}"]
+    differs("c/VERSION and what follows it", [*wanted, f"Python {abi}", f"Python {number}", f"the library {number}"], found)
 
 
 def main():

@@ -161,6 +161,8 @@ static void writers(void)
     FIELD(sms_submit_fields, reference);
     FIELD(sms_submit_fields, pid);
     FIELD(sms_submit_fields, validity);
+    FIELD(sms_submit_fields, message_class);
+    FIELD(sms_submit_fields, spare);
     STRUCT(sms_deliver_fields);
     FIELD(sms_deliver_fields, segments);
     FIELD(sms_deliver_fields, more);
@@ -169,6 +171,8 @@ static void writers(void)
     FIELD(sms_deliver_fields, reply);
     FIELD(sms_deliver_fields, pid);
     FIELD(sms_deliver_fields, stamp);
+    FIELD(sms_deliver_fields, message_class);
+    FIELD(sms_deliver_fields, spare);
     STRUCT(sms_joiner);
     FIELD(sms_joiner, open);
     FIELD(sms_joiner, inside);

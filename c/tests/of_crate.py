@@ -130,6 +130,10 @@ def arms(text, kind, number=r"(\d+)"):
     return {name: int(told) for name, told in re.findall(rf"\b{kind}::(\w+){held} => {number}", text)}
 
 
+def version():
+    return int(re.search(r"const VERSION: u32 = ([0-9_]+);", source("version.rt"))[1].replace("_", ""))
+
+
 def numbers():
     status, joiner, relay = source("status.rt"), source("joiner.rt"), source("relay.rt")
     failures, relay_faults = arms(status, "Failure"), arms(status, "RelayFault")

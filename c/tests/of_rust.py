@@ -40,5 +40,6 @@ def misnamed():
     pairs = re.findall(rf"raw::(?:SMS|KIND)_(\w+) => (?:{kinds})::(\w+)", SAFE)
     pairs += re.findall(r"raw::SMS_OK, raw::SMS_(\w+)\) => Ok\(Offer::(\w+)", SAFE)
     made = re.findall(r"Validity::(\w+)(?:\(\w+\))? => \{?\s*raw::Validity \{ format: raw::SMS_(\w+)", SAFE)
+    made += re.findall(r"Alphabet::(\w+) => raw::SMS_(\w+),", SAFE)
     pairs += [(name, variant) for variant, name in made]
     return [f"{name} stands for {variant}" for name, variant in pairs if name.replace("VALIDITY_", "") != snake(variant)], len(pairs)

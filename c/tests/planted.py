@@ -87,6 +87,7 @@ PLANTED = (
         "Status.TOO_LONG: NotThere",
     ),
     ("the names of sms.h and of sms.map", "c/sms.map", "    sms_split;\n", ""),
+    ("c/VERSION and what follows it", "c/sms.h", "SMS_VERSION 2000000", "SMS_VERSION 2000001"),
     ("c/VERSION and what follows it", "rust/Cargo.toml", '\nversion = "', '\nversion = "9'),
 )
 

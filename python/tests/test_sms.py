@@ -3,6 +3,8 @@
 import copy
 import itertools
 import pickle
+import subprocess
+import sys
 import threading
 import unittest
 from datetime import datetime, timedelta, timezone
@@ -22,6 +24,24 @@ def together(call):
         it.start()
     for it in threads:
         it.join()
+
+
+class Library(unittest.TestCase):
+    def test_version(self):
+        self.assertEqual(sms.version()[0], sms.raw.ABI)
+        self.assertEqual(sms.raw.lib.sms_version(), sum(it * 1000**place for place, it in enumerate(reversed(sms.version()))))
+
+    def test_a_library_of_another_interface_is_no_module(self):
+        told = (("lambda: 3002001", "of SMS_ABI 3"), ("lambda: 1000000", "of SMS_ABI 1"), ("None", "of SMS_ABI 1"))
+        for version, wanted in told:
+            program = (
+                "import ctypes, types\n"
+                f"ctypes.CDLL = lambda path: types.SimpleNamespace(sms_version={version})\n"
+                "try:\n    import sms\nexcept ImportError as error:\n    print(error)\n"
+            )
+            with self.subTest(version=version):
+                ran = subprocess.run([sys.executable, "-c", program], stdout=subprocess.PIPE, universal_newlines=True, check=True)
+                self.assertRegex(ran.stdout, f"{wanted}, and this package is for SMS_ABI {sms.raw.ABI}$")
 
 
 class Readers(unittest.TestCase):
@@ -64,6 +84,24 @@ class Readers(unittest.TestCase):
         self.assertEqual((report.cause, report.data), (0xD6, None))
         self.assertEqual(report.stamp, sms.Stamp(bytes.fromhex("30217251409080")))
 
+    def test_texts_of_reports(self):
+        cases = [
+            ("00040AE8329BFD4697D9EC37", "hellohello"),
+            ("0007FF000AE8329BFD4697D9EC37", "hellohello"),
+            ("00060802044F", "\u044f"),
+            ("4004090500032A0101D069", "hi"),
+        ]
+        for octets, text in cases:
+            with self.subTest(octets=octets):
+                self.assertEqual(sms.DeliverReport.read_ack(bytes.fromhex(octets)).text, text)
+        for octets in ("00060402044F", "0000", "40060802090A"):
+            with self.subTest(octets=octets), self.assertRaises(sms.NotThere):
+                sms.DeliverReport.read_ack(bytes.fromhex(octets)).text
+        octets = bytes.fromhex("062A0B917238880900F1993092516195809930925161958000040AE8329BFD4697D9EC37")
+        self.assertEqual(sms.StatusReport.read(octets).text, "hellohello")
+        with self.assertRaises(sms.NotThere):
+            sms.StatusReport.read(octets[:25]).text
+
     def test_status_reports(self):
         stamp, discharged = "0160124130340A", "0160124130940A"
         report = sms.StatusReport.read(bytes.fromhex(f"06040D91945152991136F0{stamp}{discharged}00"))
@@ -97,6 +135,18 @@ class Writers(unittest.TestCase):
         message = sms.Submit.read(unit)
         self.assertEqual((message.target, message.text), ("+46708251358", "hellohello"))
         self.assertEqual(message.validity.end(NOW), NOW + timedelta(days=4))
+
+    def test_classes(self):
+        for number, scheme in enumerate((None, 0, 1, 2, 3)):
+            (unit,) = sms.Submit.write("+46708251358", "hellohello", message_class=scheme)
+            septets = ("00", "10", "11", "12", "13")[number]
+            self.assertEqual(unit.hex().upper(), f"01000B916407281553F800{septets}0AE8329BFD4697D9EC37")
+            (unit,) = sms.Deliver.write("+46708251358", "\u044f", STAMP, message_class=scheme)
+            ucs2 = ("08", "18", "19", "1A", "1B")[number]
+            self.assertEqual(unit.hex().upper(), f"040B916407281553F800{ucs2}9930925161958002044F")
+        for wrong in (-1, 4):
+            with self.assertRaises(sms.OutOfRange):
+                sms.Submit.write("1", "", message_class=wrong)
 
     def test_segments_tell_their_place(self):
         units = sms.Deliver.write("12345", LONG, STAMP, reference=42)
@@ -195,12 +245,21 @@ class Packets(unittest.TestCase):
         rp = sms.Rp.read(cp.user)
         self.assertEqual((cp.kind, cp.flag, cp.value, cp.used), ("data", False, 3, len(packet)))
         self.assertEqual((rp.kind, rp.to_phone, rp.reference, rp.user), ("data", True, 9, HELLO))
-        self.assertEqual(rp.address, bytes.fromhex("03912143"))
+        self.assertEqual((rp.address, rp.centre), (bytes.fromhex("03912143"), "+1234"))
         answer = sms.wrap_answer(flag=True, value=3, to_phone=False, reference=9, cause=22)
         rp = sms.Rp.read(sms.Cp.read(answer).user)
         self.assertEqual((rp.kind, rp.cause, rp.diagnostic, rp.user), ("error", 22, None, None))
         self.assertEqual(sms.Cp.read(sms.wrap_acknowledgement(flag=True, value=3)).kind, "ack")
         self.assertEqual(sms.Cp.read(sms.wrap_acknowledgement(flag=True, value=3, cause=97)).cause, 97)
+
+
+    def test_centre(self):
+        octets = bytes.fromhex("012A07917283010010F500020405")
+        self.assertEqual(sms.Rp.read(octets).centre, "+27381000015")
+        self.assertEqual(sms.Rp.read(octets[:3] + b"\x81" + octets[4:]).centre, "27381000015")
+        self.assertIsNone(sms.Rp.read(bytes.fromhex("032A")).centre)
+        with self.assertRaises(sms.BadAddress):
+            sms.Rp.read(octets[:4] + b"\x7f" + octets[5:]).centre
 
 
 class Stamps(unittest.TestCase):

@@ -36,6 +36,14 @@ pub fn seconds_of_unix(unix: u64) -> Option<u64> {
     unix.checked_sub(UNIX_OF_2000)
 }
 
+/// The version of the library that is loaded: its first number is that of the interface, which is checked at no other
+/// time. The crate is for [`raw::SMS_ABI`].
+pub fn version() -> (u32, u32, u32) {
+    // SAFETY: it takes nothing.
+    let number = unsafe { raw::sms_version() };
+    (number / 1_000_000, number / 1000 % 1000, number % 1000)
+}
+
 // ---- what is refused
 
 /// Why octets are refused.
@@ -201,6 +209,8 @@ fn answer(room: usize, mut call: impl FnMut(*mut u8, usize, *mut usize) -> u32) 
                 return Ok(out);
             }
             raw::SMS_NO_ROOM if needed > out.len() => grow(&mut out, needed)?,
+            // No call of this form reads a unit: what it may refuse is an address.
+            raw::SMS_REFUSED => return Err(Error::BadAddress),
             status => return Err(Error::of(status, raw::Refused::default())),
         }
     }
@@ -252,6 +262,15 @@ impl Alphabet {
             raw::SMS_EIGHT_BIT => Alphabet::EightBit,
             raw::SMS_UCS2 => Alphabet::Ucs2,
             _ => Alphabet::Compressed,
+        }
+    }
+
+    fn number(self) -> u8 {
+        match self {
+            Alphabet::Gsm7 => raw::SMS_GSM7,
+            Alphabet::EightBit => raw::SMS_EIGHT_BIT,
+            Alphabet::Ucs2 => raw::SMS_UCS2,
+            Alphabet::Compressed => raw::SMS_COMPRESSED,
         }
     }
 }
@@ -594,12 +613,28 @@ pub struct DeliverFields {
     pub reply: bool,
     pub pid: u8,
     pub stamp: Stamp,
+    /// 0 to 3, where it is of a class.
+    pub message_class: Option<u8>,
+}
+
+/// How the library is told a class: none is 0.
+fn class_of(message_class: Option<u8>) -> u8 {
+    message_class.map_or(0, |it| it.saturating_add(1))
 }
 
 impl DeliverFields {
-    /// No flag is set, and TP-PID is 0.
+    /// No flag is set, TP-PID is 0, and there is no class.
     pub fn new(reference: Reference, stamp: Stamp) -> DeliverFields {
-        DeliverFields { reference, more: false, looped: false, report: false, reply: false, pid: 0, stamp }
+        DeliverFields {
+            reference,
+            more: false,
+            looped: false,
+            report: false,
+            reply: false,
+            pid: 0,
+            stamp,
+            message_class: None,
+        }
     }
 
     fn raw(&self) -> raw::DeliverFields {
@@ -611,6 +646,8 @@ impl DeliverFields {
             reply: u8::from(self.reply),
             pid: self.pid,
             stamp: self.stamp.raw(),
+            message_class: class_of(self.message_class),
+            spare: [0; 6],
         }
     }
 }
@@ -626,12 +663,23 @@ pub struct SubmitFields {
     pub message_reference: u8,
     pub pid: u8,
     pub validity: Validity,
+    /// 0 to 3, where it is of a class.
+    pub message_class: Option<u8>,
 }
 
 impl SubmitFields {
-    /// No flag is set, and TP-MR and TP-PID are 0.
+    /// No flag is set, TP-MR and TP-PID are 0, and there is no class.
     pub fn new(reference: Reference, validity: Validity) -> SubmitFields {
-        SubmitFields { reference, reject: false, report: false, reply: false, message_reference: 0, pid: 0, validity }
+        SubmitFields {
+            reference,
+            reject: false,
+            report: false,
+            reply: false,
+            message_reference: 0,
+            pid: 0,
+            validity,
+            message_class: None,
+        }
     }
 
     fn raw(&self) -> raw::SubmitFields {
@@ -643,6 +691,8 @@ impl SubmitFields {
             reference: self.message_reference,
             pid: self.pid,
             validity: self.validity.raw(),
+            message_class: class_of(self.message_class),
+            spare: [0; 6],
         }
     }
 }
@@ -695,7 +745,36 @@ fn report(call: Reader<raw::Report>, octets: &[u8]) -> Result<(Report, usize), E
     Ok((report, seen.used))
 }
 
+/// Where a header lies in data that begin with it: behind its length octet.
+fn header_in(header: &Option<Vec<u8>>) -> raw::Span {
+    match header {
+        Some(header) => raw::Span { offset: 1, length: header.len() },
+        None => raw::Span::default(),
+    }
+}
+
 impl Report {
+    /// The text of the data after their header; `NotThere` where there are no data, or they are no text (8-bit,
+    /// compressed), or the header goes beyond them.
+    pub fn text(&self) -> Result<String, Error> {
+        let data = self.data.as_deref().unwrap_or_default();
+        let seen = raw::Report {
+            data: raw::Span { offset: 0, length: data.len() },
+            header: header_in(&self.header),
+            has_header: u8::from(self.has_header),
+            has_dcs: u8::from(self.dcs.is_some()),
+            dcs: self.dcs.unwrap_or_default(),
+            has_data: u8::from(self.data.is_some()),
+            length: self.length,
+            alphabet: self.alphabet.number(),
+            ..raw::Report::default()
+        };
+        text_of(answer(raw::SMS_TEXT_MAX, |out, room, needed| {
+            // SAFETY: the octets are as many as counted, and the rest is ours.
+            unsafe { raw::sms_report_text(data.as_ptr(), data.len(), &seen, out, room, needed) }
+        })?)
+    }
+
     /// Reads an SMS-DELIVER-REPORT of an RP-ACK, and says how many octets it takes.
     pub fn read_deliver_ack(octets: &[u8]) -> Result<(Report, usize), Error> {
         report(raw::sms_deliver_ack_read, octets)
@@ -756,6 +835,26 @@ pub struct StatusReport {
 }
 
 impl StatusReport {
+    /// As that of a [`Report`].
+    pub fn text(&self) -> Result<String, Error> {
+        let data = self.data.as_deref().unwrap_or_default();
+        let seen = raw::StatusReport {
+            data: raw::Span { offset: 0, length: data.len() },
+            header: header_in(&self.header),
+            has_header: u8::from(self.has_header),
+            has_dcs: u8::from(self.dcs.is_some()),
+            dcs: self.dcs.unwrap_or_default(),
+            has_data: u8::from(self.data.is_some()),
+            length: self.length,
+            alphabet: self.alphabet.number(),
+            ..raw::StatusReport::default()
+        };
+        text_of(answer(raw::SMS_TEXT_MAX, |out, room, needed| {
+            // SAFETY: the octets are as many as counted, and the rest is ours.
+            unsafe { raw::sms_status_report_text(data.as_ptr(), data.len(), &seen, out, room, needed) }
+        })?)
+    }
+
     /// Reads the unit at the front of the octets, and says how many it takes. TP-PI is read where another octet follows
     /// TP-ST.
     pub fn read(octets: &[u8]) -> Result<(StatusReport, usize), Error> {
@@ -896,6 +995,24 @@ impl<'a> Rp<'a> {
             },
         };
         Ok((Rp { to_phone: seen.side == 1, reference: seen.reference, body }, seen.used))
+    }
+
+    /// The text of the centre's address in an RP-DATA: its digits, after a + where the type of number is 1. `NotThere`
+    /// where there is no address, `BadAddress` where it has no text.
+    pub fn centre(&self) -> Result<String, Error> {
+        let address = match self.body {
+            RpBody::Data { address, .. } => address.ok_or(Error::NotThere)?,
+            _ => return Err(Error::NotThere),
+        };
+        let seen = raw::Rp {
+            address: raw::Span { offset: 0, length: address.len() },
+            has_address: 1,
+            ..raw::Rp::default()
+        };
+        text_of(answer(raw::SMS_ADDRESS_TEXT_MAX, |out, room, needed| {
+            // SAFETY: the octets are as many as counted, and the rest is ours.
+            unsafe { raw::sms_relay_address_text(address.as_ptr(), address.len(), &seen, out, room, needed) }
+        })?)
     }
 }
 

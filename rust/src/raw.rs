@@ -1,6 +1,8 @@
 //! The numbers, structs and calls of sms.h. The rest of this crate is the safe way to them.
 
-pub const SMS_ABI: u32 = 1;
+pub const SMS_ABI: u32 = 2;
+/// Of the header that these are the declarations of.
+pub const SMS_VERSION: u32 = 2_000_000;
 
 pub const SMS_TEXT_MAX: usize = 480;
 pub const SMS_UNIT_MAX: usize = 184;
@@ -213,6 +215,8 @@ structs! {
         reference: u8,
         pid: u8,
         validity: Validity,
+        message_class: u8,
+        spare: [u8; 6],
     }
     "sms_deliver_fields" DeliverFields {
         segments: Reference,
@@ -222,6 +226,8 @@ structs! {
         reply: u8,
         pid: u8,
         stamp: Stamp,
+        message_class: u8,
+        spare: [u8; 6],
     }
 }
 
@@ -284,6 +290,16 @@ extern "C" {
     pub fn sms_split(
         reference: *const Reference, text: *const u8, text_count: usize, out: *mut u8, room: usize,
         needed: *mut usize, spans: *mut Span, span_count: usize, segments: *mut usize, dcs: *mut u8,
+    ) -> u32;
+    pub fn sms_version() -> u32;
+    pub fn sms_relay_address_text(
+        octets: *const u8, count: usize, rp: *const Rp, out: *mut u8, room: usize, needed: *mut usize,
+    ) -> u32;
+    pub fn sms_report_text(
+        octets: *const u8, count: usize, report: *const Report, out: *mut u8, room: usize, needed: *mut usize,
+    ) -> u32;
+    pub fn sms_status_report_text(
+        octets: *const u8, count: usize, report: *const StatusReport, out: *mut u8, room: usize, needed: *mut usize,
     ) -> u32;
     pub fn sms_joiner_open(joiner: *mut Joiner, open_max: usize, remembered: usize) -> u32;
     pub fn sms_joiner_close(joiner: *mut Joiner);

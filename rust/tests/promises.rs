@@ -33,6 +33,13 @@ fn reads_a_delivery() {
 }
 
 #[test]
+fn tells_its_version() {
+    let (major, minor, patch) = sms::version();
+    assert_eq!((major, minor < 1000, patch < 1000), (sms::raw::SMS_ABI, true, true));
+    assert!(1_000_000 * major + 1000 * minor + patch >= sms::raw::SMS_VERSION);
+}
+
+#[test]
 fn refuses_each_front_at_its_end() {
     for front in 0..HELLO.len() {
         assert_eq!(Deliver::read(&HELLO[..front]).err(), refused(front, Reason::Short));
@@ -55,6 +62,23 @@ fn writes_a_submission() {
 }
 
 #[test]
+fn writes_classes() {
+    let septets = [(None, 0x00), (Some(0), 0x10), (Some(1), 0x11), (Some(2), 0x12), (Some(3), 0x13)];
+    for (message_class, dcs) in septets {
+        let submit = SubmitFields { message_class, ..SubmitFields::new(Reference::Eight(0), Validity::Absent) };
+        let (unit, _) = Submit::write(&submit, "+46708251358", "hellohello", 0).unwrap();
+        assert_eq!((unit.len(), unit[11]), (22, dcs));
+        let deliver = DeliverFields { message_class, ..DeliverFields::new(Reference::Eight(0), STAMP) };
+        let (unit, _) = Deliver::write(&deliver, "+46708251358", "\u{44F}", 0).unwrap();
+        assert_eq!((unit.len(), unit[10]), (21, dcs | 8));
+    }
+    for wrong in [4, 255] {
+        let fields = SubmitFields { message_class: Some(wrong), ..SubmitFields::new(Reference::Eight(0), Validity::Absent) };
+        assert_eq!(Submit::write(&fields, "1", "", 0), Err(Error::OutOfRange));
+    }
+}
+
+#[test]
 fn splits_a_text() {
     let (users, dcs) = sms::split(Reference::Eight(7), &"a".repeat(161)).unwrap();
     assert_eq!((users.iter().map(Vec::len).collect::<Vec<_>>(), dcs), (vec![141, 15], 0));
@@ -69,6 +93,24 @@ fn reads_reports() {
     let (report, _) =
         Report::read_submit_error(&[0x01, 0xD6, 0x00, 0x30, 0x21, 0x72, 0x51, 0x40, 0x90, 0x80]).unwrap();
     assert_eq!((report.cause, report.data), (Some(0xD6), None));
+}
+
+#[test]
+fn reads_texts_of_reports() {
+    let text = |octets: &[u8]| Report::read_deliver_ack(octets).unwrap().0.text();
+    let hello = [&[0x00, 0x04, 0x0A][..], &HELLO[19..]].concat();
+    assert_eq!(text(&hello).as_deref(), Ok("hellohello"));
+    assert_eq!(text(&[0x00, 0x06, 0x08, 0x02, 0x04, 0x4F]).as_deref(), Ok("\u{44F}"));
+    let headed = [0x40, 0x04, 0x09, 0x05, 0x00, 0x03, 0x2A, 0x01, 0x01, 0xD0, 0x69];
+    assert_eq!(text(&headed).as_deref(), Ok("hi"));
+    assert_eq!(text(&[0x00, 0x06, 0x04, 0x02, 0x04, 0x4F]), Err(Error::NotThere));
+    assert_eq!(text(&[0x00, 0x00]), Err(Error::NotThere));
+    assert_eq!(text(&[0x40, 0x06, 0x08, 0x02, 0x09, 0x0A]), Err(Error::NotThere));
+    let mut told = [&[0x06, 0x2A, 0x0B, 0x91, 0x72, 0x38, 0x88, 0x09, 0x00, 0xF1][..], &STAMP.0, &STAMP.0, &[0x00]].concat();
+    assert_eq!(StatusReport::read(&told).unwrap().0.text(), Err(Error::NotThere));
+    told.extend([0x04, 0x0A]);
+    told.extend(&HELLO[19..]);
+    assert_eq!(StatusReport::read(&told).unwrap().0.text().as_deref(), Ok("hellohello"));
 }
 
 #[test]
@@ -124,12 +166,16 @@ fn wraps_and_reads_packets() {
     let (rp, _) = Rp::read(user).unwrap();
     assert_eq!((rp.to_phone, rp.reference), (true, 9));
     assert_eq!(rp.body, RpBody::Data { address: Some(&[0x03, 0x91, 0x21, 0x43]), user: &HELLO });
+    assert_eq!(rp.centre().as_deref(), Ok("+1234"));
+    let spoilt = Rp { body: RpBody::Data { address: Some(&[0x02, 0x91, 0x7F]), user: &[] }, ..rp };
+    assert_eq!(spoilt.centre(), Err(Error::BadAddress));
     let packet = envelope.wrap_error(22, &[]).unwrap();
     let user = match Cp::read(&packet).unwrap().0.body {
         CpBody::Data(user) => user,
         other => panic!("{other:?}"),
     };
     assert_eq!(Rp::read(user).unwrap().0.body, RpBody::Error { cause: 22, diagnostic: None, user: None });
+    assert_eq!(Rp::read(user).unwrap().0.centre(), Err(Error::NotThere));
     assert_eq!(Cp::read(&envelope.cp_ack().unwrap()).unwrap().0.body, CpBody::Ack);
     assert_eq!(Cp::read(&envelope.cp_error(97).unwrap()).unwrap().0.body, CpBody::Error(97));
     assert_eq!(envelope.wrap("", &[0; 234]), Err(Error::TooLong));

@@ -1,7 +1,13 @@
+pub mod Answered
+pub mod CentreText
+pub mod Class
 pub mod HandedOut
 pub mod Kept
+pub mod Lying
 pub mod Offers
 pub mod Parts
+pub mod ReportGiven
+pub mod ReportText
 pub mod Seen
 pub mod SeenCommand
 pub mod SeenRelay

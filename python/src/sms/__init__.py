@@ -58,6 +58,7 @@ __all__ = [
     "TooManyOpen",
     "Validity",
     "split",
+    "version",
     "wrap",
     "wrap_answer",
     "wrap_acknowledgement",
@@ -67,6 +68,12 @@ Octets = Union[bytes, bytearray, memoryview]
 
 _MOST = 2 ** (8 * sizeof(c_size_t)) - 1
 _BEGIN = datetime(2000, 1, 1, tzinfo=timezone.utc)
+
+
+def version() -> Tuple[int, int, int]:
+    """The version of the library that is loaded: its first number is that of the interface."""
+    number = raw.lib.sms_version()
+    return number // 1_000_000, number // 1000 % 1000, number % 1000
 
 
 # ---- what is refused
@@ -170,8 +177,8 @@ _ERRORS: Dict[int, Type[Error]] = {
 def _raise(status: int, refused: Optional[raw.Refused] = None) -> None:
     if status == Status.OK:
         return
-    if status == Status.REFUSED and refused is not None:
-        raise Refused(refused.place, Reason(refused.reason))
+    if status == Status.REFUSED:
+        raise BadAddress() if refused is None else Refused(refused.place, Reason(refused.reason))
     if status in _ERRORS:
         raise _ERRORS[status]()
     raise Error(f"status {status}")
@@ -462,8 +469,9 @@ class Deliver(_Unit):
         report: bool = False,
         reply: bool = False,
         pid: int = 0,
+        message_class: Optional[int] = None,
     ) -> List[bytes]:
-        """The text as units: one, or a segment each."""
+        """The text as units: one, or a segment each; of a class (0 to 3), if one is given."""
         fields = raw.DeliverFields(
             segments=_reference(reference, width),
             more=more,
@@ -472,6 +480,7 @@ class Deliver(_Unit):
             reply=reply,
             pid=_octet(pid),
             stamp=stamp._raw(),
+            message_class=_class(message_class),
         )
         return _segments(raw.lib.sms_deliver_write, fields, origin, text)
 
@@ -520,8 +529,9 @@ class Submit(_Unit):
         report: bool = False,
         reply: bool = False,
         pid: int = 0,
+        message_class: Optional[int] = None,
     ) -> List[bytes]:
-        """The text as units: one, or a segment each. TP-MR is the same in all."""
+        """The text as units: one, or a segment each; of a class (0 to 3), if one is given. TP-MR is the same in all."""
         fields = raw.SubmitFields(
             segments=_reference(reference, width),
             reject=reject,
@@ -530,8 +540,14 @@ class Submit(_Unit):
             reference=_octet(message_reference),
             pid=_octet(pid),
             validity=validity._raw(),
+            message_class=_class(message_class),
         )
         return _segments(raw.lib.sms_submit_write, fields, target, text)
+
+
+def _class(message_class: Optional[int]) -> int:
+    """How the library is told a class: none is 0."""
+    return 0 if message_class is None else _number(message_class, 0, 3, "a class") + 1
 
 
 def _reference(reference: int, width: int) -> raw.Reference:
@@ -555,6 +571,28 @@ class Report:
     header: Optional[bytes]
     length: int
     alphabet: Alphabet
+
+    @property
+    def text(self) -> str:
+        """The text of the data after their header; NotThere where there are no data, or they are no text (8-bit, compressed),
+        or the header goes beyond them."""
+        return _data_text(raw.lib.sms_report_text, raw.Report, self)
+
+
+def _data_text(call: Callable[..., int], kind: Callable[..., Any], report: Union[Report, StatusReport]) -> str:
+    """The text of the data of a report, in which the header lies behind its length octet."""
+    data, header = report.data or b"", report.header
+    seen = kind(
+        data=raw.Span(0, len(data)),
+        header=raw.Span(0, 0) if header is None else raw.Span(1, len(header)),
+        has_header=report.has_header,
+        has_dcs=report.dcs is not None,
+        dcs=report.dcs or 0,
+        has_data=report.data is not None,
+        length=report.length,
+        alphabet=report.alphabet,
+    )
+    return _answer(TEXT_MAX, call, data, len(data), byref(seen)).decode()
 
 
 def _report(call: Callable[..., int], octets: Octets) -> Report:
@@ -627,6 +665,11 @@ class StatusReport:
     header: Optional[bytes]
     length: int
     alphabet: Alphabet
+
+    @property
+    def text(self) -> str:
+        """As that of a `Report`."""
+        return _data_text(raw.lib.sms_status_report_text, raw.StatusReport, self)
 
     @classmethod
     def read(cls, octets: Octets) -> StatusReport:
@@ -736,6 +779,15 @@ class Rp:
     user: Optional[bytes]
     cause: Optional[int]
     diagnostic: Optional[int]
+
+    @property
+    def centre(self) -> Optional[str]:
+        """The text of the centre's address: its digits, after a + where the type of number is 1; None where there is no
+        address. BadAddress where it has no text."""
+        if self.address is None:
+            return None
+        seen = raw.Rp(address=raw.Span(0, len(self.address)), has_address=1)
+        return _answer(ADDRESS_TEXT_MAX, raw.lib.sms_relay_address_text, self.address, len(self.address), byref(seen)).decode()
 
     @classmethod
     def read(cls, octets: Octets) -> Rp:

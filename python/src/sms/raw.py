@@ -9,8 +9,10 @@ from ctypes import POINTER, Structure, c_char_p, c_int8, c_size_t, c_uint8, c_ui
 from pathlib import Path
 from typing import Any, Dict, List
 
-# The number of the interface, and the sizes that are always enough.
-ABI = 1
+# The version of the header that these are the declarations of, the number of its interface, and the sizes that are
+# always enough.
+VERSION = 2_000_000
+ABI = VERSION // 1_000_000
 TEXT_MAX, UNIT_MAX, PACKET_MAX, ADDRESS_TEXT_MAX = 480, 184, 258, 33
 # Of packets: CP-DATA and RP-DATA, CP-ACK and RP-ACK, CP-ERROR and RP-ERROR.
 KINDS = ("data", "ack", "error")
@@ -214,6 +216,8 @@ class SubmitFields(Structure):
         ("reference", c_uint8),
         ("pid", c_uint8),
         ("validity", Validity),
+        ("message_class", c_uint8),
+        ("spare", c_uint8 * 6),
     ]
 
 
@@ -226,6 +230,8 @@ class DeliverFields(Structure):
         ("reply", c_uint8),
         ("pid", c_uint8),
         ("stamp", Stamp),
+        ("message_class", c_uint8),
+        ("spare", c_uint8 * 6),
     ]
 
 
@@ -297,6 +303,10 @@ CALLS: Dict[str, List[Any]] = {
         POINTER(c_size_t),
         POINTER(c_uint8),
     ],
+    "sms_version": [],
+    "sms_relay_address_text": [*_IN, POINTER(Rp), *_OUT],
+    "sms_report_text": [*_IN, POINTER(Report), *_OUT],
+    "sms_status_report_text": [*_IN, POINTER(StatusReport), *_OUT],
     "sms_joiner_open": [_JOINER, c_size_t, c_size_t],
     "sms_joiner_close": [_JOINER],
     "sms_joiner_offer": [_JOINER, c_uint64, *_IN, POINTER(c_uint32), _REFUSED],
@@ -307,7 +317,7 @@ CALLS: Dict[str, List[Any]] = {
 
 
 # What a call answers, where it is no status.
-ANSWERS: Dict[str, Any] = {"sms_joiner_close": None}
+ANSWERS: Dict[str, Any] = {"sms_joiner_close": None, "sms_version": c_uint32}
 
 
 def _path() -> str:
@@ -317,7 +327,13 @@ def _path() -> str:
 
 
 def _loaded() -> ctypes.CDLL:
-    loaded = ctypes.CDLL(_path())
+    """The library, which has to be of this interface: a library before 2 tells no version."""
+    path = _path()
+    loaded = ctypes.CDLL(path)
+    version = getattr(loaded, "sms_version", None)
+    abi = version() // 1_000_000 if version else 1
+    if abi != ABI:
+        raise ImportError(f"{path} is of SMS_ABI {abi}, and this package is for SMS_ABI {ABI}")
     for name, parameters in CALLS.items():
         call = getattr(loaded, name)
         call.argtypes, call.restype = parameters, ANSWERS.get(name, c_uint32)
