@@ -1,6 +1,7 @@
 """What the package promises: python3 -m unittest discover -s python/tests, with SMS_LIBRARY and PYTHONPATH=python/src."""
 
 import copy
+import dataclasses
 import itertools
 import pickle
 import subprocess
@@ -258,8 +259,10 @@ class Packets(unittest.TestCase):
         self.assertEqual(sms.Rp.read(octets).centre, "+27381000015")
         self.assertEqual(sms.Rp.read(octets[:3] + b"\x81" + octets[4:]).centre, "27381000015")
         self.assertIsNone(sms.Rp.read(bytes.fromhex("032A")).centre)
+        with self.assertRaisesRegex(sms.Refused, "^at 4: bad relay address$"):
+            sms.Rp.read(octets[:4] + b"\x7f" + octets[5:])
         with self.assertRaises(sms.BadAddress):
-            sms.Rp.read(octets[:4] + b"\x7f" + octets[5:]).centre
+            dataclasses.replace(sms.Rp.read(octets), address=b"\x02\x91\x7f").centre
 
 
 class Stamps(unittest.TestCase):
