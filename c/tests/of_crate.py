@@ -51,13 +51,20 @@ def snake(name):
 # ---- structs
 
 
+def kind_of(kind, sizes):
+    """A type by its name in sms.h, with the size of an array in digits."""
+    array = re.fullmatch(r"\[(\w+); (\w+)\]", kind)
+    return f"[{array[1]}; {sizes.get(array[2], array[2])}]" if array else IN_HEADER.get(kind, kind)
+
+
 def structs():
     found = {}
+    sizes = dict(it for text in sources() for it in re.findall(r"const (\w+): usize = (\d+);", text))
     head = r"#\[repr\(C\)\]\s*(?:#\[derive\([^)]*\)\]\s*)?pub struct (\w+) \{(.*?)\n\}"
     for inner, body in [it for text in sources() for it in re.findall(head, text, re.S)]:
         name = IN_HEADER.get(inner, f"{inner}, which sms.h does not have")
         fields = re.findall(r"^    (?:pub )?(\w+): ([^{}]*?),$", body, re.M)
-        found[name] = [(FIELDS.get((name, field), field), IN_HEADER.get(kind, kind)) for field, kind in fields]
+        found[name] = [(FIELDS.get((name, field), field), kind_of(kind, sizes)) for field, kind in fields]
     del found[IN_HEADER["Kept"]]
     return {name: found[name] for name in [*NAMES, *(set(found) - set(NAMES))] if name in found}
 

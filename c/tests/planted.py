@@ -99,6 +99,10 @@ def main():
             copied = shutil.copytree if (TOP / path).is_dir() else shutil.copy
             (Path(room) / path).parent.mkdir(parents=True, exist_ok=True)
             copied(TOP / path, Path(room) / path)
+        ran = subprocess.run([sys.executable, f"{room}/c/tests/agree.py", *sys.argv[1:]], capture_output=True, text=True)
+        if ran.returncode != 0:
+            print(f"agree.py fails with nothing planted:\n{ran.stdout}{ran.stderr}")
+            return 1
         for told, path, old, new in PLANTED:
             file = Path(room) / path
             whole = file.read_text(encoding="utf-8")
