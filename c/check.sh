@@ -11,7 +11,8 @@ units=${UNITS:-200000}
 room=$(mktemp -d)
 trap 'rm -rf "$room"' EXIT
 trap 'exit 1' HUP INT TERM
-flags="-std=c99 -Wall -Wextra -Wpedantic -Werror -gdwarf-4 -O1 -I$prefix/include"
+# A struct may be filled by its first fields alone: what is left out is 0, as spare octets have to be.
+flags="-std=c99 -Wall -Wextra -Wno-missing-field-initializers -Wpedantic -Werror -gdwarf-4 -O1 -I$prefix/include"
 dynamic="-L$prefix/lib -lsms"
 export LD_LIBRARY_PATH="$prefix/lib${LD_LIBRARY_PATH:+:$LD_LIBRARY_PATH}"
 # Python writes nothing beside its files, and cargo nothing but its target folder.
