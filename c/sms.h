@@ -391,6 +391,70 @@ SMS_STATUS sms_report_text(const uint8_t *octets, size_t count, const sms_report
 SMS_STATUS sms_status_report_text(const uint8_t *octets, size_t count, const sms_status_report *report,
                                   uint8_t *out, size_t room, size_t *needed);
 
+/* ---- reports written, as a gateway answers with them or sends them. Without has_pid and has_dcs what
+ * they speak of is not looked at; without has_data there are no octets, and length and has_header are 0. */
+
+typedef struct sms_report_fields {
+    sms_stamp stamp;    /* TP-SCTS, of an SMS-SUBMIT-REPORT alone */
+    uint8_t cause;      /* TP-FCS, under an RP-ERROR alone */
+    uint8_t has_pid;    /* 0 is no, all else yes; so below */
+    uint8_t pid;
+    uint8_t has_dcs;
+    uint8_t dcs;
+    uint8_t has_data;
+    uint8_t has_header; /* TP-UDHI: the data begin with a header, its length octet first */
+    uint8_t length;     /* TP-UDL: septets under the 7-bit alphabet, and where there is no dcs; else octets */
+    uint8_t spare[6];   /* must be 0 */
+} sms_report_fields;
+
+typedef struct sms_status_report_fields {
+    sms_stamp stamp;      /* TP-SCTS: when the centre took the message */
+    sms_stamp discharged; /* TP-DT: when it came to its recipient, or when the centre last tried */
+    uint8_t more;         /* TP-MMS as its meaning: 1 where more messages wait */
+    uint8_t looped;       /* TP-LP */
+    uint8_t qualifier;    /* TP-SRQ: 1 where it is the result of an SMS-COMMAND, 0 of an SMS-SUBMIT */
+    uint8_t reference;    /* TP-MR of the submission, or of the command */
+    uint8_t status;       /* TP-ST */
+    uint8_t has_pid;
+    uint8_t pid;
+    uint8_t has_dcs;
+    uint8_t dcs;
+    uint8_t has_data;
+    uint8_t has_header; /* as above */
+    uint8_t length;     /* as above */
+    uint8_t spare[6];   /* must be 0 */
+} sms_status_report_fields;
+
+/* A report with these octets as its TP-UD, at most 159: SMS-DELIVER-REPORT and SMS-SUBMIT-REPORT, for an
+ * RP-ACK and for an RP-ERROR, and SMS-STATUS-REPORT (recipient: as target above). SMS_TOO_LONG: more than
+ * 159. SMS_OUT_OF_RANGE: not as many octets as length counts, a header that does not lie in them, octets
+ * or what speaks of them without has_data, or a spare octet. Also SMS_NOT_UTF8, SMS_BAD_ADDRESS,
+ * SMS_NO_ROOM, SMS_NO_MEMORY. */
+sms_status sms_deliver_ack_write(const sms_report_fields *fields, const uint8_t *octets, size_t count,
+                                 uint8_t *out, size_t room, size_t *needed);
+sms_status sms_deliver_error_write(const sms_report_fields *fields, const uint8_t *octets, size_t count,
+                                   uint8_t *out, size_t room, size_t *needed);
+sms_status sms_submit_ack_write(const sms_report_fields *fields, const uint8_t *octets, size_t count,
+                                uint8_t *out, size_t room, size_t *needed);
+sms_status sms_submit_error_write(const sms_report_fields *fields, const uint8_t *octets, size_t count,
+                                  uint8_t *out, size_t room, size_t *needed);
+sms_status sms_status_report_write(const sms_status_report_fields *fields, const uint8_t *recipient,
+                                   size_t recipient_count, const uint8_t *octets, size_t count,
+                                   uint8_t *out, size_t room, size_t *needed);
+
+/* ---- data written. The octets are TP-UD, at most 140 (SMS_TOO_LONG); with has_header (0 is no, all else
+ * yes) they begin with a header, its length octet first. The alphabet of dcs counts in octets: 8-bit, UCS-2
+ * or compressed. In the fields message_class is 0, and segments do not count. SMS_OUT_OF_RANGE: one of this
+ * is not so, or a header does not lie in the octets. Also SMS_NOT_UTF8, SMS_BAD_ADDRESS, SMS_NO_ROOM,
+ * SMS_NO_MEMORY. */
+
+sms_status sms_submit_data_write(const sms_submit_fields *fields, uint8_t dcs, uint8_t has_header,
+                                 const uint8_t *target, size_t target_count, const uint8_t *octets, size_t count,
+                                 uint8_t *out, size_t room, size_t *needed);
+sms_status sms_deliver_data_write(const sms_deliver_fields *fields, uint8_t dcs, uint8_t has_header,
+                                  const uint8_t *origin, size_t origin_count, const uint8_t *octets, size_t count,
+                                  uint8_t *out, size_t room, size_t *needed);
+
 /* ---- joining segments. A joiner lies in the caller's memory and holds memory of the library. Begin
  * with SMS_JOINER_CLOSED, change nothing in it, and never use a copy of an open one. */
 

@@ -22,6 +22,12 @@ abbrev pub OfOctetsIn : Result (List ℕ) Failure → (List ℕ → Type 0) → 
 OfOctetsIn (Ok octets) Out = Out octets
 OfOctetsIn (Err _) Out = ⊥
 
+-- what becomes of the octets that spell a value, where there is one
+abbrev pub OfSpelling : {V : Type 0} → (V → List ℕ → Type 0) → Result V Failure
+    → (List ℕ → Type 0) → Type 0
+OfSpelling spells (Ok value) Out = (octets : List ℕ) × spells value octets × Out octets
+OfSpelling spells (Err _) Out = ⊥
+
 -- ---- before it is told as a status
 
 abbrev pub Fails : {T : Type 0} → Result T Failure → Failure → Type 0

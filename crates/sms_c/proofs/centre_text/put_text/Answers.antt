@@ -1,4 +1,4 @@
-use Rattle.std.proofs.Common.{◌≡◌, rules, ℕ, Err}
+use Rattle.std.proofs.Common.{rules}
 use Rattle.sms_c.specs.CentreText.{text_of_centre}
 use Rattle.sms_c.proofs.Told.{failed, handed}
 use Rattle.sms_c.proofs.centre_text.put_text.Goals as goal
