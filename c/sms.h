@@ -430,15 +430,15 @@ typedef struct sms_status_report_fields {
  * 159. SMS_OUT_OF_RANGE: not as many octets as length counts, a header that does not lie in them, octets
  * or what speaks of them without has_data, or a spare octet. Also SMS_NOT_UTF8, SMS_BAD_ADDRESS,
  * SMS_NO_ROOM, SMS_NO_MEMORY. */
-sms_status sms_deliver_ack_write(const sms_report_fields *fields, const uint8_t *octets, size_t count,
+SMS_STATUS sms_deliver_ack_write(const sms_report_fields *fields, const uint8_t *octets, size_t count,
                                  uint8_t *out, size_t room, size_t *needed);
-sms_status sms_deliver_error_write(const sms_report_fields *fields, const uint8_t *octets, size_t count,
+SMS_STATUS sms_deliver_error_write(const sms_report_fields *fields, const uint8_t *octets, size_t count,
                                    uint8_t *out, size_t room, size_t *needed);
-sms_status sms_submit_ack_write(const sms_report_fields *fields, const uint8_t *octets, size_t count,
+SMS_STATUS sms_submit_ack_write(const sms_report_fields *fields, const uint8_t *octets, size_t count,
                                 uint8_t *out, size_t room, size_t *needed);
-sms_status sms_submit_error_write(const sms_report_fields *fields, const uint8_t *octets, size_t count,
+SMS_STATUS sms_submit_error_write(const sms_report_fields *fields, const uint8_t *octets, size_t count,
                                   uint8_t *out, size_t room, size_t *needed);
-sms_status sms_status_report_write(const sms_status_report_fields *fields, const uint8_t *recipient,
+SMS_STATUS sms_status_report_write(const sms_status_report_fields *fields, const uint8_t *recipient,
                                    size_t recipient_count, const uint8_t *octets, size_t count,
                                    uint8_t *out, size_t room, size_t *needed);
 
@@ -448,10 +448,10 @@ sms_status sms_status_report_write(const sms_status_report_fields *fields, const
  * is not so, or a header does not lie in the octets. Also SMS_NOT_UTF8, SMS_BAD_ADDRESS, SMS_NO_ROOM,
  * SMS_NO_MEMORY. */
 
-sms_status sms_submit_data_write(const sms_submit_fields *fields, uint8_t dcs, uint8_t has_header,
+SMS_STATUS sms_submit_data_write(const sms_submit_fields *fields, uint8_t dcs, uint8_t has_header,
                                  const uint8_t *target, size_t target_count, const uint8_t *octets, size_t count,
                                  uint8_t *out, size_t room, size_t *needed);
-sms_status sms_deliver_data_write(const sms_deliver_fields *fields, uint8_t dcs, uint8_t has_header,
+SMS_STATUS sms_deliver_data_write(const sms_deliver_fields *fields, uint8_t dcs, uint8_t has_header,
                                   const uint8_t *origin, size_t origin_count, const uint8_t *octets, size_t count,
                                   uint8_t *out, size_t room, size_t *needed);
 
@@ -522,6 +522,8 @@ SMS_HAS(4, sms_envelope);
 SMS_HAS(4, sms_reference);
 SMS_HAS(24, sms_submit_fields);
 SMS_HAS(24, sms_deliver_fields);
+SMS_HAS(21, sms_report_fields);
+SMS_HAS(32, sms_status_report_fields);
 SMS_HAS(16, sms_joiner);
 #undef SMS_HAS
 #endif

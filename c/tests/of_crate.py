@@ -26,6 +26,8 @@ NAMES = {
     "sms_reference": "Reference",
     "sms_submit_fields": "SubmitFields",
     "sms_deliver_fields": "DeliverFields",
+    "sms_report_fields": "ReportFields",
+    "sms_status_report_fields": "StatusReportFields",
     "sms_joiner": "Handle",
 }
 IN_HEADER = {**{inner: name for name, inner in NAMES.items()}, "Kept": "*mut ()"}

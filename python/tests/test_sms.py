@@ -149,6 +149,59 @@ class Writers(unittest.TestCase):
             with self.assertRaises(sms.OutOfRange):
                 sms.Submit.write("1", "", message_class=wrong)
 
+    def test_reports(self):
+        stamp = sms.Stamp(bytes.fromhex("30217251409080"))
+        deliver, submit = sms.DeliverReport, sms.SubmitReport
+        header = bytes.fromhex("0370010041")
+        cases = [
+            ("0000", deliver.write_ack()),
+            ("0007000003616263", deliver.write_ack(pid=0, dcs=0, data=b"abc")),
+            ("400604050370010041", deliver.write_ack(dcs=4, data=header, has_header=True)),
+            ("00040AE8329BFD4697D9EC37", deliver.write_ack(data=HELLO[19:], length=10)),
+            ("00C1070004030102F0", deliver.write_error(0xC1, pid=0, dcs=4, data=bytearray(b"\x01\x02\xf0"))),
+            ("010030217251409080", submit.write_ack(stamp)),
+            ("01D60030217251409080", submit.write_error(0xD6, stamp)),
+            ("01D60130217251409080AA", submit.write_error(0xD6, stamp, pid=0xAA)),
+        ]
+        for wanted, unit in cases:
+            self.assertEqual(unit.hex().upper(), wanted)
+        self.assertEqual(deliver.read_ack(deliver.write_ack(data=HELLO[19:], length=10)).text, "hellohello")
+        for error, data, more in (
+            (sms.TooLong, bytes(160), {"dcs": 4}),
+            (sms.OutOfRange, bytes(9), {"length": 9}),
+            (sms.OutOfRange, b"\x02\x00", {"dcs": 4, "has_header": True}),
+            (sms.OutOfRange, None, {"has_header": True}),
+            (TypeError, "abc", {}),
+        ):
+            with self.subTest(data=data, more=more), self.assertRaises(error):
+                deliver.write_ack(data=data, **more)
+
+    def test_status_reports(self):
+        stamp, discharged = "0160124130340A", "0160124130940A"
+        given = "+4915259911630", sms.Stamp(bytes.fromhex(stamp)), sms.Stamp(bytes.fromhex(discharged))
+        unit = sms.StatusReport.write(*given, 0, reference=4)
+        self.assertEqual(unit.hex().upper(), f"06040D91945152991136F0{stamp}{discharged}00")
+        flags = {"more": True, "looped": True, "qualifier": True, "has_header": True}
+        unit = sms.StatusReport.write(*given, 0x46, pid=0x7F, dcs=4, data=b"\x01\xbb\xcc", **flags)
+        self.assertEqual(unit.hex().upper(), f"6A000D91945152991136F0{stamp}{discharged}46077F040301BBCC")
+        report = sms.StatusReport.read(unit)
+        self.assertEqual((report.more, report.looped, report.qualifier, report.has_header), (True,) * 4)
+        self.assertEqual((report.data, report.header), (b"\x01\xbb\xcc", b"\xbb"))
+        with self.assertRaises(sms.BadAddress):
+            sms.StatusReport.write("+1x", *given[1:], 0)
+
+    def test_data(self):
+        unit = sms.Submit.write_data("+46708251358", b"\xaa\xbb")
+        self.assertEqual(unit.hex().upper(), "01000B916407281553F8000402AABB")
+        unit = sms.Submit.write_data("+46708251358", bytes.fromhex("0500032A020141"), 0x15, has_header=True, message_reference=7)
+        self.assertEqual(unit.hex().upper(), "41070B916407281553F80015070500032A020141")
+        self.assertEqual(sms.Submit.read(unit).place, sms.Place(8, 0x2A, 2, 1))
+        unit = sms.Deliver.write_data("+46708251358", memoryview(b"\xaa\xbb"), STAMP, more=True)
+        self.assertEqual(unit.hex().upper(), "000B916407281553F800049930925161958002AABB")
+        for error, data, dcs in ((sms.TooLong, bytes(141), 4), (sms.OutOfRange, b"abc", 0), (TypeError, 7, 4)):
+            with self.subTest(dcs=dcs), self.assertRaises(error):
+                sms.Deliver.write_data("1", data, STAMP, dcs)
+
     def test_segments_tell_their_place(self):
         units = sms.Deliver.write("12345", LONG, STAMP, reference=42)
         places = [sms.Deliver.read(unit).place for unit in units]

@@ -495,6 +495,23 @@ impl Deliver {
         Ok((unit, segments))
     }
 
+    /// A unit with these octets as TP-UD, at most 140, under a TP-DCS that counts in octets (8-bit, UCS-2, compressed); with
+    /// a header they begin with it, its length octet first. The fields have no class, and their reference doesn't count.
+    pub fn write_data(
+        fields: &DeliverFields, dcs: u8, has_header: bool, origin: &str, octets: &[u8],
+    ) -> Result<Vec<u8>, Error> {
+        let fields = fields.raw();
+        answer(raw::SMS_UNIT_MAX, |out, room, needed| {
+            // SAFETY: each pointer is to as many octets as are counted with it.
+            unsafe {
+                raw::sms_deliver_data_write(
+                    &fields, dcs, u8::from(has_header), origin.as_ptr(), origin.len(), octets.as_ptr(), octets.len(),
+                    out, room, needed,
+                )
+            }
+        })
+    }
+
     unit_parts!();
 
     /// TP-OA: the sender's digits, after a + where the number is international, or its name.
@@ -561,6 +578,23 @@ impl Submit {
             }
         })?;
         Ok((unit, segments))
+    }
+
+    /// A unit with these octets as TP-UD, at most 140, under a TP-DCS that counts in octets (8-bit, UCS-2, compressed); with
+    /// a header they begin with it, its length octet first. The fields have no class, and their reference doesn't count.
+    pub fn write_data(
+        fields: &SubmitFields, dcs: u8, has_header: bool, target: &str, octets: &[u8],
+    ) -> Result<Vec<u8>, Error> {
+        let fields = fields.raw();
+        answer(raw::SMS_UNIT_MAX, |out, room, needed| {
+            // SAFETY: each pointer is to as many octets as are counted with it.
+            unsafe {
+                raw::sms_submit_data_write(
+                    &fields, dcs, u8::from(has_header), target.as_ptr(), target.len(), octets.as_ptr(), octets.len(),
+                    out, room, needed,
+                )
+            }
+        })
     }
 
     unit_parts!();
@@ -796,7 +830,124 @@ impl Report {
     }
 }
 
+/// What a report may have to be written: TP-PID, TP-DCS, and TP-UD.
+#[derive(Clone, Copy, Debug, Default, PartialEq, Eq, Hash)]
+pub struct ReportFields<'a> {
+    pub pid: Option<u8>,
+    pub dcs: Option<u8>,
+    /// TP-UD, at most 159 octets.
+    pub data: Option<&'a [u8]>,
+    /// TP-UDHI: the data begin with a header, its length octet first.
+    pub has_header: bool,
+    /// TP-UDL: septets under the 7-bit alphabet, and where there is no TP-DCS; else octets.
+    pub length: u8,
+}
+
+impl<'a> ReportFields<'a> {
+    /// Data under a TP-DCS that counts in octets.
+    pub fn octets(dcs: u8, data: &'a [u8]) -> ReportFields<'a> {
+        let length = u8::try_from(data.len()).unwrap_or(u8::MAX);
+        ReportFields { dcs: Some(dcs), data: Some(data), length, ..ReportFields::default() }
+    }
+
+    fn raw(&self, cause: u8, stamp: Stamp) -> raw::ReportFields {
+        raw::ReportFields {
+            stamp: stamp.raw(),
+            cause,
+            has_pid: u8::from(self.pid.is_some()),
+            pid: self.pid.unwrap_or_default(),
+            has_dcs: u8::from(self.dcs.is_some()),
+            dcs: self.dcs.unwrap_or_default(),
+            has_data: u8::from(self.data.is_some()),
+            has_header: u8::from(self.has_header),
+            length: self.length,
+            spare: [0; 6],
+        }
+    }
+}
+
+type ReportWriter = unsafe extern "C" fn(*const raw::ReportFields, *const u8, usize, *mut u8, usize, *mut usize) -> u32;
+
+fn write_report(call: ReportWriter, fields: &ReportFields<'_>, cause: u8, stamp: Stamp) -> Result<Vec<u8>, Error> {
+    let (given, data) = (fields.raw(cause, stamp), fields.data.unwrap_or_default());
+    answer(raw::SMS_UNIT_MAX, |out, room, needed| {
+        // SAFETY: the octets are as many as counted, and the rest is ours.
+        unsafe { call(&given, data.as_ptr(), data.len(), out, room, needed) }
+    })
+}
+
+/// No report has it.
+const NO_STAMP: Stamp = Stamp([0; 7]);
+
+impl Report {
+    /// An SMS-DELIVER-REPORT for an RP-ACK.
+    pub fn write_deliver_ack(fields: &ReportFields<'_>) -> Result<Vec<u8>, Error> {
+        write_report(raw::sms_deliver_ack_write, fields, 0, NO_STAMP)
+    }
+
+    /// An SMS-DELIVER-REPORT for an RP-ERROR, with TP-FCS.
+    pub fn write_deliver_error(fields: &ReportFields<'_>, cause: u8) -> Result<Vec<u8>, Error> {
+        write_report(raw::sms_deliver_error_write, fields, cause, NO_STAMP)
+    }
+
+    /// An SMS-SUBMIT-REPORT for an RP-ACK, with TP-SCTS.
+    pub fn write_submit_ack(fields: &ReportFields<'_>, stamp: Stamp) -> Result<Vec<u8>, Error> {
+        write_report(raw::sms_submit_ack_write, fields, 0, stamp)
+    }
+
+    /// An SMS-SUBMIT-REPORT for an RP-ERROR, with TP-FCS and TP-SCTS.
+    pub fn write_submit_error(fields: &ReportFields<'_>, cause: u8, stamp: Stamp) -> Result<Vec<u8>, Error> {
+        write_report(raw::sms_submit_error_write, fields, cause, stamp)
+    }
+}
+
 // ---- status reports, and commands
+
+/// What an SMS-STATUS-REPORT has besides a recipient.
+#[derive(Clone, Copy, Debug, PartialEq, Eq, Hash)]
+pub struct StatusReportFields<'a> {
+    /// TP-SCTS: when the centre took the message.
+    pub stamp: Stamp,
+    /// TP-DT: when it came to its recipient, or when the centre last tried.
+    pub discharged: Stamp,
+    /// TP-ST.
+    pub status: u8,
+    /// TP-MR of the submission, or of the command.
+    pub reference: u8,
+    pub more: bool,
+    pub looped: bool,
+    pub qualifier: bool,
+    pub parts: ReportFields<'a>,
+}
+
+impl<'a> StatusReportFields<'a> {
+    /// No flag is set, TP-MR is 0, and there is neither TP-PID nor TP-DCS nor TP-UD.
+    pub fn new(stamp: Stamp, discharged: Stamp, status: u8) -> StatusReportFields<'a> {
+        let parts = ReportFields::default();
+        StatusReportFields { stamp, discharged, status, reference: 0, more: false, looped: false, qualifier: false, parts }
+    }
+
+    fn raw(&self) -> raw::StatusReportFields {
+        let parts = self.parts.raw(0, NO_STAMP);
+        raw::StatusReportFields {
+            stamp: self.stamp.raw(),
+            discharged: self.discharged.raw(),
+            more: u8::from(self.more),
+            looped: u8::from(self.looped),
+            qualifier: u8::from(self.qualifier),
+            reference: self.reference,
+            status: self.status,
+            has_pid: parts.has_pid,
+            pid: parts.pid,
+            has_dcs: parts.has_dcs,
+            dcs: parts.dcs,
+            has_data: parts.has_data,
+            has_header: parts.has_header,
+            length: parts.length,
+            spare: [0; 6],
+        }
+    }
+}
 
 /// SMS-STATUS-REPORT: how it stands with a message that a phone has submitted (3GPP TS 23.040, 9.2.2.3).
 #[derive(Clone, Debug, PartialEq, Eq)]
@@ -835,6 +986,19 @@ pub struct StatusReport {
 }
 
 impl StatusReport {
+    /// The unit, to a recipient: + and digits, digits, or a name.
+    pub fn write(fields: &StatusReportFields<'_>, recipient: &str) -> Result<Vec<u8>, Error> {
+        let (given, data) = (fields.raw(), fields.parts.data.unwrap_or_default());
+        answer(raw::SMS_UNIT_MAX, |out, room, needed| {
+            // SAFETY: each pointer is to as many octets as are counted with it.
+            unsafe {
+                raw::sms_status_report_write(
+                    &given, recipient.as_ptr(), recipient.len(), data.as_ptr(), data.len(), out, room, needed,
+                )
+            }
+        })
+    }
+
     /// As that of a [`Report`].
     pub fn text(&self) -> Result<String, Error> {
         let data = self.data.as_deref().unwrap_or_default();

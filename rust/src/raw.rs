@@ -229,6 +229,35 @@ structs! {
         message_class: u8,
         spare: [u8; 6],
     }
+    "sms_report_fields" ReportFields {
+        stamp: Stamp,
+        cause: u8,
+        has_pid: u8,
+        pid: u8,
+        has_dcs: u8,
+        dcs: u8,
+        has_data: u8,
+        has_header: u8,
+        length: u8,
+        spare: [u8; 6],
+    }
+    "sms_status_report_fields" StatusReportFields {
+        stamp: Stamp,
+        discharged: Stamp,
+        more: u8,
+        looped: u8,
+        qualifier: u8,
+        reference: u8,
+        status: u8,
+        has_pid: u8,
+        pid: u8,
+        has_dcs: u8,
+        dcs: u8,
+        has_data: u8,
+        has_header: u8,
+        length: u8,
+        spare: [u8; 6],
+    }
 }
 
 /// A joiner: closed, or with what the library holds for it.
@@ -300,6 +329,30 @@ extern "C" {
     ) -> u32;
     pub fn sms_status_report_text(
         octets: *const u8, count: usize, report: *const StatusReport, out: *mut u8, room: usize, needed: *mut usize,
+    ) -> u32;
+    pub fn sms_deliver_ack_write(
+        fields: *const ReportFields, octets: *const u8, count: usize, out: *mut u8, room: usize, needed: *mut usize,
+    ) -> u32;
+    pub fn sms_deliver_error_write(
+        fields: *const ReportFields, octets: *const u8, count: usize, out: *mut u8, room: usize, needed: *mut usize,
+    ) -> u32;
+    pub fn sms_submit_ack_write(
+        fields: *const ReportFields, octets: *const u8, count: usize, out: *mut u8, room: usize, needed: *mut usize,
+    ) -> u32;
+    pub fn sms_submit_error_write(
+        fields: *const ReportFields, octets: *const u8, count: usize, out: *mut u8, room: usize, needed: *mut usize,
+    ) -> u32;
+    pub fn sms_status_report_write(
+        fields: *const StatusReportFields, recipient: *const u8, recipient_count: usize, octets: *const u8,
+        count: usize, out: *mut u8, room: usize, needed: *mut usize,
+    ) -> u32;
+    pub fn sms_submit_data_write(
+        fields: *const SubmitFields, dcs: u8, has_header: u8, target: *const u8, target_count: usize,
+        octets: *const u8, count: usize, out: *mut u8, room: usize, needed: *mut usize,
+    ) -> u32;
+    pub fn sms_deliver_data_write(
+        fields: *const DeliverFields, dcs: u8, has_header: u8, origin: *const u8, origin_count: usize,
+        octets: *const u8, count: usize, out: *mut u8, room: usize, needed: *mut usize,
     ) -> u32;
     pub fn sms_joiner_open(joiner: *mut Joiner, open_max: usize, remembered: usize) -> u32;
     pub fn sms_joiner_close(joiner: *mut Joiner);

@@ -1,7 +1,7 @@
 //! Memory ends after each number of requests in turn: the crate says `NoMemory` then, and nothing ends the program.
 
 use sms::{Command, Deliver, DeliverFields, Envelope, Error, Joiner, Offer, Reference, Report, Stamp, StatusReport, Submit};
-use sms::{SubmitFields, Validity};
+use sms::{ReportFields, StatusReportFields, SubmitFields, Validity};
 use std::alloc::{GlobalAlloc, Layout, System};
 use std::cell::Cell;
 
@@ -69,6 +69,7 @@ fn units() {
     assert_eq!(requests(|| Deliver::write(&fields(), "12345", "hello", 0)), 1);
     let fields = SubmitFields::new(Reference::Eight(0), Validity::Absent);
     assert_eq!(requests(|| Submit::write(&fields, "12345", "hello", 0)), 1);
+    assert_eq!(requests(|| Submit::write_data(&fields, 4, false, "12345", &[1, 2])), 1);
     let (unit, _) = Submit::write(&fields, "12345", "hello", 0).unwrap();
     assert_eq!(requests(|| Submit::read(&unit)), 2);
 }
@@ -79,6 +80,10 @@ fn reports_and_commands() {
     assert_eq!(requests(|| Report::read_deliver_ack(&report)), 2);
     let (report, _) = Report::read_deliver_ack(&[0x00, 0x06, 0x08, 0x02, 0x04, 0x4F]).unwrap();
     assert_eq!(requests(|| report.text()), 1);
+    assert_eq!(requests(|| Report::write_deliver_ack(&ReportFields::octets(4, &[1, 2]))), 1);
+    assert_eq!(requests(|| Report::write_submit_error(&ReportFields::default(), 0xD6, Stamp(STAMP))), 1);
+    let fields = StatusReportFields::new(Stamp(STAMP), Stamp(STAMP), 0);
+    assert_eq!(requests(|| StatusReport::write(&fields, "12345")), 1);
     let command = [0xFE, 0x08, 0x41, 0x00, 0x06, 0x02, 0x81, 0x21, 0x03, 0x02, 0xBB, 0xCC];
     assert_eq!(requests(|| Command::read(&command)), 3);
     let told = [&[0xFA, 0x07, 0x02, 0x81, 0x21][..], &STAMP, &STAMP, &[0x46, 0x87, 0x00, 0x7F, 0x04, 0x02, 0xAA, 0xBB]].concat();

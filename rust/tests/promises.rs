@@ -2,7 +2,7 @@
 
 use sms::{
     Alphabet, Command, Cp, CpBody, Deliver, DeliverFields, Envelope, Error, Joiner, Offer, Place, Reason, Reference, Refused,
-    Report, Rp, RpBody, Stamp, StatusReport, Submit, SubmitFields, Validity,
+    Report, ReportFields, Rp, RpBody, Stamp, StatusReport, StatusReportFields, Submit, SubmitFields, Validity,
 };
 use std::sync::Mutex;
 
@@ -76,6 +76,58 @@ fn writes_classes() {
         let fields = SubmitFields { message_class: Some(wrong), ..SubmitFields::new(Reference::Eight(0), Validity::Absent) };
         assert_eq!(Submit::write(&fields, "1", "", 0), Err(Error::OutOfRange));
     }
+}
+
+#[test]
+fn writes_reports() {
+    let stamp = Stamp([0x30, 0x21, 0x72, 0x51, 0x40, 0x90, 0x80]);
+    let none = ReportFields::default();
+    assert_eq!(Report::write_deliver_ack(&none), Ok(vec![0x00, 0x00]));
+    let abc = ReportFields { pid: Some(0), dcs: Some(0), data: Some(b"abc"), length: 3, ..none };
+    assert_eq!(Report::write_deliver_ack(&abc), Ok(vec![0x00, 0x07, 0x00, 0x00, 0x03, 0x61, 0x62, 0x63]));
+    let octets = ReportFields { pid: Some(0), ..ReportFields::octets(4, &[0x01, 0x02, 0xF0]) };
+    let wanted = vec![0x00, 0xC1, 0x07, 0x00, 0x04, 0x03, 0x01, 0x02, 0xF0];
+    assert_eq!(Report::write_deliver_error(&octets, 0xC1), Ok(wanted));
+    let unit = Report::write_submit_ack(&none, stamp).unwrap();
+    assert_eq!(unit, [&[0x01, 0x00][..], &stamp.0].concat());
+    let unit = Report::write_submit_error(&ReportFields { pid: Some(0xAA), ..none }, 0xD6, stamp).unwrap();
+    assert_eq!(unit, [&[0x01, 0xD6, 0x01][..], &stamp.0, &[0xAA]].concat());
+    assert_eq!(Report::write_deliver_ack(&ReportFields::octets(4, &[0; 160])), Err(Error::TooLong));
+    assert_eq!(Report::write_deliver_ack(&ReportFields { has_header: true, ..none }), Err(Error::OutOfRange));
+    assert_eq!(Report::write_deliver_ack(&ReportFields { length: 2, ..abc }), Err(Error::OutOfRange));
+}
+
+#[test]
+fn writes_status_reports() {
+    let told = [Stamp([0x01, 0x60, 0x12, 0x41, 0x30, 0x34, 0x0A]), Stamp([0x01, 0x60, 0x12, 0x41, 0x30, 0x94, 0x0A])];
+    let plain = StatusReportFields { reference: 4, ..StatusReportFields::new(told[0], told[1], 0) };
+    let address = [0x0D, 0x91, 0x94, 0x51, 0x52, 0x99, 0x11, 0x36, 0xF0];
+    let unit = StatusReport::write(&plain, "+4915259911630").unwrap();
+    assert_eq!(unit, [&[0x06, 0x04][..], &address, &told[0].0, &told[1].0, &[0x00]].concat());
+    let parts = ReportFields { pid: Some(0x7F), has_header: true, ..ReportFields::octets(4, &[0x01, 0xBB, 0xCC]) };
+    let full = StatusReportFields { more: true, looped: true, qualifier: true, status: 0x46, parts, ..plain };
+    let unit = StatusReport::write(&full, "+4915259911630").unwrap();
+    let last = [0x46, 0x07, 0x7F, 0x04, 0x03, 0x01, 0xBB, 0xCC];
+    assert_eq!(unit, [&[0x6A, 0x04][..], &address, &told[0].0, &told[1].0, &last].concat());
+    let (report, _) = StatusReport::read(&unit).unwrap();
+    assert_eq!((report.more, report.looped, report.qualifier, report.has_header), (true, true, true, true));
+    assert_eq!(StatusReport::write(&plain, "+1x"), Err(Error::BadAddress));
+}
+
+#[test]
+fn writes_data() {
+    let submit = SubmitFields { message_reference: 7, ..SubmitFields::new(Reference::Eight(0), Validity::Absent) };
+    let address = [0x0B, 0x91, 0x64, 0x07, 0x28, 0x15, 0x53, 0xF8];
+    let data = [0x05, 0x00, 0x03, 0x2A, 0x02, 0x01, 0x41];
+    let unit = Submit::write_data(&submit, 0x15, true, "+46708251358", &data).unwrap();
+    assert_eq!(unit, [&[0x41, 0x07][..], &address, &[0x00, 0x15, 0x07], &data].concat());
+    let place = Place { reference: Reference::Eight(0x2A), maximum: 2, sequence: 1 };
+    assert_eq!(Submit::read(&unit).unwrap().0.place(), Some(place));
+    let deliver = DeliverFields { more: true, ..DeliverFields::new(Reference::Eight(0), STAMP) };
+    let unit = Deliver::write_data(&deliver, 4, false, "+46708251358", &[0xAA, 0xBB]).unwrap();
+    assert_eq!(unit, [&[0x00][..], &address, &[0x00, 0x04], &STAMP.0, &[0x02, 0xAA, 0xBB]].concat());
+    assert_eq!(Deliver::write_data(&deliver, 4, false, "1", &[0; 141]), Err(Error::TooLong));
+    assert_eq!(Deliver::write_data(&deliver, 0, false, "1", b"abc"), Err(Error::OutOfRange));
 }
 
 #[test]

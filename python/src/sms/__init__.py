@@ -484,6 +484,25 @@ class Deliver(_Unit):
         )
         return _segments(raw.lib.sms_deliver_write, fields, origin, text)
 
+    @staticmethod
+    def write_data(
+        origin: str,
+        data: Octets,
+        stamp: Stamp,
+        dcs: int = 4,
+        *,
+        has_header: bool = False,
+        more: bool = False,
+        looped: bool = False,
+        report: bool = False,
+        reply: bool = False,
+        pid: int = 0,
+    ) -> bytes:
+        """A unit with these octets as TP-UD, at most 140: 8-bit data, or what another TP-DCS says, but septets. With
+        `has_header` they begin with a header, its length octet first."""
+        fields = raw.DeliverFields(more=more, looped=looped, report=report, reply=reply, pid=_octet(pid), stamp=stamp._raw())
+        return _data_unit(raw.lib.sms_deliver_data_write, fields, dcs, has_header, origin, data)
+
 
 @dataclass(frozen=True)
 class Submit(_Unit):
@@ -543,6 +562,38 @@ class Submit(_Unit):
             message_class=_class(message_class),
         )
         return _segments(raw.lib.sms_submit_write, fields, target, text)
+
+    @staticmethod
+    def write_data(
+        target: str,
+        data: Octets,
+        dcs: int = 4,
+        *,
+        has_header: bool = False,
+        message_reference: int = 0,
+        validity: Validity = Validity(),
+        reject: bool = False,
+        report: bool = False,
+        reply: bool = False,
+        pid: int = 0,
+    ) -> bytes:
+        """As `Deliver.write_data`."""
+        fields = raw.SubmitFields(
+            reject=reject,
+            report=report,
+            reply=reply,
+            reference=_octet(message_reference),
+            pid=_octet(pid),
+            validity=validity._raw(),
+        )
+        return _data_unit(raw.lib.sms_submit_data_write, fields, dcs, has_header, target, data)
+
+
+def _data_unit(call: Callable[..., int], fields: Any, dcs: int, has_header: bool, address: str, data: Octets) -> bytes:
+    """A unit of octets."""
+    to, octets = _utf8(address), _octets(data)
+    given = byref(fields), _octet(dcs), bool(has_header), to, len(to), octets, len(octets)
+    return _answer(UNIT_MAX, call, *given)
 
 
 def _class(message_class: Optional[int]) -> int:
@@ -612,8 +663,39 @@ def _report(call: Callable[..., int], octets: Octets) -> Report:
     )
 
 
+def _parts(
+    pid: Optional[int], dcs: Optional[int], data: Optional[bytes], has_header: bool, length: Optional[int]
+) -> Dict[str, int]:
+    """The parts of a report that may be left out, as the library is told them."""
+    return {
+        "has_pid": pid is not None,
+        "pid": _octet(pid or 0),
+        "has_dcs": dcs is not None,
+        "dcs": _octet(dcs or 0),
+        "has_data": data is not None,
+        "has_header": bool(has_header),
+        "length": _octet(len(data or b"") if length is None else length),
+    }
+
+
+def _data(data: Optional[Octets]) -> Optional[bytes]:
+    """TP-UD, if there is one: so many octets that TP-UDL counts them."""
+    octets = None if data is None else _octets(data)
+    if octets is not None and len(octets) > 159:
+        raise TooLong("the data of a report have at most 159 octets")
+    return octets
+
+
+def _written(call: Callable[..., int], fields: Any, data: Optional[bytes], *address: Any) -> bytes:
+    """A report with these data."""
+    octets = data or b""
+    return _answer(UNIT_MAX, call, byref(fields), *address, octets, len(octets))
+
+
 class DeliverReport:
-    """Readers of SMS-DELIVER-REPORT."""
+    """Readers and writers of SMS-DELIVER-REPORT. What is written has TP-PID, TP-DCS and TP-UD where they are given; TP-UDL is
+    `length`, in septets under the 7-bit alphabet and where there is no TP-DCS, and else, or if none is given, the number of
+    the octets; with `has_header` the octets begin with a header, its length octet first."""
 
     @staticmethod
     def read_ack(octets: Octets) -> Report:
@@ -625,9 +707,38 @@ class DeliverReport:
         """As it stands in an RP-ERROR."""
         return _report(raw.lib.sms_deliver_error_read, octets)
 
+    @staticmethod
+    def write_ack(
+        *,
+        pid: Optional[int] = None,
+        dcs: Optional[int] = None,
+        data: Optional[Octets] = None,
+        has_header: bool = False,
+        length: Optional[int] = None,
+    ) -> bytes:
+        """For an RP-ACK."""
+        octets = _data(data)
+        fields = raw.ReportFields(**_parts(pid, dcs, octets, has_header, length))
+        return _written(raw.lib.sms_deliver_ack_write, fields, octets)
+
+    @staticmethod
+    def write_error(
+        cause: int,
+        *,
+        pid: Optional[int] = None,
+        dcs: Optional[int] = None,
+        data: Optional[Octets] = None,
+        has_header: bool = False,
+        length: Optional[int] = None,
+    ) -> bytes:
+        """For an RP-ERROR, with TP-FCS."""
+        octets = _data(data)
+        fields = raw.ReportFields(cause=_octet(cause), **_parts(pid, dcs, octets, has_header, length))
+        return _written(raw.lib.sms_deliver_error_write, fields, octets)
+
 
 class SubmitReport:
-    """Readers of SMS-SUBMIT-REPORT."""
+    """Readers and writers of SMS-SUBMIT-REPORT, as in `DeliverReport`."""
 
     @staticmethod
     def read_ack(octets: Octets) -> Report:
@@ -638,6 +749,38 @@ class SubmitReport:
     def read_error(octets: Octets) -> Report:
         """As it stands in an RP-ERROR."""
         return _report(raw.lib.sms_submit_error_read, octets)
+
+    @staticmethod
+    def write_ack(
+        stamp: Stamp,
+        *,
+        pid: Optional[int] = None,
+        dcs: Optional[int] = None,
+        data: Optional[Octets] = None,
+        has_header: bool = False,
+        length: Optional[int] = None,
+    ) -> bytes:
+        """For an RP-ACK, with TP-SCTS."""
+        octets = _data(data)
+        fields = raw.ReportFields(stamp=stamp._raw(), **_parts(pid, dcs, octets, has_header, length))
+        return _written(raw.lib.sms_submit_ack_write, fields, octets)
+
+    @staticmethod
+    def write_error(
+        cause: int,
+        stamp: Stamp,
+        *,
+        pid: Optional[int] = None,
+        dcs: Optional[int] = None,
+        data: Optional[Octets] = None,
+        has_header: bool = False,
+        length: Optional[int] = None,
+    ) -> bytes:
+        """For an RP-ERROR, with TP-FCS and TP-SCTS."""
+        octets = _data(data)
+        parts = _parts(pid, dcs, octets, has_header, length)
+        fields = raw.ReportFields(cause=_octet(cause), stamp=stamp._raw(), **parts)
+        return _written(raw.lib.sms_submit_error_write, fields, octets)
 
 
 @dataclass(frozen=True)
@@ -670,6 +813,37 @@ class StatusReport:
     def text(self) -> str:
         """As that of a `Report`."""
         return _data_text(raw.lib.sms_status_report_text, raw.StatusReport, self)
+
+    @staticmethod
+    def write(
+        recipient: str,
+        stamp: Stamp,
+        discharged: Stamp,
+        status: int,
+        *,
+        reference: int = 0,
+        more: bool = False,
+        looped: bool = False,
+        qualifier: bool = False,
+        pid: Optional[int] = None,
+        dcs: Optional[int] = None,
+        data: Optional[Octets] = None,
+        has_header: bool = False,
+        length: Optional[int] = None,
+    ) -> bytes:
+        """The unit; its data as in `DeliverReport`."""
+        octets, to = _data(data), _utf8(recipient)
+        fields = raw.StatusReportFields(
+            stamp=stamp._raw(),
+            discharged=discharged._raw(),
+            more=bool(more),
+            looped=bool(looped),
+            qualifier=bool(qualifier),
+            reference=_octet(reference),
+            status=_octet(status),
+            **_parts(pid, dcs, octets, has_header, length),
+        )
+        return _written(raw.lib.sms_status_report_write, fields, octets, to, len(to))
 
     @classmethod
     def read(cls, octets: Octets) -> StatusReport:

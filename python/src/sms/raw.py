@@ -235,6 +235,41 @@ class DeliverFields(Structure):
     ]
 
 
+class ReportFields(Structure):
+    _fields_ = [
+        ("stamp", Stamp),
+        ("cause", c_uint8),
+        ("has_pid", c_uint8),
+        ("pid", c_uint8),
+        ("has_dcs", c_uint8),
+        ("dcs", c_uint8),
+        ("has_data", c_uint8),
+        ("has_header", c_uint8),
+        ("length", c_uint8),
+        ("spare", c_uint8 * 6),
+    ]
+
+
+class StatusReportFields(Structure):
+    _fields_ = [
+        ("stamp", Stamp),
+        ("discharged", Stamp),
+        ("more", c_uint8),
+        ("looped", c_uint8),
+        ("qualifier", c_uint8),
+        ("reference", c_uint8),
+        ("status", c_uint8),
+        ("has_pid", c_uint8),
+        ("pid", c_uint8),
+        ("has_dcs", c_uint8),
+        ("dcs", c_uint8),
+        ("has_data", c_uint8),
+        ("has_header", c_uint8),
+        ("length", c_uint8),
+        ("spare", c_uint8 * 6),
+    ]
+
+
 class Joiner(Structure):
     _fields_ = [("open", c_uint32), ("inside", c_void_p)]
 
@@ -260,6 +295,8 @@ STRUCTS: Dict[str, Any] = {
     "sms_reference": Reference,
     "sms_submit_fields": SubmitFields,
     "sms_deliver_fields": DeliverFields,
+    "sms_report_fields": ReportFields,
+    "sms_status_report_fields": StatusReportFields,
     "sms_joiner": Joiner,
 }
 
@@ -307,6 +344,13 @@ CALLS: Dict[str, List[Any]] = {
     "sms_relay_address_text": [*_IN, POINTER(Rp), *_OUT],
     "sms_report_text": [*_IN, POINTER(Report), *_OUT],
     "sms_status_report_text": [*_IN, POINTER(StatusReport), *_OUT],
+    "sms_deliver_ack_write": [POINTER(ReportFields), *_IN, *_OUT],
+    "sms_deliver_error_write": [POINTER(ReportFields), *_IN, *_OUT],
+    "sms_submit_ack_write": [POINTER(ReportFields), *_IN, *_OUT],
+    "sms_submit_error_write": [POINTER(ReportFields), *_IN, *_OUT],
+    "sms_status_report_write": [POINTER(StatusReportFields), *_IN, *_IN, *_OUT],
+    "sms_submit_data_write": [POINTER(SubmitFields), c_uint8, c_uint8, *_IN, *_IN, *_OUT],
+    "sms_deliver_data_write": [POINTER(DeliverFields), c_uint8, c_uint8, *_IN, *_IN, *_OUT],
     "sms_joiner_open": [_JOINER, c_size_t, c_size_t],
     "sms_joiner_close": [_JOINER],
     "sms_joiner_offer": [_JOINER, c_uint64, *_IN, POINTER(c_uint32), _REFUSED],
