@@ -190,6 +190,17 @@ class Writers(unittest.TestCase):
         with self.assertRaises(sms.BadAddress):
             sms.StatusReport.write("+1x", *given[1:], 0)
 
+    def test_the_longest_units(self):
+        absolute, most = sms.Validity.absolute(STAMP), "+" + "1" * 20
+        for unit, length in (
+            (sms.Submit.write_data(most, bytes(140), validity=absolute), 164),
+            (sms.SubmitReport.write_error(1, STAMP, pid=0, dcs=4, data=bytes(159)), 172),
+            (sms.StatusReport.write(most, STAMP, STAMP, 0, pid=0, dcs=4, data=bytes(159)), sms.raw.UNIT_MAX),
+        ):
+            self.assertEqual(len(unit), length)
+            packet = sms.wrap(unit, flag=True, value=6, to_phone=False, reference=255, centre=most)
+            self.assertLessEqual(len(packet), sms.raw.PACKET_MAX)
+
     def test_data(self):
         unit = sms.Submit.write_data("+46708251358", b"\xaa\xbb")
         self.assertEqual(unit.hex().upper(), "01000B916407281553F8000402AABB")

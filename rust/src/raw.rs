@@ -5,7 +5,7 @@ pub const SMS_ABI: u32 = 2;
 pub const SMS_VERSION: u32 = 2_000_000;
 
 pub const SMS_TEXT_MAX: usize = 480;
-pub const SMS_UNIT_MAX: usize = 184;
+pub const SMS_UNIT_MAX: usize = 192;
 pub const SMS_PACKET_MAX: usize = 258;
 pub const SMS_ADDRESS_TEXT_MAX: usize = 33;
 

@@ -13,7 +13,7 @@ from typing import Any, Dict, List
 # always enough.
 VERSION = 2_000_000
 ABI = VERSION // 1_000_000
-TEXT_MAX, UNIT_MAX, PACKET_MAX, ADDRESS_TEXT_MAX = 480, 184, 258, 33
+TEXT_MAX, UNIT_MAX, PACKET_MAX, ADDRESS_TEXT_MAX = 480, 192, 258, 33
 # Of packets: CP-DATA and RP-DATA, CP-ACK and RP-ACK, CP-ERROR and RP-ERROR.
 KINDS = ("data", "ack", "error")
 
