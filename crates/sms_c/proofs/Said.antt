@@ -1,11 +1,9 @@
 -- The address that a text says, where it is UTF-8 and where it is none.
-use Rattle.std.proofs.Common.{◌≡◌, ℕ, List, Bool, true, false, Result, Ok, Err, if◌then◌else◌, ap, refl, sym, ◌∙◌}
+use Rattle.std.proofs.Common.{◌≡◌, ℕ, List, Bool, true, false, Err, if◌then◌else◌, ap, refl, sym, ◌∙◌}
 use Rattle.std.proofs.lemmas.Str.{IsUtf8-from_is_utf8, is_utf8-from_IsUtf8}
 use Rattle.std.specs.Str.{chars, is_utf8, IsUtf8}
 use Rattle.sms_field.specs.Address.Text.{address_of_text}
-use Rattle.sms_field.specs.Address.Value.{AddressValue}
 use Rattle.sms_c.specs.AddressGiven.{address_given, address_or}
-use Rattle.sms_c.specs.declared.status.Failure.{Failure}
 use Rattle.sms_c.specs.declared.status.Failure.TheVariants.{NotUtf8}
 
 pub in_utf8 : (text lent : List ℕ) → lent ≡ text → IsUtf8 text → address_or (address_of_text (chars lent)) ≡ address_given text
