@@ -12,6 +12,8 @@ prefix=${PREFIX:-/usr/local}
 root=${DESTDIR:-}
 lib=$root$prefix/lib
 version=$(cat "$here/VERSION")
+abi=${version%%.*}
+shared=libsms.so.$abi
 case $prefix in
 /*) ;;
 *) echo "PREFIX is a path from the root, and not $prefix" >&2; exit 2 ;;
@@ -22,7 +24,7 @@ case $# in
 esac
 needs_right "$lib/pkgconfig" "$lib" "$root$prefix/include"
 if [ -n "$uninstall" ]; then
-	rm -f "$lib/libsms.a" "$lib/libsms.so" "$lib/libsms.so.1" "$lib/pkgconfig/sms.pc" "$root$prefix/include/sms.h"
+	rm -f "$lib/libsms.a" "$lib/libsms.so" "$lib/$shared" "$lib/pkgconfig/sms.pc" "$root$prefix/include/sms.h"
 	echo "libsms is no longer below $root$prefix"
 	exit
 fi
@@ -33,11 +35,11 @@ trap 'exit 1' HUP INT TERM
 
 # Takes the library of an earlier PREFIX, if it is of this header.
 take() {
-	for file in include/sms.h lib/libsms.a lib/libsms.so.1; do
+	for file in include/sms.h lib/libsms.a "lib/$shared"; do
 		needs_file "$BUILT/$file" "BUILT is a folder that c/build.sh has filled"
 	done
 	cmp -s "$BUILT/include/sms.h" "$here/sms.h" || { echo "$BUILT/include/sms.h is of another sms" >&2; exit 2; }
-	cp "$BUILT/lib/libsms.a" "$BUILT/lib/libsms.so.1" "$room/"
+	cp "$BUILT/lib/libsms.a" "$BUILT/lib/$shared" "$room/"
 }
 
 needs_tools() {
@@ -50,23 +52,25 @@ needs_tools() {
 	exit 2
 }
 
-# The library's object and the kit's heap, which calls malloc, realloc and free, become one object that shows sms_* alone,
-# so that another static library of Rattle can stand beside it.
+# The library's object and the kit's heap, which calls malloc, realloc and free, become one object that shows the names of
+# sms.map alone, so that another static library of Rattle can stand beside it.
 build() {
 	kit=$(dirname "$(rt doc)")
 	if ! (cd "$here/../crates/sms_c" && rt lib) >"$room/log" 2>&1; then
 		tail -n 40 "$room/log" >&2
 		exit 1
 	fi
+	sed "s/@abi@/$abi/" "$here/sms.map" >"$room/sms.map"
+	sed -n 's/^ *\(sms_.*\);$/\1/p' "$room/sms.map" >"$room/names"
 	(
 		cd "$room"
 		ar x "$here/../crates/sms_c/out/libsms_c.a"
 		ar x "$kit/c/liblibc_c.a"
 		ld -r -o sms.o sms_c.o heap.pic.o
-		objcopy --wildcard --keep-global-symbol='sms_*' sms.o
+		objcopy --keep-global-symbols=names sms.o
 		ar rcs libsms.a sms.o
 	)
-	${CC:-cc} -shared -o "$room/libsms.so.1" -Wl,-soname,libsms.so.1 "-Wl,--version-script=$here/sms.map" \
+	${CC:-cc} -shared -o "$room/$shared" "-Wl,-soname,$shared" "-Wl,--version-script=$room/sms.map" \
 		-Wl,--gc-sections -Wl,-z,relro,-z,now -Wl,-z,noexecstack -Wl,--no-undefined -s \
 		-Wl,--whole-archive "$room/libsms.a" -Wl,--no-whole-archive
 }
@@ -83,8 +87,8 @@ fi
 } >"$room/sms.pc"
 install -d "$lib/pkgconfig" "$root$prefix/include"
 install -m 644 "$room/libsms.a" "$lib/"
-install -m 755 "$room/libsms.so.1" "$lib/"
-ln -sfn libsms.so.1 "$lib/libsms.so"
+install -m 755 "$room/$shared" "$lib/"
+ln -sfn "$shared" "$lib/libsms.so"
 install -m 644 "$here/sms.h" "$root$prefix/include/"
 install -m 644 "$room/sms.pc" "$lib/pkgconfig/"
 echo "libsms $version is below $root$prefix"

@@ -6,11 +6,13 @@
 set -eu
 here=$(CDPATH='' cd -- "$(dirname -- "$0")" && pwd -P)
 prefix=${PREFIX:-/usr/local}
+shared=libsms.so.$(sed 's/[.].*//' "$here/VERSION")
 units=${UNITS:-200000}
 room=$(mktemp -d)
 trap 'rm -rf "$room"' EXIT
 trap 'exit 1' HUP INT TERM
-flags="-std=c99 -Wall -Wextra -Wpedantic -Werror -gdwarf-4 -O1 -I$prefix/include"
+# A struct may be filled by its first fields alone: what is left out is 0, as spare octets have to be.
+flags="-std=c99 -Wall -Wextra -Wno-missing-field-initializers -Wpedantic -Werror -gdwarf-4 -O1 -I$prefix/include"
 dynamic="-L$prefix/lib -lsms"
 export LD_LIBRARY_PATH="$prefix/lib${LD_LIBRARY_PATH:+:$LD_LIBRARY_PATH}"
 # Python writes nothing beside its files, and cargo nothing but its target folder.
@@ -31,20 +33,49 @@ has() {
 	$1 $2 "$room/empty.c" -o "$room/empty" >/dev/null 2>&1 && "$room/empty" >/dev/null 2>&1
 }
 
+# refuses WORD COMPILER..: it ends with an error of that word for the program on standard input.
+refuses() {
+	word=$1
+	shift
+	cat >"$room/wrong.c"
+	if "$@" "-I$prefix/include" -c "$room/wrong.c" -o "$room/wrong.o" 2>"$room/wrong" || ! grep -q "error.*$word" "$room/wrong"; then
+		cat "$room/wrong"
+		echo "$* tells no error of $word"
+		exit 1
+	fi
+}
+
+# What the header alone sees to: sizes of structs, and statuses that are looked at.
+header() {
+	for std in c99 c11 c2x; do
+		$1 -std=$std -Wall -Wextra -Wpedantic -Werror "-I$prefix/include" -fsyntax-only "$here/tests/layout.c"
+	done
+	echo '#include <sms.h>' | refuses sms_deliver "$1" -std=c11 -fpack-struct=1
+	refuses unused-result "$1" -std=c99 -Werror <<'END'
+#include <sms.h>
+void ages(sms_joiner *joiner) { sms_joiner_age(joiner, 0); }
+END
+}
+
 # shellcheck disable=SC2086
 in_c() {
 	cc=$1
+	header "$cc"
 	guards="-fsanitize=address,undefined -fno-sanitize-recover=all"
 	if ! has "$cc" "$guards"; then
 		left_out "$cc has no address and undefined-behaviour sanitizers here"
 		guards=
 	fi
 	echo "== $cc, libsms.a ${guards:+under the sanitizers}"
-	$cc $flags $guards "$here/tests/promises.c" "$prefix/lib/libsms.a" -o "$room/static"
-	"$room/static" "$units"
+	for test in writers promises; do
+		$cc $flags $guards "$here/tests/$test.c" "$prefix/lib/libsms.a" -o "$room/static"
+		"$room/static" "$units"
+	done
 	echo "== $cc, libsms.so"
-	$cc $flags "$here/tests/promises.c" $dynamic -o "$room/shared"
-	"$room/shared" "$units"
+	for test in writers promises; do
+		$cc $flags "$here/tests/$test.c" $dynamic -o "$room/shared"
+		"$room/shared" "$units"
+	done
 	echo "== $cc, each request for memory refused in turn"
 	$cc $flags "$here/tests/memory.c" "$prefix/lib/libsms.a" -Wl,--wrap=malloc,--wrap=realloc,--wrap=free -o "$room/memory"
 	"$room/memory"
@@ -78,8 +109,12 @@ done
 for cxx in ${CXXS:-g++ clang++}; do
 	if there "$cxx"; then
 		echo "== $cxx"
-		$cxx -std=c++11 -Wall -Wextra -Wpedantic -Werror "-I$prefix/include" "$here/tests/compiles.cpp" $dynamic -o "$room/cpp"
-		"$room/cpp"
+		for std in c++11 c++20; do
+			$cxx -std=$std -Wall -Wextra -Wpedantic -Wzero-as-null-pointer-constant -Werror "-I$prefix/include" \
+				"$here/tests/compiles.cpp" $dynamic -o "$room/cpp"
+			"$room/cpp"
+		done
+		echo '#include <sms.h>' | refuses sms_deliver "$cxx" -xc++ -std=c++11 -fpack-struct=1
 	else
 		left_out "there is no $cxx"
 	fi
@@ -101,6 +136,7 @@ if there cargo && cargo --version >/dev/null 2>&1; then
 	export CARGO_TARGET_DIR="$room/target" CARGO_HOME="$room/cargo-home" SMS_LIB_DIR="$prefix/lib"
 	(cd "$here/../rust" && cargo test --offline --locked --quiet && cargo run --offline --locked --quiet --example layout) >"$room/cargo" ||
 		{ cat "$room/cargo"; exit 1; }
+	(cd "$here/../rust" && RUSTDOCFLAGS=-Dwarnings cargo doc --offline --locked --quiet --no-deps)
 	for example in read write join; do
 		(cd "$here/../rust" && cargo run --offline --locked --quiet --example "$example") >"$room/told"
 		cmp "$room/told" "$here/examples/$example.out"
@@ -114,7 +150,7 @@ fi
 
 if there python3; then
 	echo "== python3"
-	export SMS_LIBRARY="$prefix/lib/libsms.so.1" PYTHONPATH="$here/../python/src"
+	export SMS_LIBRARY="$prefix/lib/$shared" PYTHONPATH="$here/../python/src"
 	python3 -m unittest discover -q -s "$here/../python/tests"
 	asan=$(gcc -print-file-name=libasan.so 2>/dev/null || true)
 	if [ -f "$asan" ]; then
@@ -127,8 +163,16 @@ if there python3; then
 		python3 "$here/../python/examples/$example.py" >"$room/told"
 		cmp "$room/told" "$here/examples/$example.out"
 	done
+	if there mypy; then
+		echo "== mypy"
+		MYPYPATH=$PYTHONPATH mypy --strict --no-error-summary --cache-dir="$room/mypy" \
+			"$PYTHONPATH/sms" "$here"/../python/examples/*.py "$here/tests/typed.py"
+	else
+		left_out "there is no mypy, so Python's types are not checked"
+	fi
 	python3 "$here/tests/shown.py" "$here/../docs/C.md"
 	python3 "$here/tests/agree.py" "$room/layout.c.txt" "$SMS_LIBRARY" ${of_rust:+"$of_rust"}
+	python3 "$here/tests/planted.py" "$room/layout.c.txt" "$SMS_LIBRARY"
 	program=${SMS_PROGRAM:-$here/../crates/sms/out/sms}
 	if [ -x "$program" ] || [ -n "${SMS_PROGRAM:-}" ]; then
 		python3 "$here/tests/beside_show.py" "$program" "$units"

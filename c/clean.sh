@@ -10,6 +10,7 @@ here=$(CDPATH='' cd -- "$(dirname -- "$0")" && pwd -P)
 # shellcheck source=needs.sh source-path=SCRIPTDIR
 . "$here/needs.sh"
 top=$(dirname -- "$here")
+abi=$(sed 's/[.].*//' "$here/VERSION")
 release=bookworm
 if [ $# != 1 ] && [ $# != 2 ]; then
 	echo "usage: c/clean.sh PREFIX [DEBS]" >&2
@@ -17,7 +18,7 @@ if [ $# != 1 ] && [ $# != 2 ]; then
 fi
 [ "$(id -u)" = 0 ] || { echo "only root can make a Debian of its own" >&2; exit 2; }
 needs_tool debootstrap "Debian's package debootstrap has it"
-for file in lib/libsms.a lib/libsms.so.1 include/sms.h; do needs_file "$1/$file" "c/build.sh makes it"; done
+for file in lib/libsms.a "lib/libsms.so.$abi" include/sms.h; do needs_file "$1/$file" "c/build.sh makes it"; done
 needs_file "$top/crates/sms/out/sms" "run 'rt run' in crates/sms first"
 
 if [ -z "${CLEAN_ROOM:-}" ]; then
@@ -70,7 +71,8 @@ put_files() {
 	tar -C "$top" --exclude=target --exclude=__pycache__ -cf - c crates/sms_c/src docs python rust README.md install.sh |
 		tar -C "$root/home/user/sms" -xf -
 	cp "$top/crates/sms/out/sms" "$root/home/user/sms/crates/sms/out/"
-	cp "$1/lib/libsms.a" "$1/lib/libsms.so.1" "$root/built/lib/"
+	cp "$1/lib/libsms.a" "$1/lib/libsms.so.$abi" "$root/built/lib/"
+	ln -s "libsms.so.$abi" "$root/built/lib/libsms.so"
 	cp "$1/include/sms.h" "$root/built/include/"
 	[ -z "${2:-}" ] || cp "$2"/*.deb "$root/debs/"
 	as_root chown -R user:user /home/user /debs
@@ -99,12 +101,14 @@ END
 }
 
 # session TITLE FOLDER: the lines on standard input are run in one shell of the user, which begins in the folder of the
-# checkout. BUILT stands for the proof, and neither cargo nor pip may ask a registry.
+# checkout. BUILT stands for the proof, neither cargo nor pip may ask a registry, and LIBSMS is the package with the library.
+# The checkout there has no git that could name a maintainer.
 session() {
 	cat >"$root/lines"
 	echo "== $1"
 	chroot --userspec=user:user "$root" env -i HOME=/home/user USER=user LANG=C.UTF-8 PATH=/usr/local/bin:/usr/bin:/bin \
-		BUILT=/built CARGO_NET_OFFLINE=true PIP_NO_INDEX=1 bash /runner "/home/user/sms/$2"
+		DEBFULLNAME="${DEBFULLNAME:-$(git -C "$top" log -1 --format=%an)}" DEBEMAIL="${DEBEMAIL:-$(git -C "$top" log -1 --format=%ae)}" \
+		BUILT=/built LIBSMS="libsms$abi" CARGO_NET_OFFLINE=true PIP_NO_INDEX=1 bash /runner "/home/user/sms/$2"
 }
 
 # page PAGE HEADING FOLDER: each block of lines below the heading, in a shell of its own.
@@ -124,7 +128,7 @@ faces() {
 	session "C, with gcc and clang" . <<'END'
 PREFIX=$HOME/.local c/build.sh
 PREFIX=$HOME/.local CCS=gcc CXXS=g++ UNITS=1000 c/check.sh
-sudo apt install clang valgrind
+sudo apt install clang valgrind mypy
 PREFIX=$HOME/.local CCS=clang CXXS=clang++ UNITS=1000 c/check.sh
 PREFIX=$HOME/.local c/build.sh --uninstall
 END
@@ -151,22 +155,24 @@ END
 	session "Python: an editable install, and a source archive" . <<'END'
 python3 -m venv /tmp/editable
 /tmp/editable/bin/pip install -e ./python
-SMS_LIBRARY=/built/lib/libsms.so.1 /tmp/editable/bin/python python/examples/read.py | cmp - c/examples/read.out
+SMS_LIBRARY=/built/lib/libsms.so /tmp/editable/bin/python python/examples/read.py | cmp - c/examples/read.out
 sudo apt install python3-build
 python3 -m build --outdir /tmp/dist python
 python3 -m venv /tmp/archive
-SMS_LIBRARY=/built/lib/libsms.so.1 /tmp/archive/bin/pip install /tmp/dist/sms-*.tar.gz
+SMS_LIBRARY=/built/lib/libsms.so /tmp/archive/bin/pip install /tmp/dist/sms-*.tar.gz
 /tmp/archive/bin/python -m unittest discover -q -s python/tests
-! SMS_LIBRARY=lib/libsms.so.1 /tmp/archive/bin/pip install --force-reinstall ./python
+! SMS_LIBRARY=lib/libsms.so /tmp/archive/bin/pip install --force-reinstall ./python
 END
 }
 
 packages() {
 	session "the packages, installed, used and removed" . <<'END'
-sudo apt purge libsms1 libsms-dev sms python3-sms
+sudo apt install --no-install-recommends lintian
+lintian --fail-on error /debs/*.deb
+sudo apt purge $LIBSMS libsms-dev sms python3-sms
 sudo apt install /debs/*.deb
-dpkg --verify libsms1 libsms-dev sms python3-sms
-/sbin/ldconfig -p | grep 'libsms.so.1 '
+dpkg --verify $LIBSMS libsms-dev sms python3-sms
+/sbin/ldconfig -p | grep "libsms.so.${LIBSMS#libsms} "
 sms show deliver 040BC87238880900F10000993092516195800AE8329BFD4697D9EC37
 test -f /usr/share/man/man1/sms.1.gz
 cc c/examples/read.c $(pkg-config --cflags --libs sms) -o /tmp/packaged
@@ -175,7 +181,7 @@ cc c/examples/join.c -static $(pkg-config --cflags --libs sms) -o /tmp/packaged-
 /tmp/packaged-static | cmp - c/examples/join.out
 python3 -m unittest discover -q -s python/tests
 cargo test --locked --manifest-path rust/Cargo.toml --target-dir /tmp/target-of-packages
-sudo apt purge libsms1 libsms-dev sms python3-sms
+sudo apt purge $LIBSMS libsms-dev sms python3-sms
 ! /tmp/packaged
 ! test -e /usr/bin/sms
 test -z "$(find /usr -name '*libsms*' -o -path '*/dist-packages/sms*' -o -name sms.h)"

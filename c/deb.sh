@@ -1,8 +1,8 @@
 #!/bin/sh
 # Makes Debian packages of what is built, from whatever folder it is called in:
 #   c/deb.sh PREFIX OUT
-# PREFIX is where c/build.sh has put the library, and the program is built in crates/sms/out. Into OUT come libsms1,
-# libsms-dev, sms and python3-sms. DEBFULLNAME and DEBEMAIL name the maintainer, and SOURCE_DATE_EPOCH the moment; else
+# PREFIX is where c/build.sh has put the library, and the program is built in crates/sms/out. Into OUT come libsmsN (N is
+# the first number of VERSION), libsms-dev, sms and python3-sms. DEBFULLNAME and DEBEMAIL name the maintainer, and SOURCE_DATE_EPOCH the moment; else
 # git tells them.
 set -eu
 here=$(CDPATH='' cd -- "$(dirname -- "$0")" && pwd -P)
@@ -10,6 +10,10 @@ here=$(CDPATH='' cd -- "$(dirname -- "$0")" && pwd -P)
 . "$here/needs.sh"
 [ $# = 2 ] || { echo "usage: c/deb.sh PREFIX OUT" >&2; exit 2; }
 top=$(dirname -- "$here")
+upstream=$(cat "$here/VERSION")
+abi=${upstream%%.*}
+shared=libsms.so.$abi
+library=libsms$abi
 prefix=$1
 out=$2
 program=$top/crates/sms/out/sms
@@ -17,7 +21,7 @@ for tool in dpkg-deb dpkg dpkg-shlibdeps strip gzip; do
 	needs_tool "$tool" "Debian's package build-essential has it"
 done
 needs_tool python3 "Debian's package python3 has it"
-for file in lib/libsms.a lib/libsms.so.1 lib/pkgconfig/sms.pc include/sms.h; do
+for file in lib/libsms.a "lib/$shared" lib/pkgconfig/sms.pc include/sms.h; do
 	needs_file "$prefix/$file" "c/build.sh makes it"
 done
 needs_file "$program" "run 'rt run' in crates/sms first"
@@ -34,7 +38,6 @@ SOURCE_DATE_EPOCH=${SOURCE_DATE_EPOCH:-$(of_commit %ct || stat -c %Y "$here/VERS
 export SOURCE_DATE_EPOCH
 name=${DEBFULLNAME:-$(of_commit %an || id -un)}
 maintainer="$name <${DEBEMAIL:-$(of_commit %ae || echo "$(id -un)@$(uname -n)")}>"
-upstream=$(sed -n 's/^Version: //p' "$prefix/lib/pkgconfig/sms.pc")
 version=$upstream-0sms1 # below what Debian itself would make of it
 machine=$(dpkg --print-architecture)
 triplet=$(dpkg-architecture -qDEB_HOST_MULTIARCH)
@@ -91,13 +94,13 @@ finish() {
 	echo "$out/${1}_${version}_$2.deb"
 }
 
-libsms1() {
-	put 644 "$prefix/lib/libsms.so.1" libsms1 "usr/lib/$triplet"
-	strip --strip-unneeded "$room/libsms1/usr/lib/$triplet/libsms.so.1"
-	mkdir -p "$room/libsms1/DEBIAN"
-	echo "activate-noawait ldconfig" >"$room/libsms1/DEBIAN/triggers"
-	echo "libsms 1 libsms1 (>= $upstream)" >"$room/libsms1/DEBIAN/shlibs"
-	finish libsms1 "$machine" libs "$(wants "$prefix/lib/libsms.so.1")" same <<END
+libsms() {
+	put 644 "$prefix/lib/$shared" "$library" "usr/lib/$triplet"
+	strip --strip-unneeded "$room/$library/usr/lib/$triplet/$shared"
+	mkdir -p "$room/$library/DEBIAN"
+	echo "activate-noawait ldconfig" >"$room/$library/DEBIAN/triggers"
+	echo "libsms $abi $library (>= $upstream)" >"$room/$library/DEBIAN/shlibs"
+	finish "$library" "$machine" libs "$(wants "$prefix/lib/$shared")" same <<END
 short messages read, written, cut and joined (library)
  The codec and the joiner of sms, for C and what calls C: units of 3GPP TS
  23.040, packets of TS 24.011 and texts of TS 23.038. Each function is proved
@@ -110,14 +113,14 @@ libsms_dev() {
 	put 644 "$prefix/include/sms.h" libsms-dev usr/include
 	put 644 "$prefix/lib/libsms.a" libsms-dev "$lib"
 	strip --strip-debug --enable-deterministic-archives "$room/libsms-dev/$lib/libsms.a"
-	ln -s libsms.so.1 "$room/libsms-dev/$lib/libsms.so"
+	ln -s "$shared" "$room/libsms-dev/$lib/libsms.so"
 	sed -e 's|^prefix=.*|prefix=/usr|' -e "s|^libdir=.*|libdir=\${prefix}/lib/$triplet|" \
 		"$prefix/lib/pkgconfig/sms.pc" >"$room/sms.pc"
 	put 644 "$room/sms.pc" libsms-dev "$lib/pkgconfig"
 	for example in "$here"/examples/*.c; do put 644 "$example" libsms-dev usr/share/doc/libsms-dev/examples; done
-	finish libsms-dev "$machine" libdevel "libsms1 (= $version)" same <<END
+	finish libsms-dev "$machine" libdevel "$library (= $version)" same <<END
 short messages read, written, cut and joined (files for C)
- The header, the static library and the file for pkg-config of libsms1, and
+ The header, the static library and the file for pkg-config of $library, and
  programs that show how it is called.
 END
 }
@@ -149,14 +152,14 @@ python3_sms() {
 	printf '#!/bin/sh\nset -e\n! command -v py3clean >/dev/null || py3clean -p python3-sms\n' \
 		>"$room/python3-sms/DEBIAN/prerm"
 	chmod 755 "$room/python3-sms/DEBIAN/postinst" "$room/python3-sms/DEBIAN/prerm"
-	finish python3-sms all python "libsms1 (>= $upstream), python3:any" foreign <<END
+	finish python3-sms all python "$library (>= $upstream), python3:any" foreign <<END
 short messages read, written, cut and joined (Python 3)
- The package sms of Python over libsms1: units and texts as classes and
+ The package sms of Python over $library: units and texts as classes and
  strings, and a joiner.
 END
 }
 
-libsms1
+libsms
 libsms_dev
 sms
 python3_sms

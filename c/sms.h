@@ -35,18 +35,27 @@
 extern "C" {
 #endif
 
-/* The number of this interface: structs and calls change only with it. */
-#define SMS_ABI 1
+/* The number of this interface. Structs, calls and numbers that there are change only with it; calls,
+ * statuses and reasons may be added without. */
+#define SMS_ABI 2
 
 /* Enough octets for any text of one unit, any unit that is written, any packet, any text of an address. */
 #define SMS_TEXT_MAX 480
-#define SMS_UNIT_MAX 184
+#define SMS_UNIT_MAX 192
 #define SMS_PACKET_MAX 258
 #define SMS_ADDRESS_TEXT_MAX 33
 
 /* ---- what a call answers */
 
 typedef uint32_t sms_status;
+/* A status that a call answers: a compiler warns where it is not looked at. */
+#if defined(__GNUC__)
+#define SMS_STATUS __attribute__((warn_unused_result)) sms_status
+#elif defined(__STDC_VERSION__) && __STDC_VERSION__ >= 202311L
+#define SMS_STATUS [[nodiscard]] sms_status
+#else
+#define SMS_STATUS sms_status
+#endif
 enum {
     SMS_OK = 0,
     SMS_REFUSED = 1,       /* the octets are refused; an sms_refused says where and why */
@@ -225,38 +234,38 @@ typedef struct sms_command {
 
 /* Reads the unit at the front of the octets. SMS_OK: *out is the unit, *refused as it was.
  * SMS_REFUSED: *refused says where and why, *out is as it was. No other status, no memory. */
-sms_status sms_deliver_read(const uint8_t *octets, size_t count, sms_deliver *out, sms_refused *refused);
-sms_status sms_submit_read(const uint8_t *octets, size_t count, sms_submit *out, sms_refused *refused);
+SMS_STATUS sms_deliver_read(const uint8_t *octets, size_t count, sms_deliver *out, sms_refused *refused);
+SMS_STATUS sms_submit_read(const uint8_t *octets, size_t count, sms_submit *out, sms_refused *refused);
 /* SMS-DELIVER-REPORT and SMS-SUBMIT-REPORT, in an RP-ACK and in an RP-ERROR. */
-sms_status sms_deliver_ack_read(const uint8_t *octets, size_t count, sms_report *out, sms_refused *refused);
-sms_status sms_deliver_error_read(const uint8_t *octets, size_t count, sms_report *out, sms_refused *refused);
-sms_status sms_submit_ack_read(const uint8_t *octets, size_t count, sms_report *out, sms_refused *refused);
-sms_status sms_submit_error_read(const uint8_t *octets, size_t count, sms_report *out, sms_refused *refused);
+SMS_STATUS sms_deliver_ack_read(const uint8_t *octets, size_t count, sms_report *out, sms_refused *refused);
+SMS_STATUS sms_deliver_error_read(const uint8_t *octets, size_t count, sms_report *out, sms_refused *refused);
+SMS_STATUS sms_submit_ack_read(const uint8_t *octets, size_t count, sms_report *out, sms_refused *refused);
+SMS_STATUS sms_submit_error_read(const uint8_t *octets, size_t count, sms_report *out, sms_refused *refused);
 /* SMS-STATUS-REPORT. TP-PI is read where another octet follows TP-ST, so give the octets of the unit alone. */
-sms_status sms_status_report_read(const uint8_t *octets, size_t count, sms_status_report *out, sms_refused *refused);
-sms_status sms_command_read(const uint8_t *octets, size_t count, sms_command *out, sms_refused *refused);
+SMS_STATUS sms_status_report_read(const uint8_t *octets, size_t count, sms_status_report *out, sms_refused *refused);
+SMS_STATUS sms_command_read(const uint8_t *octets, size_t count, sms_command *out, sms_refused *refused);
 
 /* The text of an address, or of user data, that a call above found in these same octets: its digits
  * (after a + where the type is 1) or its name; septets or UCS-2 as text, where an unpaired surrogate
  * becomes U+FFFD. SMS_NOT_THERE: the user data are no text (8-bit, compressed). SMS_OUT_OF_RANGE or
  * SMS_REFUSED: the struct does not fit these octets. Also SMS_NO_ROOM, SMS_NO_MEMORY. */
-sms_status sms_address_text(const uint8_t *octets, size_t count, const sms_address *address,
+SMS_STATUS sms_address_text(const uint8_t *octets, size_t count, const sms_address *address,
                             uint8_t *out, size_t room, size_t *needed);
-sms_status sms_user_text(const uint8_t *octets, size_t count, const sms_user *user,
+SMS_STATUS sms_user_text(const uint8_t *octets, size_t count, const sms_user *user,
                          uint8_t *out, size_t room, size_t *needed);
 
 /* ---- time: seconds count from 2000-01-01 00:00:00 UTC (Unix time less 946684800) */
 
 /* The date that a stamp says; SMS_NOT_THERE where it says none. */
-sms_status sms_stamp_date(const sms_stamp *stamp, sms_date *out);
+SMS_STATUS sms_stamp_date(const sms_stamp *stamp, sms_date *out);
 /* Its moment; SMS_NOT_THERE where it is no date or lies before 2000. */
-sms_status sms_stamp_moment(const sms_stamp *stamp, uint64_t *seconds);
+SMS_STATUS sms_stamp_moment(const sms_stamp *stamp, uint64_t *seconds);
 /* The stamp of a moment, told in a zone; SMS_OUT_OF_RANGE where the local time lies outside 2000 to
  * 2099 or the zone outside -79 to 79. */
-sms_status sms_stamp_at(uint64_t seconds, int8_t quarters, sms_stamp *out);
+SMS_STATUS sms_stamp_at(uint64_t seconds, int8_t quarters, sms_stamp *out);
 /* When a validity period ends of a message that was accepted at a moment below 2^63: absent is two
  * days. SMS_NOT_THERE: enhanced, or absolute with no moment. SMS_OUT_OF_RANGE: no such format. */
-sms_status sms_validity_end(const sms_validity *validity, uint64_t accepted, uint64_t *seconds);
+SMS_STATUS sms_validity_end(const sms_validity *validity, uint64_t accepted, uint64_t *seconds);
 
 /* ---- packets */
 
@@ -285,8 +294,8 @@ typedef struct sms_rp {
 
 /* As the readers of units. Places in an RP message count from its first octet:
  * sms_rp_read(octets + cp.user.offset, cp.user.length, ..). */
-sms_status sms_cp_read(const uint8_t *octets, size_t count, sms_cp *out, sms_refused *refused);
-sms_status sms_rp_read(const uint8_t *octets, size_t count, sms_rp *out, sms_refused *refused);
+SMS_STATUS sms_cp_read(const uint8_t *octets, size_t count, sms_cp *out, sms_refused *refused);
+SMS_STATUS sms_rp_read(const uint8_t *octets, size_t count, sms_rp *out, sms_refused *refused);
 
 typedef struct sms_envelope {
     uint8_t flag;  /* 0 or 1 */
@@ -298,14 +307,14 @@ typedef struct sms_envelope {
 /* CP-DATA around RP-DATA (address: the centre's, as text, none where it is empty), RP-ACK or RP-ERROR
  * (cause 0 to 127) around the octets of a unit, at most 233, which are not looked at; none for an
  * answer where they are empty. CP-ACK and CP-ERROR alone, where side and reference do not count. */
-sms_status sms_wrap_data(const sms_envelope *envelope, const uint8_t *address, size_t address_count,
+SMS_STATUS sms_wrap_data(const sms_envelope *envelope, const uint8_t *address, size_t address_count,
                          const uint8_t *unit, size_t unit_count, uint8_t *out, size_t room, size_t *needed);
-sms_status sms_wrap_ack(const sms_envelope *envelope, const uint8_t *unit, size_t unit_count,
+SMS_STATUS sms_wrap_ack(const sms_envelope *envelope, const uint8_t *unit, size_t unit_count,
                         uint8_t *out, size_t room, size_t *needed);
-sms_status sms_wrap_error(const sms_envelope *envelope, uint8_t cause, const uint8_t *unit, size_t unit_count,
+SMS_STATUS sms_wrap_error(const sms_envelope *envelope, uint8_t cause, const uint8_t *unit, size_t unit_count,
                           uint8_t *out, size_t room, size_t *needed);
-sms_status sms_cp_ack(const sms_envelope *envelope, uint8_t *out, size_t room, size_t *needed);
-sms_status sms_cp_error(const sms_envelope *envelope, uint8_t cause, uint8_t *out, size_t room, size_t *needed);
+SMS_STATUS sms_cp_ack(const sms_envelope *envelope, uint8_t *out, size_t room, size_t *needed);
+SMS_STATUS sms_cp_error(const sms_envelope *envelope, uint8_t cause, uint8_t *out, size_t room, size_t *needed);
 
 /* ---- texts written. A text is cut into at most 255 segments, of septets where the 7-bit alphabet has
  * all its letters, else of UCS-2; one that fits a message is one segment, without a place. */
@@ -323,6 +332,8 @@ typedef struct sms_submit_fields {
     uint8_t reference; /* TP-MR */
     uint8_t pid;
     sms_validity validity;
+    uint8_t message_class; /* 0: none; 1 to 4: class 0 to 3 (TP-DCS, 3GPP TS 23.038, 4) */
+    uint8_t spare[6];      /* must be 0 */
 } sms_submit_fields;
 
 typedef struct sms_deliver_fields {
@@ -333,16 +344,18 @@ typedef struct sms_deliver_fields {
     uint8_t reply;
     uint8_t pid;
     sms_stamp stamp;
+    uint8_t message_class; /* as above */
+    uint8_t spare[6];      /* must be 0 */
 } sms_deliver_fields;
 
 /* The segment of an index, from 0, of a text as a whole unit. *segments is how many there are (0 where
  * the text was not cut); SMS_NOT_THERE where the index is not below it. target, origin: + and digits,
  * digits, or a name of at most 11 septets. Also SMS_NOT_UTF8, SMS_BAD_ADDRESS, SMS_TOO_LONG,
  * SMS_OUT_OF_RANGE, SMS_NO_ROOM, SMS_NO_MEMORY. */
-sms_status sms_submit_write(const sms_submit_fields *fields, const uint8_t *target, size_t target_count,
+SMS_STATUS sms_submit_write(const sms_submit_fields *fields, const uint8_t *target, size_t target_count,
                             const uint8_t *text, size_t text_count, size_t index,
                             uint8_t *out, size_t room, size_t *needed, size_t *segments);
-sms_status sms_deliver_write(const sms_deliver_fields *fields, const uint8_t *origin, size_t origin_count,
+SMS_STATUS sms_deliver_write(const sms_deliver_fields *fields, const uint8_t *origin, size_t origin_count,
                              const uint8_t *text, size_t text_count, size_t index,
                              uint8_t *out, size_t room, size_t *needed, size_t *segments);
 
@@ -350,9 +363,97 @@ sms_status sms_deliver_write(const sms_deliver_fields *fields, const uint8_t *or
  * out. *segments is how many there are, and *dcs the TP-DCS of all. Where there is too little room for
  * the octets or for the spans, the call answers SMS_NO_ROOM and writes neither, but *segments and *dcs,
  * and *needed: so much is wanted. Also SMS_NOT_UTF8, SMS_TOO_LONG, SMS_OUT_OF_RANGE, SMS_NO_MEMORY. */
-sms_status sms_split(const sms_reference *reference, const uint8_t *text, size_t text_count,
+SMS_STATUS sms_split(const sms_reference *reference, const uint8_t *text, size_t text_count,
                      uint8_t *out, size_t room, size_t *needed,
                      sms_span *spans, size_t span_count, size_t *segments, uint8_t *dcs);
+
+/* ---- the version of the library: 1,000,000 for a major number, 1,000 for a minor one, 1 for a patch */
+
+#define SMS_VERSION 2000000
+
+/* That of the library that is loaded, to be compared with SMS_VERSION at run time. */
+uint32_t sms_version(void);
+
+/* ---- more texts, as sms_address_text and sms_user_text */
+
+/* The text of the centre's address in an RP-DATA that sms_rp_read found in these octets: its digits,
+ * after a + where the type of number is 1. SMS_NOT_THERE: there is none. SMS_OUT_OF_RANGE or
+ * SMS_REFUSED: the struct does not fit these octets. Also SMS_NO_ROOM, SMS_NO_MEMORY. */
+SMS_STATUS sms_relay_address_text(const uint8_t *octets, size_t count, const sms_rp *rp,
+                                  uint8_t *out, size_t room, size_t *needed);
+/* The text of the user data of a report, or of a status report, after their header, that a call above
+ * found in these octets: septets or UCS-2 as its TP-DCS tells, septets where there is none.
+ * SMS_NOT_THERE: there are none, or they are no text (8-bit, compressed), or the header goes beyond
+ * them. SMS_OUT_OF_RANGE: the struct does not fit these octets, or has another length than its TP-UDL
+ * counts, or more than 159 octets. Also SMS_NO_ROOM, SMS_NO_MEMORY. */
+SMS_STATUS sms_report_text(const uint8_t *octets, size_t count, const sms_report *report,
+                           uint8_t *out, size_t room, size_t *needed);
+SMS_STATUS sms_status_report_text(const uint8_t *octets, size_t count, const sms_status_report *report,
+                                  uint8_t *out, size_t room, size_t *needed);
+
+/* ---- reports written, as a gateway answers with them or sends them. Without has_pid and has_dcs what
+ * they speak of is not looked at; without has_data there are no octets, and length and has_header are 0. */
+
+typedef struct sms_report_fields {
+    sms_stamp stamp;    /* TP-SCTS, of an SMS-SUBMIT-REPORT alone */
+    uint8_t cause;      /* TP-FCS, under an RP-ERROR alone */
+    uint8_t has_pid;    /* 0 is no, all else yes; so below */
+    uint8_t pid;
+    uint8_t has_dcs;
+    uint8_t dcs;
+    uint8_t has_data;
+    uint8_t has_header; /* TP-UDHI: the data begin with a header, its length octet first */
+    uint8_t length;     /* TP-UDL: septets under the 7-bit alphabet, and where there is no dcs; else octets */
+    uint8_t spare[6];   /* must be 0 */
+} sms_report_fields;
+
+typedef struct sms_status_report_fields {
+    sms_stamp stamp;      /* TP-SCTS: when the centre took the message */
+    sms_stamp discharged; /* TP-DT: when it came to its recipient, or when the centre last tried */
+    uint8_t more;         /* TP-MMS as its meaning: 1 where more messages wait */
+    uint8_t looped;       /* TP-LP */
+    uint8_t qualifier;    /* TP-SRQ: 1 where it is the result of an SMS-COMMAND, 0 of an SMS-SUBMIT */
+    uint8_t reference;    /* TP-MR of the submission, or of the command */
+    uint8_t status;       /* TP-ST */
+    uint8_t has_pid;
+    uint8_t pid;
+    uint8_t has_dcs;
+    uint8_t dcs;
+    uint8_t has_data;
+    uint8_t has_header; /* as above */
+    uint8_t length;     /* as above */
+    uint8_t spare[6];   /* must be 0 */
+} sms_status_report_fields;
+
+/* A report with these octets as its TP-UD, at most 159: SMS-DELIVER-REPORT and SMS-SUBMIT-REPORT, for an
+ * RP-ACK and for an RP-ERROR, and SMS-STATUS-REPORT (recipient: as target above). SMS_TOO_LONG: more than
+ * 159. SMS_OUT_OF_RANGE: not as many octets as length counts, a header that does not lie in them, octets
+ * or what speaks of them without has_data, or a spare octet. Also SMS_NOT_UTF8, SMS_BAD_ADDRESS,
+ * SMS_NO_ROOM, SMS_NO_MEMORY. */
+SMS_STATUS sms_deliver_ack_write(const sms_report_fields *fields, const uint8_t *octets, size_t count,
+                                 uint8_t *out, size_t room, size_t *needed);
+SMS_STATUS sms_deliver_error_write(const sms_report_fields *fields, const uint8_t *octets, size_t count,
+                                   uint8_t *out, size_t room, size_t *needed);
+SMS_STATUS sms_submit_ack_write(const sms_report_fields *fields, const uint8_t *octets, size_t count,
+                                uint8_t *out, size_t room, size_t *needed);
+SMS_STATUS sms_submit_error_write(const sms_report_fields *fields, const uint8_t *octets, size_t count,
+                                  uint8_t *out, size_t room, size_t *needed);
+SMS_STATUS sms_status_report_write(const sms_status_report_fields *fields, const uint8_t *recipient,
+                                   size_t recipient_count, const uint8_t *octets, size_t count,
+                                   uint8_t *out, size_t room, size_t *needed);
+
+/* ---- data written. The octets are TP-UD, at most 140 (SMS_TOO_LONG); with has_header (0 is no, all else
+ * yes) they begin with a header, its length octet first. The alphabet of dcs counts in octets: 8-bit, UCS-2
+ * or compressed. In the fields message_class is 0, and segments do not count. SMS_OUT_OF_RANGE: one of this
+ * is not so, or a header does not lie in the octets. Also SMS_NOT_UTF8, SMS_BAD_ADDRESS, SMS_NO_ROOM,
+ * SMS_NO_MEMORY. */
+
+SMS_STATUS sms_submit_data_write(const sms_submit_fields *fields, uint8_t dcs, uint8_t has_header,
+                                 const uint8_t *target, size_t target_count, const uint8_t *octets, size_t count,
+                                 uint8_t *out, size_t room, size_t *needed);
+SMS_STATUS sms_deliver_data_write(const sms_deliver_fields *fields, uint8_t dcs, uint8_t has_header,
+                                  const uint8_t *origin, size_t origin_count, const uint8_t *octets, size_t count,
+                                  uint8_t *out, size_t room, size_t *needed);
 
 /* ---- joining segments. A joiner lies in the caller's memory and holds memory of the library. Begin
  * with SMS_JOINER_CLOSED, change nothing in it, and never use a copy of an open one. */
@@ -361,7 +462,12 @@ typedef struct sms_joiner {
     uint32_t open;
     void *inside;
 } sms_joiner;
-#define SMS_JOINER_CLOSED { 0, 0 }
+/* A closed one; so is one of which all octets are 0 (static, calloc). */
+#if defined(__cplusplus) && __cplusplus >= 201103L
+#define SMS_JOINER_CLOSED { 0, nullptr }
+#else
+#define SMS_JOINER_CLOSED { 0, NULL }
+#endif
 
 enum { SMS_REPEAT = 0, SMS_KEPT = 1, SMS_FINISHED = 2 };
 
@@ -369,23 +475,58 @@ enum { SMS_REPEAT = 0, SMS_KEPT = 1, SMS_FINISHED = 2 };
  * are remembered, so that none finishes twice: they are forgotten by number, never by time. Both are
  * from 1 on. SMS_OUT_OF_RANGE: one is 0, and the joiner is as it was. Else an open one is closed first.
  * SMS_NO_MEMORY: it is closed. */
-sms_status sms_joiner_open(sms_joiner *joiner, size_t open_max, size_t remembered);
+SMS_STATUS sms_joiner_open(sms_joiner *joiner, size_t open_max, size_t remembered);
 /* Frees what it holds. On a closed one it does nothing. */
 void sms_joiner_close(sms_joiner *joiner);
 /* Offers an SMS-DELIVER that came at a moment. SMS_OK: *outcome is SMS_REPEAT (it is there, or its message
  * is a finished one that is remembered), SMS_KEPT or SMS_FINISHED. After another status the joiner is as it
  * was. SMS_REFUSED: as sms_deliver_read. SMS_NOT_THERE: the user data are no text (8-bit, compressed).
  * SMS_TOO_MANY_OPEN, SMS_NO_MEMORY: the same unit may be offered again. SMS_CLOSED. */
-sms_status sms_joiner_offer(sms_joiner *joiner, uint64_t seconds, const uint8_t *octets, size_t count,
+SMS_STATUS sms_joiner_offer(sms_joiner *joiner, uint64_t seconds, const uint8_t *octets, size_t count,
                             uint32_t *outcome, sms_refused *refused);
 /* The text that finished last, as often as one asks; empty before one did. */
-sms_status sms_joiner_text(sms_joiner *joiner, uint8_t *out, size_t room, size_t *needed);
+SMS_STATUS sms_joiner_text(sms_joiner *joiner, uint8_t *out, size_t room, size_t *needed);
 /* Whether an SMS-DELIVER would finish its message: *finishes is 0 or 1; nothing changes. What
  * sms_joiner_offer answers with SMS_NOT_THERE is answered so. Also SMS_REFUSED, SMS_CLOSED. */
-sms_status sms_joiner_would_finish(sms_joiner *joiner, const uint8_t *octets, size_t count,
+SMS_STATUS sms_joiner_would_finish(sms_joiner *joiner, const uint8_t *octets, size_t count,
                                    uint8_t *finishes, sms_refused *refused);
 /* Drops the messages whose first segment came 604,800 seconds before the moment, or earlier. */
-sms_status sms_joiner_age(sms_joiner *joiner, uint64_t seconds);
+SMS_STATUS sms_joiner_age(sms_joiner *joiner, uint64_t seconds);
+
+/* ---- the size of each struct, in octets, where a pointer has eight: said to compilers that can tell (C11, C++11) */
+
+#ifdef __LP64__
+#if defined(__cplusplus) && __cplusplus >= 201103L
+#define SMS_HAS(size, type) static_assert(sizeof(type) == size, #type)
+#elif defined(__STDC_VERSION__) && __STDC_VERSION__ >= 201112L
+#define SMS_HAS(size, type) _Static_assert(sizeof(type) == size, #type)
+#endif
+#endif
+#ifdef SMS_HAS
+SMS_HAS(16, sms_refused);
+SMS_HAS(16, sms_span);
+SMS_HAS(24, sms_address);
+SMS_HAS(6, sms_place);
+SMS_HAS(48, sms_user);
+SMS_HAS(7, sms_stamp);
+SMS_HAS(8, sms_validity);
+SMS_HAS(8, sms_date);
+SMS_HAS(96, sms_deliver);
+SMS_HAS(96, sms_submit);
+SMS_HAS(64, sms_report);
+SMS_HAS(96, sms_status_report);
+SMS_HAS(72, sms_command);
+SMS_HAS(32, sms_cp);
+SMS_HAS(48, sms_rp);
+SMS_HAS(4, sms_envelope);
+SMS_HAS(4, sms_reference);
+SMS_HAS(24, sms_submit_fields);
+SMS_HAS(24, sms_deliver_fields);
+SMS_HAS(21, sms_report_fields);
+SMS_HAS(32, sms_status_report_fields);
+SMS_HAS(16, sms_joiner);
+#undef SMS_HAS
+#endif
 
 #ifdef __cplusplus
 }

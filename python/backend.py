@@ -31,7 +31,7 @@ def build_wheel(wheel_directory, config_settings=None, metadata_directory=None) 
     files = {f"sms/{it.name}": it.read_bytes() for it in _there("src/sms/*")}
     library = os.environ.get("SMS_LIBRARY")
     if library:
-        files["sms/libsms.so.1"] = _library(library)
+        files["sms/libsms.so"] = _library(library)
     platform = sysconfig.get_platform().replace("-", "_").replace(".", "_") if library else "any"
     return _wheel(wheel_directory, f"py3-none-{platform}", files)
 

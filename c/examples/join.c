@@ -5,7 +5,7 @@
 
 int main(void)
 {
-    static const sms_deliver_fields fields = {{8, 42}, 0, 0, 0, 0, 0, {{0x42, 0x20, 0x92, 0x51, 0x61, 0x95, 0x80}}};
+    static const sms_deliver_fields fields = {.segments = {8, 42}, .stamp = {{0x42, 0x20, 0x92, 0x51, 0x61, 0x95, 0x80}}};
     static const uint8_t from[] = "12345";
     uint8_t written[161], unit[SMS_UNIT_MAX], text[SMS_TEXT_MAX];
     size_t count, segments, length;

@@ -4,7 +4,7 @@
 
 int main(void)
 {
-    static const sms_submit_fields fields = {{8, 7}, 0, 0, 0, 0, 0, {SMS_VALIDITY_RELATIVE, {170, 0, 0, 0, 0, 0, 0}}};
+    static const sms_submit_fields fields = {.segments = {8, 7}, .validity = {SMS_VALIDITY_RELATIVE, {170}}};
     static const uint8_t to[] = "+46708251358", text[] = "hellohello";
     uint8_t unit[SMS_UNIT_MAX];
     size_t length, segments = 1;

@@ -131,7 +131,8 @@ static void writes(void)
     uint8_t out[SMS_UNIT_MAX], text[SMS_TEXT_MAX];
     size_t needed, segments;
     sms_refused refused;
-    sms_submit_fields fields = {{8, 42}, 0, 1, 0, 7, 0, {SMS_VALIDITY_RELATIVE, {0xAA, 0, 0, 0, 0, 0, 0}}};
+    sms_submit_fields fields = {
+        .segments = {8, 42}, .report = 1, .reference = 7, .validity = {SMS_VALIDITY_RELATIVE, {0xAA}}};
     const uint8_t *to = (const uint8_t *)"+46708251358", *hello = (const uint8_t *)"hellohello";
 
     CHECK(sms_submit_write(&fields, to, 12, hello, 10, 0, out, sizeof out, &needed, &segments) == SMS_OK);
@@ -341,7 +342,7 @@ static void joins(void)
     sms_refused refused;
     uint32_t outcome = 99;
     uint8_t finishes = 99;
-    sms_deliver_fields fields = {{8, 42}, 0, 0, 0, 0, 0, {{0x99, 0x30, 0x92, 0x51, 0x61, 0x95, 0x80}}};
+    sms_deliver_fields fields = {.segments = {8, 42}, .stamp = {{0x99, 0x30, 0x92, 0x51, 0x61, 0x95, 0x80}}};
 
     for (int i = 0; i < 200; i++)
         text[i] = (char)('a' + i % 26);
@@ -393,7 +394,7 @@ static void joins(void)
 /* a limit that is 0 is told before an open joiner is closed, which goes on with what it holds */
 static void limits(void)
 {
-    static const sms_deliver_fields fields = {{8, 42}, 0, 0, 0, 0, 0, {{0x99, 0x30, 0x92, 0x51, 0x61, 0x95, 0x80}}};
+    static const sms_deliver_fields fields = {.segments = {8, 42}, .stamp = {{0x99, 0x30, 0x92, 0x51, 0x61, 0x95, 0x80}}};
     uint8_t text[200], units[2][SMS_UNIT_MAX], out[SMS_TEXT_MAX];
     size_t sizes[2], needed, segments;
     sms_joiner joiner = SMS_JOINER_CLOSED;
@@ -584,18 +585,19 @@ static void rubbish(unsigned turns)
         size_t needed;
         if (sms_deliver_read(own, count, &d, &refused) == SMS_OK) {
             CHECK(d.used <= count && d.user.body.offset + d.user.body.length == d.used);
-            (void)sms_user_text(own, count, &d.user, text, sizeof text, &needed);
+            int has_text = d.user.alphabet == SMS_GSM7 || d.user.alphabet == SMS_UCS2;
+            CHECK(sms_user_text(own, count, &d.user, text, sizeof text, &needed) == (has_text ? SMS_OK : SMS_NOT_THERE));
             CHECK(needed <= sizeof text);
             CHECK(sms_address_text(own, count, &d.origin, text, SMS_ADDRESS_TEXT_MAX, &needed) == SMS_OK);
         } else
             CHECK(refused.place <= count);
-        (void)sms_submit_read(own, count, &s, &refused);
-        (void)sms_deliver_ack_read(own, count, &r, &refused);
-        (void)sms_deliver_error_read(own, count, &r, &refused);
-        (void)sms_submit_ack_read(own, count, &r, &refused);
-        (void)sms_submit_error_read(own, count, &r, &refused);
-        (void)sms_cp_read(own, count, &cp, &refused);
-        (void)sms_rp_read(own, count, &rp, &refused);
+        CHECK(sms_submit_read(own, count, &s, &refused) <= SMS_REFUSED);
+        CHECK(sms_deliver_ack_read(own, count, &r, &refused) <= SMS_REFUSED);
+        CHECK(sms_deliver_error_read(own, count, &r, &refused) <= SMS_REFUSED);
+        CHECK(sms_submit_ack_read(own, count, &r, &refused) <= SMS_REFUSED);
+        CHECK(sms_submit_error_read(own, count, &r, &refused) <= SMS_REFUSED);
+        CHECK(sms_cp_read(own, count, &cp, &refused) <= SMS_REFUSED);
+        CHECK(sms_rp_read(own, count, &rp, &refused) <= SMS_REFUSED);
         if (count > 5) {
             own[0] = (uint8_t)((own[0] & 0xFC) | 2);
             own[2] %= 12;

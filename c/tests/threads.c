@@ -9,7 +9,7 @@
 
 enum { THREADS = 16, ROUNDS = 500 };
 
-static const sms_deliver_fields FIELDS = {{8, 42}, 0, 0, 0, 0, 0, {{0x99, 0x30, 0x92, 0x51, 0x61, 0x95, 0x80}}};
+static const sms_deliver_fields FIELDS = {.segments = {8, 42}, .stamp = {{0x99, 0x30, 0x92, 0x51, 0x61, 0x95, 0x80}}};
 
 static void *joins(void *given)
 {

@@ -1,8 +1,11 @@
 """What the package promises: python3 -m unittest discover -s python/tests, with SMS_LIBRARY and PYTHONPATH=python/src."""
 
 import copy
+import dataclasses
 import itertools
 import pickle
+import subprocess
+import sys
 import threading
 import unittest
 from datetime import datetime, timedelta, timezone
@@ -24,6 +27,24 @@ def together(call):
         it.join()
 
 
+class Library(unittest.TestCase):
+    def test_version(self):
+        self.assertEqual(sms.version()[0], sms.raw.ABI)
+        self.assertEqual(sms.raw.lib.sms_version(), sum(it * 1000**place for place, it in enumerate(reversed(sms.version()))))
+
+    def test_a_library_of_another_interface_is_no_module(self):
+        told = (("lambda: 3002001", "of SMS_ABI 3"), ("lambda: 1000000", "of SMS_ABI 1"), ("None", "of SMS_ABI 1"))
+        for version, wanted in told:
+            program = (
+                "import ctypes, types\n"
+                f"ctypes.CDLL = lambda path: types.SimpleNamespace(sms_version={version})\n"
+                "try:\n    import sms\nexcept ImportError as error:\n    print(error)\n"
+            )
+            with self.subTest(version=version):
+                ran = subprocess.run([sys.executable, "-c", program], stdout=subprocess.PIPE, universal_newlines=True, check=True)
+                self.assertRegex(ran.stdout, f"{wanted}, and this package is for SMS_ABI {sms.raw.ABI}$")
+
+
 class Readers(unittest.TestCase):
     def test_deliver(self):
         message = sms.Deliver.read(HELLO)
@@ -32,7 +53,15 @@ class Readers(unittest.TestCase):
         self.assertEqual((message.body, message.header, message.place), (HELLO[19:], None, None))
         self.assertEqual(message.stamp.date, sms.Date(2099, 3, 29, 15, 16, 59, 8))
         self.assertEqual(message.stamp.moment, datetime(2099, 3, 29, 13, 16, 59, tzinfo=timezone.utc))
-        self.assertEqual(sms.Deliver.read(memoryview(HELLO + b"more")).used, 28)
+
+    def test_what_follows_a_unit_is_no_part_of_it(self):
+        message = sms.Deliver.read(HELLO)
+        for octets in (HELLO + b"more", bytearray(HELLO + b"x"), memoryview(HELLO + b"more")):
+            longer = sms.Deliver.read(octets)
+            self.assertEqual((longer, hash(longer), longer.octets, longer.used), (message, hash(message), HELLO, 28))
+            self.assertEqual((longer.text, pickle.loads(pickle.dumps(longer))), ("hellohello", message))
+        (unit,) = sms.Submit.write("+46708251358", "hellohello")
+        self.assertEqual(sms.Submit.read(unit + b"more").octets, unit)
 
     def test_each_front_is_refused_at_its_end(self):
         for front in range(len(HELLO)):
@@ -55,6 +84,24 @@ class Readers(unittest.TestCase):
         report = sms.SubmitReport.read_error(bytes.fromhex("01D60030217251409080"))
         self.assertEqual((report.cause, report.data), (0xD6, None))
         self.assertEqual(report.stamp, sms.Stamp(bytes.fromhex("30217251409080")))
+
+    def test_texts_of_reports(self):
+        cases = [
+            ("00040AE8329BFD4697D9EC37", "hellohello"),
+            ("0007FF000AE8329BFD4697D9EC37", "hellohello"),
+            ("00060802044F", "\u044f"),
+            ("4004090500032A0101D069", "hi"),
+        ]
+        for octets, text in cases:
+            with self.subTest(octets=octets):
+                self.assertEqual(sms.DeliverReport.read_ack(bytes.fromhex(octets)).text, text)
+        for octets in ("00060402044F", "0000", "40060802090A"):
+            with self.subTest(octets=octets), self.assertRaises(sms.NotThere):
+                sms.DeliverReport.read_ack(bytes.fromhex(octets)).text
+        octets = bytes.fromhex("062A0B917238880900F1993092516195809930925161958000040AE8329BFD4697D9EC37")
+        self.assertEqual(sms.StatusReport.read(octets).text, "hellohello")
+        with self.assertRaises(sms.NotThere):
+            sms.StatusReport.read(octets[:25]).text
 
     def test_status_reports(self):
         stamp, discharged = "0160124130340A", "0160124130940A"
@@ -90,6 +137,82 @@ class Writers(unittest.TestCase):
         self.assertEqual((message.target, message.text), ("+46708251358", "hellohello"))
         self.assertEqual(message.validity.end(NOW), NOW + timedelta(days=4))
 
+    def test_classes(self):
+        for number, scheme in enumerate((None, 0, 1, 2, 3)):
+            (unit,) = sms.Submit.write("+46708251358", "hellohello", message_class=scheme)
+            septets = ("00", "10", "11", "12", "13")[number]
+            self.assertEqual(unit.hex().upper(), f"01000B916407281553F800{septets}0AE8329BFD4697D9EC37")
+            (unit,) = sms.Deliver.write("+46708251358", "\u044f", STAMP, message_class=scheme)
+            ucs2 = ("08", "18", "19", "1A", "1B")[number]
+            self.assertEqual(unit.hex().upper(), f"040B916407281553F800{ucs2}9930925161958002044F")
+        for wrong in (-1, 4):
+            with self.assertRaises(sms.OutOfRange):
+                sms.Submit.write("1", "", message_class=wrong)
+
+    def test_reports(self):
+        stamp = sms.Stamp(bytes.fromhex("30217251409080"))
+        deliver, submit = sms.DeliverReport, sms.SubmitReport
+        header = bytes.fromhex("0370010041")
+        cases = [
+            ("0000", deliver.write_ack()),
+            ("0007000003616263", deliver.write_ack(pid=0, dcs=0, data=b"abc")),
+            ("400604050370010041", deliver.write_ack(dcs=4, data=header, has_header=True)),
+            ("00040AE8329BFD4697D9EC37", deliver.write_ack(data=HELLO[19:], length=10)),
+            ("00C1070004030102F0", deliver.write_error(0xC1, pid=0, dcs=4, data=bytearray(b"\x01\x02\xf0"))),
+            ("010030217251409080", submit.write_ack(stamp)),
+            ("01D60030217251409080", submit.write_error(0xD6, stamp)),
+            ("01D60130217251409080AA", submit.write_error(0xD6, stamp, pid=0xAA)),
+        ]
+        for wanted, unit in cases:
+            self.assertEqual(unit.hex().upper(), wanted)
+        self.assertEqual(deliver.read_ack(deliver.write_ack(data=HELLO[19:], length=10)).text, "hellohello")
+        for error, data, more in (
+            (sms.TooLong, bytes(160), {"dcs": 4}),
+            (sms.OutOfRange, bytes(9), {"length": 9}),
+            (sms.OutOfRange, b"\x02\x00", {"dcs": 4, "has_header": True}),
+            (sms.OutOfRange, None, {"has_header": True}),
+            (TypeError, "abc", {}),
+        ):
+            with self.subTest(data=data, more=more), self.assertRaises(error):
+                deliver.write_ack(data=data, **more)
+
+    def test_status_reports(self):
+        stamp, discharged = "0160124130340A", "0160124130940A"
+        given = "+4915259911630", sms.Stamp(bytes.fromhex(stamp)), sms.Stamp(bytes.fromhex(discharged))
+        unit = sms.StatusReport.write(*given, 0, reference=4)
+        self.assertEqual(unit.hex().upper(), f"06040D91945152991136F0{stamp}{discharged}00")
+        flags = {"more": True, "looped": True, "qualifier": True, "has_header": True}
+        unit = sms.StatusReport.write(*given, 0x46, pid=0x7F, dcs=4, data=b"\x01\xbb\xcc", **flags)
+        self.assertEqual(unit.hex().upper(), f"6A000D91945152991136F0{stamp}{discharged}46077F040301BBCC")
+        report = sms.StatusReport.read(unit)
+        self.assertEqual((report.more, report.looped, report.qualifier, report.has_header), (True,) * 4)
+        self.assertEqual((report.data, report.header), (b"\x01\xbb\xcc", b"\xbb"))
+        with self.assertRaises(sms.BadAddress):
+            sms.StatusReport.write("+1x", *given[1:], 0)
+
+    def test_the_longest_units(self):
+        absolute, most = sms.Validity.absolute(STAMP), "+" + "1" * 20
+        for unit, length in (
+            (sms.Submit.write_data(most, bytes(140), validity=absolute), 164),
+            (sms.SubmitReport.write_error(1, STAMP, pid=0, dcs=4, data=bytes(159)), 172),
+            (sms.StatusReport.write(most, STAMP, STAMP, 0, pid=0, dcs=4, data=bytes(159)), sms.raw.UNIT_MAX),
+        ):
+            self.assertEqual(len(unit), length)
+            packet = sms.wrap(unit, flag=True, value=6, to_phone=False, reference=255, centre=most)
+            self.assertLessEqual(len(packet), sms.raw.PACKET_MAX)
+
+    def test_data(self):
+        unit = sms.Submit.write_data("+46708251358", b"\xaa\xbb")
+        self.assertEqual(unit.hex().upper(), "01000B916407281553F8000402AABB")
+        unit = sms.Submit.write_data("+46708251358", bytes.fromhex("0500032A020141"), 0x15, has_header=True, message_reference=7)
+        self.assertEqual(unit.hex().upper(), "41070B916407281553F80015070500032A020141")
+        self.assertEqual(sms.Submit.read(unit).place, sms.Place(8, 0x2A, 2, 1))
+        unit = sms.Deliver.write_data("+46708251358", memoryview(b"\xaa\xbb"), STAMP, more=True)
+        self.assertEqual(unit.hex().upper(), "000B916407281553F800049930925161958002AABB")
+        for error, data, dcs in ((sms.TooLong, bytes(141), 4), (sms.OutOfRange, b"abc", 0), (TypeError, 7, 4)):
+            with self.subTest(dcs=dcs), self.assertRaises(error):
+                sms.Deliver.write_data("1", data, STAMP, dcs)
+
     def test_segments_tell_their_place(self):
         units = sms.Deliver.write("12345", LONG, STAMP, reference=42)
         places = [sms.Deliver.read(unit).place for unit in units]
@@ -109,6 +232,8 @@ class Writers(unittest.TestCase):
             (sms.TooLong, lambda: sms.split("a" * 39016)),
             (sms.OutOfRange, lambda: sms.split("", reference=256)),
             (sms.OutOfRange, lambda: sms.Joiner(0, 1)),
+            (sms.OutOfRange, lambda: sms.Joiner(1, 2**64 + 1)),
+            (sms.OutOfRange, lambda: sms.Submit.write("1", "", pid=256)),
             (sms.OutOfRange, lambda: sms.Stamp.at(datetime(1999, 12, 31, tzinfo=timezone.utc))),
             (sms.OutOfRange, lambda: sms.Validity(1, b"").end(NOW)),
             (sms.NotThere, lambda: sms.Validity(2, bytes(7)).end(NOW)),
@@ -118,6 +243,66 @@ class Writers(unittest.TestCase):
                 call()
 
 
+class Mistakes(unittest.TestCase):
+    def test_octets_are_octets(self):
+        with sms.Joiner() as joiner:
+            calls = [
+                sms.Deliver.read,
+                sms.Submit.read,
+                sms.DeliverReport.read_ack,
+                sms.SubmitReport.read_error,
+                sms.StatusReport.read,
+                sms.Command.read,
+                sms.Cp.read,
+                sms.Rp.read,
+                sms.Stamp,
+                lambda octets: sms.Validity(sms.Format.ENHANCED, octets),
+                lambda octets: sms.wrap(octets, flag=False, value=0, to_phone=True, reference=0),
+                lambda octets: sms.wrap_answer(octets, flag=False, value=0, to_phone=True, reference=0),
+                joiner.offer,
+                joiner.outcome,
+                joiner.would_finish,
+            ]
+            for call, wrong in itertools.product(calls, (7, 28.0, "0" * 7, None, [0] * 7)):
+                with self.subTest(call=call, wrong=wrong):
+                    with self.assertRaisesRegex(TypeError, f"^octets are bytes, .* not {type(wrong).__name__}$"):
+                        call(wrong)
+
+    def test_texts_moments_and_numbers_are_such(self):
+        cases = [
+            ("a text is a str, and not bytes", lambda: sms.split(b"text")),
+            ("a text is a str, and not int", lambda: sms.Submit.write(46708251358, "text")),
+            ("a moment is a datetime, and not int", lambda: sms.Stamp.at(0)),
+            ("a moment is a datetime, and not int", lambda: sms.Joiner().offer(HELLO, 0)),
+            ("a moment is a datetime, and not float", lambda: sms.Validity().end(0.0)),
+            ("'float' object", lambda: sms.split("", reference=1.0)),
+            ("'float' object", lambda: sms.Joiner(1.0, 1)),
+            ("'str'", lambda: sms.Submit.write("1", "", pid="0")),
+        ]
+        for told, call in cases:
+            with self.subTest(told=told), self.assertRaisesRegex(TypeError, told):
+                call()
+
+    def test_each_error_comes_back(self):
+        errors = [it for it in vars(sms).values() if isinstance(it, type) and issubclass(it, sms.Error)]
+        self.assertEqual(len(errors), 10)
+        told = [it() for it in errors if it is not sms.Refused] + [sms.OutOfRange("a moment has a time zone")]
+        told += [sms.Refused(18, sms.Reason.DATA_TOO_LONG), sms.Refused(0, sms.Reason(99))]
+        for protocol, error in itertools.product(range(pickle.HIGHEST_PROTOCOL + 1), told):
+            for again in (pickle.loads(pickle.dumps(error, protocol)), copy.copy(error), copy.deepcopy(error)):
+                self.assertIs(type(again), type(error))
+                self.assertEqual((again, hash(again), str(again)), (error, hash(error), str(error)))
+                self.assertEqual((again.args, vars(again)), (error.args, vars(error)))
+        self.assertNotEqual(told[-2], told[-1])
+        self.assertNotEqual(sms.NotThere(), sms.NotUtf8())
+
+    def test_a_reason_without_a_name(self):
+        self.assertEqual(str(sms.Refused(3, sms.Reason(99))), "at 3: reason 99")
+        self.assertEqual(sms.Reason(99), 99)
+        with self.assertRaises(ValueError):
+            sms.Reason("short")
+
+
 class Packets(unittest.TestCase):
     def test_wrapped_and_read(self):
         packet = sms.wrap(HELLO, flag=False, value=3, to_phone=True, reference=9, centre="+1234")
@@ -125,12 +310,23 @@ class Packets(unittest.TestCase):
         rp = sms.Rp.read(cp.user)
         self.assertEqual((cp.kind, cp.flag, cp.value, cp.used), ("data", False, 3, len(packet)))
         self.assertEqual((rp.kind, rp.to_phone, rp.reference, rp.user), ("data", True, 9, HELLO))
-        self.assertEqual(rp.address, bytes.fromhex("03912143"))
+        self.assertEqual((rp.address, rp.centre), (bytes.fromhex("03912143"), "+1234"))
         answer = sms.wrap_answer(flag=True, value=3, to_phone=False, reference=9, cause=22)
         rp = sms.Rp.read(sms.Cp.read(answer).user)
         self.assertEqual((rp.kind, rp.cause, rp.diagnostic, rp.user), ("error", 22, None, None))
         self.assertEqual(sms.Cp.read(sms.wrap_acknowledgement(flag=True, value=3)).kind, "ack")
         self.assertEqual(sms.Cp.read(sms.wrap_acknowledgement(flag=True, value=3, cause=97)).cause, 97)
+
+
+    def test_centre(self):
+        octets = bytes.fromhex("012A07917283010010F500020405")
+        self.assertEqual(sms.Rp.read(octets).centre, "+27381000015")
+        self.assertEqual(sms.Rp.read(octets[:3] + b"\x81" + octets[4:]).centre, "27381000015")
+        self.assertIsNone(sms.Rp.read(bytes.fromhex("032A")).centre)
+        with self.assertRaisesRegex(sms.Refused, "^at 4: bad relay address$"):
+            sms.Rp.read(octets[:4] + b"\x7f" + octets[5:])
+        with self.assertRaises(sms.BadAddress):
+            dataclasses.replace(sms.Rp.read(octets), address=b"\x02\x91\x7f").centre
 
 
 class Stamps(unittest.TestCase):

@@ -36,6 +36,14 @@ pub fn seconds_of_unix(unix: u64) -> Option<u64> {
     unix.checked_sub(UNIX_OF_2000)
 }
 
+/// The version of the library that is loaded: its first number is that of the interface, which is checked at no other
+/// time. The crate is for [`raw::SMS_ABI`].
+pub fn version() -> (u32, u32, u32) {
+    // SAFETY: it takes nothing.
+    let number = unsafe { raw::sms_version() };
+    (number / 1_000_000, number / 1000 % 1000, number % 1000)
+}
+
 // ---- what is refused
 
 /// Why octets are refused.
@@ -60,17 +68,17 @@ pub enum Reason {
 impl Reason {
     fn of(number: u32) -> Reason {
         match number {
-            1 => Reason::Short,
-            2 => Reason::WrongType,
-            3 => Reason::AddressTooLong,
-            4 => Reason::BadDigit,
-            5 => Reason::DataTooLong,
-            6 => Reason::HeaderTooLong,
-            7 => Reason::NotSms,
-            8 => Reason::BadTransaction,
-            9 => Reason::UnknownType,
-            10 => Reason::BadRelayAddress,
-            11 => Reason::BadCause,
+            raw::SMS_SHORT => Reason::Short,
+            raw::SMS_WRONG_TYPE => Reason::WrongType,
+            raw::SMS_ADDRESS_TOO_LONG => Reason::AddressTooLong,
+            raw::SMS_BAD_DIGIT => Reason::BadDigit,
+            raw::SMS_DATA_TOO_LONG => Reason::DataTooLong,
+            raw::SMS_HEADER_TOO_LONG => Reason::HeaderTooLong,
+            raw::SMS_NOT_SMS => Reason::NotSms,
+            raw::SMS_BAD_TRANSACTION => Reason::BadTransaction,
+            raw::SMS_UNKNOWN_TYPE => Reason::UnknownType,
+            raw::SMS_BAD_RELAY_ADDRESS => Reason::BadRelayAddress,
+            raw::SMS_BAD_CAUSE => Reason::BadCause,
             other => Reason::Other(other),
         }
     }
@@ -140,14 +148,14 @@ pub enum Error {
 impl Error {
     fn of(status: u32, refused: raw::Refused) -> Error {
         match status {
-            1 => Error::Refused(Refused::of(refused)),
-            2 => Error::NoMemory,
-            4 => Error::NotUtf8,
-            5 => Error::BadAddress,
-            6 => Error::TooLong,
-            7 => Error::OutOfRange,
-            8 => Error::NotThere,
-            9 => Error::TooManyOpen,
+            raw::SMS_REFUSED => Error::Refused(Refused::of(refused)),
+            raw::SMS_NO_MEMORY => Error::NoMemory,
+            raw::SMS_NOT_UTF8 => Error::NotUtf8,
+            raw::SMS_BAD_ADDRESS => Error::BadAddress,
+            raw::SMS_TOO_LONG => Error::TooLong,
+            raw::SMS_OUT_OF_RANGE => Error::OutOfRange,
+            raw::SMS_NOT_THERE => Error::NotThere,
+            raw::SMS_TOO_MANY_OPEN => Error::TooManyOpen,
             other => Error::Other(other),
         }
     }
@@ -184,37 +192,59 @@ fn read<T: Default>(call: Reader<T>, octets: &[u8]) -> Result<T, Refused> {
     let (mut seen, mut refused) = (T::default(), raw::Refused::default());
     // SAFETY: the octets are as many as counted; the structs are ours, and of the call's types.
     match unsafe { call(octets.as_ptr(), octets.len(), &mut seen, &mut refused) } {
-        0 => Ok(seen),
+        raw::SMS_OK => Ok(seen),
         _ => Err(Refused::of(refused)),
     }
 }
 
 /// What a call of the form (.., out, room, needed) writes, with room made where it wants more.
 fn answer(room: usize, mut call: impl FnMut(*mut u8, usize, *mut usize) -> u32) -> Result<Vec<u8>, Error> {
-    let mut out = vec![0; room];
+    let mut out = Vec::new();
+    grow(&mut out, room)?;
     loop {
         let mut needed = 0;
         match call(out.as_mut_ptr(), out.len(), &mut needed) {
-            0 => {
+            raw::SMS_OK => {
                 out.truncate(needed);
                 return Ok(out);
             }
-            3 if needed > out.len() => out.resize(needed, 0),
+            raw::SMS_NO_ROOM if needed > out.len() => grow(&mut out, needed)?,
+            // No call of this form reads a unit: what it may refuse is an address.
+            raw::SMS_REFUSED => return Err(Error::BadAddress),
             status => return Err(Error::of(status, raw::Refused::default())),
         }
     }
 }
 
-fn text_of(octets: Vec<u8>) -> String {
-    String::from_utf8(octets).expect("the library writes UTF-8")
+/// Makes so many octets of it.
+fn grow(out: &mut Vec<u8>, length: usize) -> Result<(), Error> {
+    reserve(out, length.saturating_sub(out.len()))?;
+    out.resize(length, 0);
+    Ok(())
+}
+
+fn reserve<T>(out: &mut Vec<T>, more: usize) -> Result<(), Error> {
+    out.try_reserve_exact(more).map_err(|_| Error::NoMemory)
+}
+
+fn copied(octets: &[u8]) -> Result<Vec<u8>, Error> {
+    let mut own = Vec::new();
+    reserve(&mut own, octets.len())?;
+    own.extend_from_slice(octets);
+    Ok(own)
+}
+
+/// The octets of a span; it lies in them, as it was seen there.
+fn at(octets: &[u8], span: raw::Span) -> &[u8] {
+    &octets[span.offset..][..span.length]
+}
+
+/// The library writes nothing but UTF-8.
+fn text_of(octets: Vec<u8>) -> Result<String, Error> {
+    String::from_utf8(octets).map_err(|_| Error::NotUtf8)
 }
 
 // ---- parts
-
-const TEXT_MAX: usize = 480;
-const UNIT_MAX: usize = 184;
-const PACKET_MAX: usize = 258;
-const ADDRESS_TEXT_MAX: usize = 33;
 
 /// How user data are spelled.
 #[derive(Clone, Copy, Debug, PartialEq, Eq, Hash)]
@@ -228,10 +258,19 @@ pub enum Alphabet {
 impl Alphabet {
     fn of(number: u8) -> Alphabet {
         match number {
-            0 => Alphabet::Gsm7,
-            1 => Alphabet::EightBit,
-            2 => Alphabet::Ucs2,
+            raw::SMS_GSM7 => Alphabet::Gsm7,
+            raw::SMS_EIGHT_BIT => Alphabet::EightBit,
+            raw::SMS_UCS2 => Alphabet::Ucs2,
             _ => Alphabet::Compressed,
+        }
+    }
+
+    fn number(self) -> u8 {
+        match self {
+            Alphabet::Gsm7 => raw::SMS_GSM7,
+            Alphabet::EightBit => raw::SMS_EIGHT_BIT,
+            Alphabet::Ucs2 => raw::SMS_UCS2,
+            Alphabet::Compressed => raw::SMS_COMPRESSED,
         }
     }
 }
@@ -287,21 +326,21 @@ impl Stamp {
     pub fn date(self) -> Option<Date> {
         let (stamp, mut date) = (self.raw(), raw::Date::default());
         // SAFETY: both are ours.
-        (unsafe { raw::sms_stamp_date(&stamp, &mut date) } == 0).then_some(date)
+        (unsafe { raw::sms_stamp_date(&stamp, &mut date) } == raw::SMS_OK).then_some(date)
     }
 
     /// The moment; none where the octets are no date, or lie before 2000.
     pub fn moment(self) -> Option<u64> {
         let (stamp, mut seconds) = (self.raw(), 0);
         // SAFETY: both are ours.
-        (unsafe { raw::sms_stamp_moment(&stamp, &mut seconds) } == 0).then_some(seconds)
+        (unsafe { raw::sms_stamp_moment(&stamp, &mut seconds) } == raw::SMS_OK).then_some(seconds)
     }
 
     /// The stamp of a moment in a zone, given in quarters of an hour, -79 to 79.
     pub fn at(seconds: u64, quarters: i8) -> Option<Stamp> {
         let mut stamp = raw::Stamp::default();
         // SAFETY: it is ours.
-        (unsafe { raw::sms_stamp_at(seconds, quarters, &mut stamp) } == 0).then_some(Stamp(stamp.octets))
+        (unsafe { raw::sms_stamp_at(seconds, quarters, &mut stamp) } == raw::SMS_OK).then_some(Stamp(stamp.octets))
     }
 }
 
@@ -317,18 +356,20 @@ pub enum Validity {
 impl Validity {
     fn raw(self) -> raw::Validity {
         match self {
-            Validity::Absent => raw::Validity { format: 0, octets: [0; 7] },
-            Validity::Relative(octet) => raw::Validity { format: 1, octets: [octet, 0, 0, 0, 0, 0, 0] },
-            Validity::Enhanced(octets) => raw::Validity { format: 2, octets },
-            Validity::Absolute(stamp) => raw::Validity { format: 3, octets: stamp.0 },
+            Validity::Absent => raw::Validity { format: raw::SMS_VALIDITY_ABSENT, octets: [0; 7] },
+            Validity::Relative(octet) => {
+                raw::Validity { format: raw::SMS_VALIDITY_RELATIVE, octets: [octet, 0, 0, 0, 0, 0, 0] }
+            }
+            Validity::Enhanced(octets) => raw::Validity { format: raw::SMS_VALIDITY_ENHANCED, octets },
+            Validity::Absolute(stamp) => raw::Validity { format: raw::SMS_VALIDITY_ABSOLUTE, octets: stamp.0 },
         }
     }
 
     fn of(validity: raw::Validity) -> Validity {
         match validity.format {
-            0 => Validity::Absent,
-            1 => Validity::Relative(validity.octets[0]),
-            2 => Validity::Enhanced(validity.octets),
+            raw::SMS_VALIDITY_ABSENT => Validity::Absent,
+            raw::SMS_VALIDITY_RELATIVE => Validity::Relative(validity.octets[0]),
+            raw::SMS_VALIDITY_ENHANCED => Validity::Enhanced(validity.octets),
             _ => Validity::Absolute(Stamp(validity.octets)),
         }
     }
@@ -338,7 +379,7 @@ impl Validity {
         let (validity, mut seconds) = (self.raw(), 0);
         // SAFETY: both are ours.
         match unsafe { raw::sms_validity_end(&validity, accepted, &mut seconds) } {
-            0 => Ok(seconds),
+            raw::SMS_OK => Ok(seconds),
             status => Err(Error::of(status, raw::Refused::default())),
         }
     }
@@ -353,33 +394,30 @@ struct Seen<T> {
 }
 
 impl<T> Seen<T> {
-    fn at(&self, span: raw::Span) -> &[u8] {
-        &self.octets[span.offset..][..span.length]
+    fn of(octets: &[u8], parts: T, address: &raw::Address) -> Result<Seen<T>, Error> {
+        Ok(Seen { octets: copied(octets)?, parts, address: address_of(octets, address)? })
     }
 
     fn header(&self, user: &raw::User) -> Option<&[u8]> {
-        (user.has_header == 1).then(|| self.at(user.header))
+        (user.has_header == 1).then(|| at(&self.octets, user.header))
     }
 
     fn text(&self, user: &raw::User) -> Result<String, Error> {
-        let text = answer(TEXT_MAX, |out, room, needed| {
+        let text = answer(raw::SMS_TEXT_MAX, |out, room, needed| {
             // SAFETY: the octets are those that the part was seen in, and the rest is ours.
             unsafe { raw::sms_user_text(self.octets.as_ptr(), self.octets.len(), user, out, room, needed) }
         })?;
-        Ok(text_of(text))
+        text_of(text)
     }
 }
 
 /// The text of an address that was seen in these octets: only want of memory can prevent it.
-fn address_of(octets: &[u8], address: &raw::Address) -> String {
-    let text = answer(ADDRESS_TEXT_MAX, |out, room, needed| {
+fn address_of(octets: &[u8], address: &raw::Address) -> Result<String, Error> {
+    let text = answer(raw::SMS_ADDRESS_TEXT_MAX, |out, room, needed| {
         // SAFETY: the octets are those that the part was seen in, and the rest is ours.
         unsafe { raw::sms_address_text(octets.as_ptr(), octets.len(), address, out, room, needed) }
-    });
-    match text {
-        Ok(text) => text_of(text),
-        Err(_) => std::alloc::handle_alloc_error(std::alloc::Layout::new::<raw::Address>()),
-    }
+    })?;
+    text_of(text)
 }
 
 macro_rules! unit_parts {
@@ -410,7 +448,7 @@ macro_rules! unit_parts {
 
         /// The octets after the header.
         pub fn body(&self) -> &[u8] {
-            self.0.at(self.0.parts.user.body)
+            at(&self.0.octets, self.0.parts.user.body)
         }
 
         /// The place among the segments of its message, where it is one.
@@ -436,17 +474,16 @@ pub struct Deliver(Seen<raw::Deliver>);
 
 impl Deliver {
     /// Reads the unit at the front of the octets, and says how many it takes.
-    pub fn read(octets: &[u8]) -> Result<(Deliver, usize), Refused> {
+    pub fn read(octets: &[u8]) -> Result<(Deliver, usize), Error> {
         let parts = read(raw::sms_deliver_read, octets)?;
-        let octets = octets[..parts.used].to_vec();
-        let address = address_of(&octets, &parts.origin);
-        Ok((Deliver(Seen { octets, parts, address }), parts.used))
+        let used = parts.used;
+        Ok((Deliver(Seen::of(&octets[..used], parts, &parts.origin)?), used))
     }
 
     /// The segment of an index of a text as a unit, and how many segments there are.
     pub fn write(fields: &DeliverFields, origin: &str, text: &str, index: usize) -> Result<(Vec<u8>, usize), Error> {
         let (fields, mut segments) = (fields.raw(), 0);
-        let unit = answer(UNIT_MAX, |out, room, needed| {
+        let unit = answer(raw::SMS_UNIT_MAX, |out, room, needed| {
             // SAFETY: each pointer is to as many octets as are counted with it.
             unsafe {
                 raw::sms_deliver_write(
@@ -456,6 +493,23 @@ impl Deliver {
             }
         })?;
         Ok((unit, segments))
+    }
+
+    /// A unit with these octets as TP-UD, at most 140, under a TP-DCS that counts in octets (8-bit, UCS-2, compressed); with
+    /// a header they begin with it, its length octet first. The fields have no class, and their reference doesn't count.
+    pub fn write_data(
+        fields: &DeliverFields, dcs: u8, has_header: bool, origin: &str, octets: &[u8],
+    ) -> Result<Vec<u8>, Error> {
+        let fields = fields.raw();
+        answer(raw::SMS_UNIT_MAX, |out, room, needed| {
+            // SAFETY: each pointer is to as many octets as are counted with it.
+            unsafe {
+                raw::sms_deliver_data_write(
+                    &fields, dcs, u8::from(has_header), origin.as_ptr(), origin.len(), octets.as_ptr(), octets.len(),
+                    out, room, needed,
+                )
+            }
+        })
     }
 
     unit_parts!();
@@ -505,17 +559,16 @@ pub struct Submit(Seen<raw::Submit>);
 
 impl Submit {
     /// Reads the unit at the front of the octets, and says how many it takes.
-    pub fn read(octets: &[u8]) -> Result<(Submit, usize), Refused> {
+    pub fn read(octets: &[u8]) -> Result<(Submit, usize), Error> {
         let parts = read(raw::sms_submit_read, octets)?;
-        let octets = octets[..parts.used].to_vec();
-        let address = address_of(&octets, &parts.target);
-        Ok((Submit(Seen { octets, parts, address }), parts.used))
+        let used = parts.used;
+        Ok((Submit(Seen::of(&octets[..used], parts, &parts.target)?), used))
     }
 
     /// The segment of an index of a text as a unit, and how many segments there are.
     pub fn write(fields: &SubmitFields, target: &str, text: &str, index: usize) -> Result<(Vec<u8>, usize), Error> {
         let (fields, mut segments) = (fields.raw(), 0);
-        let unit = answer(UNIT_MAX, |out, room, needed| {
+        let unit = answer(raw::SMS_UNIT_MAX, |out, room, needed| {
             // SAFETY: each pointer is to as many octets as are counted with it.
             unsafe {
                 raw::sms_submit_write(
@@ -525,6 +578,23 @@ impl Submit {
             }
         })?;
         Ok((unit, segments))
+    }
+
+    /// A unit with these octets as TP-UD, at most 140, under a TP-DCS that counts in octets (8-bit, UCS-2, compressed); with
+    /// a header they begin with it, its length octet first. The fields have no class, and their reference doesn't count.
+    pub fn write_data(
+        fields: &SubmitFields, dcs: u8, has_header: bool, target: &str, octets: &[u8],
+    ) -> Result<Vec<u8>, Error> {
+        let fields = fields.raw();
+        answer(raw::SMS_UNIT_MAX, |out, room, needed| {
+            // SAFETY: each pointer is to as many octets as are counted with it.
+            unsafe {
+                raw::sms_submit_data_write(
+                    &fields, dcs, u8::from(has_header), target.as_ptr(), target.len(), octets.as_ptr(), octets.len(),
+                    out, room, needed,
+                )
+            }
+        })
     }
 
     unit_parts!();
@@ -577,12 +647,28 @@ pub struct DeliverFields {
     pub reply: bool,
     pub pid: u8,
     pub stamp: Stamp,
+    /// 0 to 3, where it is of a class.
+    pub message_class: Option<u8>,
+}
+
+/// How the library is told a class: none is 0.
+fn class_of(message_class: Option<u8>) -> u8 {
+    message_class.map_or(0, |it| it.saturating_add(1))
 }
 
 impl DeliverFields {
-    /// No flag is set, and TP-PID is 0.
+    /// No flag is set, TP-PID is 0, and there is no class.
     pub fn new(reference: Reference, stamp: Stamp) -> DeliverFields {
-        DeliverFields { reference, more: false, looped: false, report: false, reply: false, pid: 0, stamp }
+        DeliverFields {
+            reference,
+            more: false,
+            looped: false,
+            report: false,
+            reply: false,
+            pid: 0,
+            stamp,
+            message_class: None,
+        }
     }
 
     fn raw(&self) -> raw::DeliverFields {
@@ -594,6 +680,8 @@ impl DeliverFields {
             reply: u8::from(self.reply),
             pid: self.pid,
             stamp: self.stamp.raw(),
+            message_class: class_of(self.message_class),
+            spare: [0; 6],
         }
     }
 }
@@ -609,12 +697,23 @@ pub struct SubmitFields {
     pub message_reference: u8,
     pub pid: u8,
     pub validity: Validity,
+    /// 0 to 3, where it is of a class.
+    pub message_class: Option<u8>,
 }
 
 impl SubmitFields {
-    /// No flag is set, and TP-MR and TP-PID are 0.
+    /// No flag is set, TP-MR and TP-PID are 0, and there is no class.
     pub fn new(reference: Reference, validity: Validity) -> SubmitFields {
-        SubmitFields { reference, reject: false, report: false, reply: false, message_reference: 0, pid: 0, validity }
+        SubmitFields {
+            reference,
+            reject: false,
+            report: false,
+            reply: false,
+            message_reference: 0,
+            pid: 0,
+            validity,
+            message_class: None,
+        }
     }
 
     fn raw(&self) -> raw::SubmitFields {
@@ -626,6 +725,8 @@ impl SubmitFields {
             reference: self.message_reference,
             pid: self.pid,
             validity: self.validity.raw(),
+            message_class: class_of(self.message_class),
+            spare: [0; 6],
         }
     }
 }
@@ -654,50 +755,199 @@ pub struct Report {
 }
 
 /// A header that is there has octets before it.
-fn header_of(octets: &[u8], span: raw::Span) -> Option<Vec<u8>> {
-    (span.offset > 0).then(|| octets[span.offset..][..span.length].to_vec())
+fn header_of(octets: &[u8], span: raw::Span) -> Result<Option<Vec<u8>>, Error> {
+    copied_where(span.offset > 0, octets, span)
 }
 
-fn report(call: Reader<raw::Report>, octets: &[u8]) -> Result<(Report, usize), Refused> {
+fn copied_where(there: bool, octets: &[u8], span: raw::Span) -> Result<Option<Vec<u8>>, Error> {
+    there.then(|| copied(at(octets, span))).transpose()
+}
+
+fn report(call: Reader<raw::Report>, octets: &[u8]) -> Result<(Report, usize), Error> {
     let seen = read(call, octets)?;
-    let data = &octets[seen.data.offset..][..seen.data.length];
     let report = Report {
         has_header: seen.has_header == 1,
         cause: (seen.has_cause == 1).then_some(seen.cause),
         stamp: (seen.has_stamp == 1).then_some(Stamp(seen.stamp.octets)),
         pid: (seen.has_pid == 1).then_some(seen.pid),
         dcs: (seen.has_dcs == 1).then_some(seen.dcs),
-        data: (seen.has_data == 1).then(|| data.to_vec()),
-        header: header_of(octets, seen.header),
+        data: copied_where(seen.has_data == 1, octets, seen.data)?,
+        header: header_of(octets, seen.header)?,
         length: seen.length,
         alphabet: Alphabet::of(seen.alphabet),
     };
     Ok((report, seen.used))
 }
 
+/// Where a header lies in data that begin with it: behind its length octet.
+fn header_in(header: &Option<Vec<u8>>) -> raw::Span {
+    match header {
+        Some(header) => raw::Span { offset: 1, length: header.len() },
+        None => raw::Span::default(),
+    }
+}
+
 impl Report {
+    /// The text of the data after their header; `NotThere` where there are no data, or they are no text (8-bit,
+    /// compressed), or the header goes beyond them.
+    pub fn text(&self) -> Result<String, Error> {
+        let data = self.data.as_deref().unwrap_or_default();
+        let seen = raw::Report {
+            data: raw::Span { offset: 0, length: data.len() },
+            header: header_in(&self.header),
+            has_header: u8::from(self.has_header),
+            has_dcs: u8::from(self.dcs.is_some()),
+            dcs: self.dcs.unwrap_or_default(),
+            has_data: u8::from(self.data.is_some()),
+            length: self.length,
+            alphabet: self.alphabet.number(),
+            ..raw::Report::default()
+        };
+        text_of(answer(raw::SMS_TEXT_MAX, |out, room, needed| {
+            // SAFETY: the octets are as many as counted, and the rest is ours.
+            unsafe { raw::sms_report_text(data.as_ptr(), data.len(), &seen, out, room, needed) }
+        })?)
+    }
+
     /// Reads an SMS-DELIVER-REPORT of an RP-ACK, and says how many octets it takes.
-    pub fn read_deliver_ack(octets: &[u8]) -> Result<(Report, usize), Refused> {
+    pub fn read_deliver_ack(octets: &[u8]) -> Result<(Report, usize), Error> {
         report(raw::sms_deliver_ack_read, octets)
     }
 
     /// Reads an SMS-DELIVER-REPORT of an RP-ERROR.
-    pub fn read_deliver_error(octets: &[u8]) -> Result<(Report, usize), Refused> {
+    pub fn read_deliver_error(octets: &[u8]) -> Result<(Report, usize), Error> {
         report(raw::sms_deliver_error_read, octets)
     }
 
     /// Reads an SMS-SUBMIT-REPORT of an RP-ACK.
-    pub fn read_submit_ack(octets: &[u8]) -> Result<(Report, usize), Refused> {
+    pub fn read_submit_ack(octets: &[u8]) -> Result<(Report, usize), Error> {
         report(raw::sms_submit_ack_read, octets)
     }
 
     /// Reads an SMS-SUBMIT-REPORT of an RP-ERROR.
-    pub fn read_submit_error(octets: &[u8]) -> Result<(Report, usize), Refused> {
+    pub fn read_submit_error(octets: &[u8]) -> Result<(Report, usize), Error> {
         report(raw::sms_submit_error_read, octets)
     }
 }
 
+/// What a report may have to be written: TP-PID, TP-DCS, and TP-UD.
+#[derive(Clone, Copy, Debug, Default, PartialEq, Eq, Hash)]
+pub struct ReportFields<'a> {
+    pub pid: Option<u8>,
+    pub dcs: Option<u8>,
+    /// TP-UD, at most 159 octets.
+    pub data: Option<&'a [u8]>,
+    /// TP-UDHI: the data begin with a header, its length octet first.
+    pub has_header: bool,
+    /// TP-UDL: septets under the 7-bit alphabet, and where there is no TP-DCS; else octets.
+    pub length: u8,
+}
+
+impl<'a> ReportFields<'a> {
+    /// Data under a TP-DCS that counts in octets.
+    pub fn octets(dcs: u8, data: &'a [u8]) -> ReportFields<'a> {
+        let length = u8::try_from(data.len()).unwrap_or(u8::MAX);
+        ReportFields { dcs: Some(dcs), data: Some(data), length, ..ReportFields::default() }
+    }
+
+    fn raw(&self, cause: u8, stamp: Stamp) -> raw::ReportFields {
+        raw::ReportFields {
+            stamp: stamp.raw(),
+            cause,
+            has_pid: u8::from(self.pid.is_some()),
+            pid: self.pid.unwrap_or_default(),
+            has_dcs: u8::from(self.dcs.is_some()),
+            dcs: self.dcs.unwrap_or_default(),
+            has_data: u8::from(self.data.is_some()),
+            has_header: u8::from(self.has_header),
+            length: self.length,
+            spare: [0; 6],
+        }
+    }
+}
+
+type ReportWriter = unsafe extern "C" fn(*const raw::ReportFields, *const u8, usize, *mut u8, usize, *mut usize) -> u32;
+
+fn write_report(call: ReportWriter, fields: &ReportFields<'_>, cause: u8, stamp: Stamp) -> Result<Vec<u8>, Error> {
+    let (given, data) = (fields.raw(cause, stamp), fields.data.unwrap_or_default());
+    answer(raw::SMS_UNIT_MAX, |out, room, needed| {
+        // SAFETY: the octets are as many as counted, and the rest is ours.
+        unsafe { call(&given, data.as_ptr(), data.len(), out, room, needed) }
+    })
+}
+
+/// No report has it.
+const NO_STAMP: Stamp = Stamp([0; 7]);
+
+impl Report {
+    /// An SMS-DELIVER-REPORT for an RP-ACK.
+    pub fn write_deliver_ack(fields: &ReportFields<'_>) -> Result<Vec<u8>, Error> {
+        write_report(raw::sms_deliver_ack_write, fields, 0, NO_STAMP)
+    }
+
+    /// An SMS-DELIVER-REPORT for an RP-ERROR, with TP-FCS.
+    pub fn write_deliver_error(fields: &ReportFields<'_>, cause: u8) -> Result<Vec<u8>, Error> {
+        write_report(raw::sms_deliver_error_write, fields, cause, NO_STAMP)
+    }
+
+    /// An SMS-SUBMIT-REPORT for an RP-ACK, with TP-SCTS.
+    pub fn write_submit_ack(fields: &ReportFields<'_>, stamp: Stamp) -> Result<Vec<u8>, Error> {
+        write_report(raw::sms_submit_ack_write, fields, 0, stamp)
+    }
+
+    /// An SMS-SUBMIT-REPORT for an RP-ERROR, with TP-FCS and TP-SCTS.
+    pub fn write_submit_error(fields: &ReportFields<'_>, cause: u8, stamp: Stamp) -> Result<Vec<u8>, Error> {
+        write_report(raw::sms_submit_error_write, fields, cause, stamp)
+    }
+}
+
 // ---- status reports, and commands
+
+/// What an SMS-STATUS-REPORT has besides a recipient.
+#[derive(Clone, Copy, Debug, PartialEq, Eq, Hash)]
+pub struct StatusReportFields<'a> {
+    /// TP-SCTS: when the centre took the message.
+    pub stamp: Stamp,
+    /// TP-DT: when it came to its recipient, or when the centre last tried.
+    pub discharged: Stamp,
+    /// TP-ST.
+    pub status: u8,
+    /// TP-MR of the submission, or of the command.
+    pub reference: u8,
+    pub more: bool,
+    pub looped: bool,
+    pub qualifier: bool,
+    pub parts: ReportFields<'a>,
+}
+
+impl<'a> StatusReportFields<'a> {
+    /// No flag is set, TP-MR is 0, and there is neither TP-PID nor TP-DCS nor TP-UD.
+    pub fn new(stamp: Stamp, discharged: Stamp, status: u8) -> StatusReportFields<'a> {
+        let parts = ReportFields::default();
+        StatusReportFields { stamp, discharged, status, reference: 0, more: false, looped: false, qualifier: false, parts }
+    }
+
+    fn raw(&self) -> raw::StatusReportFields {
+        let parts = self.parts.raw(0, NO_STAMP);
+        raw::StatusReportFields {
+            stamp: self.stamp.raw(),
+            discharged: self.discharged.raw(),
+            more: u8::from(self.more),
+            looped: u8::from(self.looped),
+            qualifier: u8::from(self.qualifier),
+            reference: self.reference,
+            status: self.status,
+            has_pid: parts.has_pid,
+            pid: parts.pid,
+            has_dcs: parts.has_dcs,
+            dcs: parts.dcs,
+            has_data: parts.has_data,
+            has_header: parts.has_header,
+            length: parts.length,
+            spare: [0; 6],
+        }
+    }
+}
 
 /// SMS-STATUS-REPORT: how it stands with a message that a phone has submitted (3GPP TS 23.040, 9.2.2.3).
 #[derive(Clone, Debug, PartialEq, Eq)]
@@ -736,18 +986,50 @@ pub struct StatusReport {
 }
 
 impl StatusReport {
+    /// The unit, to a recipient: + and digits, digits, or a name.
+    pub fn write(fields: &StatusReportFields<'_>, recipient: &str) -> Result<Vec<u8>, Error> {
+        let (given, data) = (fields.raw(), fields.parts.data.unwrap_or_default());
+        answer(raw::SMS_UNIT_MAX, |out, room, needed| {
+            // SAFETY: each pointer is to as many octets as are counted with it.
+            unsafe {
+                raw::sms_status_report_write(
+                    &given, recipient.as_ptr(), recipient.len(), data.as_ptr(), data.len(), out, room, needed,
+                )
+            }
+        })
+    }
+
+    /// As that of a [`Report`].
+    pub fn text(&self) -> Result<String, Error> {
+        let data = self.data.as_deref().unwrap_or_default();
+        let seen = raw::StatusReport {
+            data: raw::Span { offset: 0, length: data.len() },
+            header: header_in(&self.header),
+            has_header: u8::from(self.has_header),
+            has_dcs: u8::from(self.dcs.is_some()),
+            dcs: self.dcs.unwrap_or_default(),
+            has_data: u8::from(self.data.is_some()),
+            length: self.length,
+            alphabet: self.alphabet.number(),
+            ..raw::StatusReport::default()
+        };
+        text_of(answer(raw::SMS_TEXT_MAX, |out, room, needed| {
+            // SAFETY: the octets are as many as counted, and the rest is ours.
+            unsafe { raw::sms_status_report_text(data.as_ptr(), data.len(), &seen, out, room, needed) }
+        })?)
+    }
+
     /// Reads the unit at the front of the octets, and says how many it takes. TP-PI is read where another octet follows
     /// TP-ST.
-    pub fn read(octets: &[u8]) -> Result<(StatusReport, usize), Refused> {
+    pub fn read(octets: &[u8]) -> Result<(StatusReport, usize), Error> {
         let seen = read(raw::sms_status_report_read, octets)?;
-        let data = &octets[seen.data.offset..][..seen.data.length];
         let report = StatusReport {
             more: seen.more == 1,
             looped: seen.looped == 1,
             qualifier: seen.qualifier == 1,
             has_header: seen.has_header == 1,
             reference: seen.reference,
-            recipient: address_of(octets, &seen.recipient),
+            recipient: address_of(octets, &seen.recipient)?,
             type_of_number: seen.recipient.type_of_number,
             plan: seen.recipient.plan,
             stamp: Stamp(seen.stamp.octets),
@@ -755,8 +1037,8 @@ impl StatusReport {
             status: seen.status,
             pid: (seen.has_pid == 1).then_some(seen.pid),
             dcs: (seen.has_dcs == 1).then_some(seen.dcs),
-            data: (seen.has_data == 1).then(|| data.to_vec()),
-            header: header_of(octets, seen.header),
+            data: copied_where(seen.has_data == 1, octets, seen.data)?,
+            header: header_of(octets, seen.header)?,
             length: seen.length,
             alphabet: Alphabet::of(seen.alphabet),
         };
@@ -790,7 +1072,7 @@ pub struct Command {
 
 impl Command {
     /// Reads the unit at the front of the octets, and says how many it takes.
-    pub fn read(octets: &[u8]) -> Result<(Command, usize), Refused> {
+    pub fn read(octets: &[u8]) -> Result<(Command, usize), Error> {
         let seen = read(raw::sms_command_read, octets)?;
         let command = Command {
             has_header: seen.has_header == 1,
@@ -799,11 +1081,11 @@ impl Command {
             pid: seen.pid,
             kind: seen.kind,
             message: seen.message,
-            target: address_of(octets, &seen.target),
+            target: address_of(octets, &seen.target)?,
             type_of_number: seen.target.type_of_number,
             plan: seen.target.plan,
-            data: octets[seen.data.offset..][..seen.data.length].to_vec(),
-            header: header_of(octets, seen.header),
+            data: copied(at(octets, seen.data))?,
+            header: header_of(octets, seen.header)?,
         };
         Ok((command, seen.used))
     }
@@ -834,8 +1116,8 @@ impl<'a> Cp<'a> {
     pub fn read(octets: &'a [u8]) -> Result<(Cp<'a>, usize), Refused> {
         let seen = read(raw::sms_cp_read, octets)?;
         let body = match seen.kind {
-            0 => CpBody::Data(&octets[seen.user.offset..][..seen.user.length]),
-            1 => CpBody::Ack,
+            raw::KIND_DATA => CpBody::Data(at(octets, seen.user)),
+            raw::KIND_ACK => CpBody::Ack,
             _ => CpBody::Error(seen.cause),
         };
         Ok((Cp { flag: seen.flag == 1, value: seen.value, body }, seen.used))
@@ -863,14 +1145,13 @@ impl<'a> Rp<'a> {
     /// Reads the message at the front of the octets, and says how many it takes.
     pub fn read(octets: &'a [u8]) -> Result<(Rp<'a>, usize), Refused> {
         let seen = read(raw::sms_rp_read, octets)?;
-        let at = |span: raw::Span| &octets[span.offset..][..span.length];
-        let user = (seen.has_user == 1).then(|| at(seen.user));
+        let user = (seen.has_user == 1).then(|| at(octets, seen.user));
         let body = match seen.kind {
-            0 => RpBody::Data {
-                address: (seen.has_address == 1).then(|| at(seen.address)),
-                user: at(seen.user),
+            raw::KIND_DATA => RpBody::Data {
+                address: (seen.has_address == 1).then(|| at(octets, seen.address)),
+                user: at(octets, seen.user),
             },
-            1 => RpBody::Ack { user },
+            raw::KIND_ACK => RpBody::Ack { user },
             _ => RpBody::Error {
                 cause: seen.cause,
                 diagnostic: (seen.has_diagnostic == 1).then_some(seen.diagnostic),
@@ -878,6 +1159,24 @@ impl<'a> Rp<'a> {
             },
         };
         Ok((Rp { to_phone: seen.side == 1, reference: seen.reference, body }, seen.used))
+    }
+
+    /// The text of the centre's address in an RP-DATA: its digits, after a + where the type of number is 1. `NotThere`
+    /// where there is no address, `BadAddress` where it has no text.
+    pub fn centre(&self) -> Result<String, Error> {
+        let address = match self.body {
+            RpBody::Data { address, .. } => address.ok_or(Error::NotThere)?,
+            _ => return Err(Error::NotThere),
+        };
+        let seen = raw::Rp {
+            address: raw::Span { offset: 0, length: address.len() },
+            has_address: 1,
+            ..raw::Rp::default()
+        };
+        text_of(answer(raw::SMS_ADDRESS_TEXT_MAX, |out, room, needed| {
+            // SAFETY: the octets are as many as counted, and the rest is ours.
+            unsafe { raw::sms_relay_address_text(address.as_ptr(), address.len(), &seen, out, room, needed) }
+        })?)
     }
 }
 
@@ -907,7 +1206,7 @@ impl Envelope {
     /// address is given as text, or as no text.
     pub fn wrap(self, centre: &str, unit: &[u8]) -> Result<Vec<u8>, Error> {
         let envelope = self.raw();
-        answer(PACKET_MAX, |out, room, needed| {
+        answer(raw::SMS_PACKET_MAX, |out, room, needed| {
             // SAFETY: each pointer is to as many octets as are counted with it.
             unsafe {
                 raw::sms_wrap_data(
@@ -920,7 +1219,7 @@ impl Envelope {
     /// A CP-DATA around an RP-ACK, and a unit where the octets are not empty.
     pub fn wrap_ack(self, unit: &[u8]) -> Result<Vec<u8>, Error> {
         let envelope = self.raw();
-        answer(PACKET_MAX, |out, room, needed| {
+        answer(raw::SMS_PACKET_MAX, |out, room, needed| {
             // SAFETY: each pointer is to as many octets as are counted with it.
             unsafe { raw::sms_wrap_ack(&envelope, unit.as_ptr(), unit.len(), out, room, needed) }
         })
@@ -929,7 +1228,7 @@ impl Envelope {
     /// A CP-DATA around an RP-ERROR with a cause of 0 to 127, and a unit where the octets are not empty.
     pub fn wrap_error(self, cause: u8, unit: &[u8]) -> Result<Vec<u8>, Error> {
         let envelope = self.raw();
-        answer(PACKET_MAX, |out, room, needed| {
+        answer(raw::SMS_PACKET_MAX, |out, room, needed| {
             // SAFETY: each pointer is to as many octets as are counted with it.
             unsafe { raw::sms_wrap_error(&envelope, cause, unit.as_ptr(), unit.len(), out, room, needed) }
         })
@@ -939,14 +1238,14 @@ impl Envelope {
     pub fn cp_ack(self) -> Result<Vec<u8>, Error> {
         let envelope = self.raw();
         // SAFETY: the envelope is ours.
-        answer(PACKET_MAX, |out, room, needed| unsafe { raw::sms_cp_ack(&envelope, out, room, needed) })
+        answer(raw::SMS_PACKET_MAX, |out, room, needed| unsafe { raw::sms_cp_ack(&envelope, out, room, needed) })
     }
 
     /// A CP-ERROR.
     pub fn cp_error(self, cause: u8) -> Result<Vec<u8>, Error> {
         let envelope = self.raw();
         // SAFETY: the envelope is ours.
-        answer(PACKET_MAX, |out, room, needed| unsafe { raw::sms_cp_error(&envelope, cause, out, room, needed) })
+        answer(raw::SMS_PACKET_MAX, |out, room, needed| unsafe { raw::sms_cp_error(&envelope, cause, out, room, needed) })
     }
 }
 
@@ -965,7 +1264,11 @@ pub fn split(reference: Reference, text: &str) -> Result<(Vec<Vec<u8>>, u8), Err
             )
         }
     })?;
-    let users = spans[..segments].iter().map(|it| out[it.offset..][..it.length].to_vec()).collect();
+    let mut users = Vec::new();
+    reserve(&mut users, segments)?;
+    for span in &spans[..segments] {
+        users.push(copied(at(&out, *span))?);
+    }
     Ok((users, dcs))
 }
 
@@ -997,13 +1300,14 @@ impl Joiner {
         let mut joiner = raw::Joiner::CLOSED;
         // SAFETY: it is ours, and closed.
         match unsafe { raw::sms_joiner_open(&mut joiner, open_max, remembered) } {
-            0 => Ok(Joiner(joiner)),
+            raw::SMS_OK => Ok(Joiner(joiner)),
             status => Err(Error::of(status, raw::Refused::default())),
         }
     }
 
     /// Offers an SMS-DELIVER that came at a moment, in seconds from the beginning of 2000; `NotThere` where its user
-    /// data are no text (8-bit, compressed).
+    /// data are no text (8-bit, compressed). After `NoMemory` it may be offered again: where memory ended once its message
+    /// was whole, it is a repeat then, and [`text`](Joiner::text) has the text.
     pub fn offer(&mut self, seconds: u64, octets: &[u8]) -> Result<Offer, Error> {
         let (mut outcome, mut refused) = (0, raw::Refused::default());
         // SAFETY: the octets are as many as counted, and the rest is ours.
@@ -1011,9 +1315,9 @@ impl Joiner {
             raw::sms_joiner_offer(&mut self.0, seconds, octets.as_ptr(), octets.len(), &mut outcome, &mut refused)
         };
         match (status, outcome) {
-            (0, 0) => Ok(Offer::Repeat),
-            (0, 1) => Ok(Offer::Kept),
-            (0, _) => Ok(Offer::Finished(self.text()?)),
+            (raw::SMS_OK, raw::SMS_REPEAT) => Ok(Offer::Repeat),
+            (raw::SMS_OK, raw::SMS_KEPT) => Ok(Offer::Kept),
+            (raw::SMS_OK, _) => Ok(Offer::Finished(self.text()?)),
             (status, _) => Err(Error::of(status, refused)),
         }
     }
@@ -1021,10 +1325,10 @@ impl Joiner {
     /// The text that finished last; empty before one did.
     pub fn text(&mut self) -> Result<String, Error> {
         // SAFETY: the room is as counted, and the joiner is ours.
-        let text = answer(TEXT_MAX, |out, room, needed| unsafe {
+        let text = answer(raw::SMS_TEXT_MAX, |out, room, needed| unsafe {
             raw::sms_joiner_text(&mut self.0, out, room, needed)
         })?;
-        Ok(text_of(text))
+        text_of(text)
     }
 
     /// Whether an SMS-DELIVER would finish its message; nothing changes. `NotThere` where `offer` answers so.
@@ -1034,7 +1338,7 @@ impl Joiner {
         match unsafe {
             raw::sms_joiner_would_finish(&mut self.0, octets.as_ptr(), octets.len(), &mut finishes, &mut refused)
         } {
-            0 => Ok(finishes == 1),
+            raw::SMS_OK => Ok(finishes == 1),
             status => Err(Error::of(status, refused)),
         }
     }

@@ -1,4 +1,56 @@
-//! The structs and calls of sms.h. The rest of this crate is the safe way to them.
+//! The numbers, structs and calls of sms.h. The rest of this crate is the safe way to them.
+
+pub const SMS_ABI: u32 = 2;
+/// Of the header that these are the declarations of.
+pub const SMS_VERSION: u32 = 2_000_000;
+
+pub const SMS_TEXT_MAX: usize = 480;
+pub const SMS_UNIT_MAX: usize = 192;
+pub const SMS_PACKET_MAX: usize = 258;
+pub const SMS_ADDRESS_TEXT_MAX: usize = 33;
+
+pub const SMS_OK: u32 = 0;
+pub const SMS_REFUSED: u32 = 1;
+pub const SMS_NO_MEMORY: u32 = 2;
+pub const SMS_NO_ROOM: u32 = 3;
+pub const SMS_NOT_UTF8: u32 = 4;
+pub const SMS_BAD_ADDRESS: u32 = 5;
+pub const SMS_TOO_LONG: u32 = 6;
+pub const SMS_OUT_OF_RANGE: u32 = 7;
+pub const SMS_NOT_THERE: u32 = 8;
+pub const SMS_TOO_MANY_OPEN: u32 = 9;
+pub const SMS_CLOSED: u32 = 10;
+
+pub const SMS_SHORT: u32 = 1;
+pub const SMS_WRONG_TYPE: u32 = 2;
+pub const SMS_ADDRESS_TOO_LONG: u32 = 3;
+pub const SMS_BAD_DIGIT: u32 = 4;
+pub const SMS_DATA_TOO_LONG: u32 = 5;
+pub const SMS_HEADER_TOO_LONG: u32 = 6;
+pub const SMS_NOT_SMS: u32 = 7;
+pub const SMS_BAD_TRANSACTION: u32 = 8;
+pub const SMS_UNKNOWN_TYPE: u32 = 9;
+pub const SMS_BAD_RELAY_ADDRESS: u32 = 10;
+pub const SMS_BAD_CAUSE: u32 = 11;
+
+pub const SMS_GSM7: u8 = 0;
+pub const SMS_EIGHT_BIT: u8 = 1;
+pub const SMS_UCS2: u8 = 2;
+pub const SMS_COMPRESSED: u8 = 3;
+
+pub const SMS_VALIDITY_ABSENT: u8 = 0;
+pub const SMS_VALIDITY_RELATIVE: u8 = 1;
+pub const SMS_VALIDITY_ENHANCED: u8 = 2;
+pub const SMS_VALIDITY_ABSOLUTE: u8 = 3;
+
+pub const SMS_REPEAT: u32 = 0;
+pub const SMS_KEPT: u32 = 1;
+pub const SMS_FINISHED: u32 = 2;
+
+/// CP-DATA and RP-DATA, CP-ACK and RP-ACK, CP-ERROR and RP-ERROR.
+pub const KIND_DATA: u8 = 0;
+pub const KIND_ACK: u8 = 1;
+pub const KIND_ERROR: u8 = 2;
 
 macro_rules! structs {
     ($($(#[$doc:meta])* $c:literal $name:ident { $($field:ident: $type:ty,)* })*) => {
@@ -163,6 +215,8 @@ structs! {
         reference: u8,
         pid: u8,
         validity: Validity,
+        message_class: u8,
+        spare: [u8; 6],
     }
     "sms_deliver_fields" DeliverFields {
         segments: Reference,
@@ -172,6 +226,37 @@ structs! {
         reply: u8,
         pid: u8,
         stamp: Stamp,
+        message_class: u8,
+        spare: [u8; 6],
+    }
+    "sms_report_fields" ReportFields {
+        stamp: Stamp,
+        cause: u8,
+        has_pid: u8,
+        pid: u8,
+        has_dcs: u8,
+        dcs: u8,
+        has_data: u8,
+        has_header: u8,
+        length: u8,
+        spare: [u8; 6],
+    }
+    "sms_status_report_fields" StatusReportFields {
+        stamp: Stamp,
+        discharged: Stamp,
+        more: u8,
+        looped: u8,
+        qualifier: u8,
+        reference: u8,
+        status: u8,
+        has_pid: u8,
+        pid: u8,
+        has_dcs: u8,
+        dcs: u8,
+        has_data: u8,
+        has_header: u8,
+        length: u8,
+        spare: [u8; 6],
     }
 }
 
@@ -234,6 +319,40 @@ extern "C" {
     pub fn sms_split(
         reference: *const Reference, text: *const u8, text_count: usize, out: *mut u8, room: usize,
         needed: *mut usize, spans: *mut Span, span_count: usize, segments: *mut usize, dcs: *mut u8,
+    ) -> u32;
+    pub fn sms_version() -> u32;
+    pub fn sms_relay_address_text(
+        octets: *const u8, count: usize, rp: *const Rp, out: *mut u8, room: usize, needed: *mut usize,
+    ) -> u32;
+    pub fn sms_report_text(
+        octets: *const u8, count: usize, report: *const Report, out: *mut u8, room: usize, needed: *mut usize,
+    ) -> u32;
+    pub fn sms_status_report_text(
+        octets: *const u8, count: usize, report: *const StatusReport, out: *mut u8, room: usize, needed: *mut usize,
+    ) -> u32;
+    pub fn sms_deliver_ack_write(
+        fields: *const ReportFields, octets: *const u8, count: usize, out: *mut u8, room: usize, needed: *mut usize,
+    ) -> u32;
+    pub fn sms_deliver_error_write(
+        fields: *const ReportFields, octets: *const u8, count: usize, out: *mut u8, room: usize, needed: *mut usize,
+    ) -> u32;
+    pub fn sms_submit_ack_write(
+        fields: *const ReportFields, octets: *const u8, count: usize, out: *mut u8, room: usize, needed: *mut usize,
+    ) -> u32;
+    pub fn sms_submit_error_write(
+        fields: *const ReportFields, octets: *const u8, count: usize, out: *mut u8, room: usize, needed: *mut usize,
+    ) -> u32;
+    pub fn sms_status_report_write(
+        fields: *const StatusReportFields, recipient: *const u8, recipient_count: usize, octets: *const u8,
+        count: usize, out: *mut u8, room: usize, needed: *mut usize,
+    ) -> u32;
+    pub fn sms_submit_data_write(
+        fields: *const SubmitFields, dcs: u8, has_header: u8, target: *const u8, target_count: usize,
+        octets: *const u8, count: usize, out: *mut u8, room: usize, needed: *mut usize,
+    ) -> u32;
+    pub fn sms_deliver_data_write(
+        fields: *const DeliverFields, dcs: u8, has_header: u8, origin: *const u8, origin_count: usize,
+        octets: *const u8, count: usize, out: *mut u8, room: usize, needed: *mut usize,
     ) -> u32;
     pub fn sms_joiner_open(joiner: *mut Joiner, open_max: usize, remembered: usize) -> u32;
     pub fn sms_joiner_close(joiner: *mut Joiner);

@@ -2,7 +2,7 @@
 
 use sms::{
     Alphabet, Command, Cp, CpBody, Deliver, DeliverFields, Envelope, Error, Joiner, Offer, Place, Reason, Reference, Refused,
-    Report, Rp, RpBody, Stamp, StatusReport, Submit, SubmitFields, Validity,
+    Report, ReportFields, Rp, RpBody, Stamp, StatusReport, StatusReportFields, Submit, SubmitFields, Validity,
 };
 use std::sync::Mutex;
 
@@ -11,6 +11,10 @@ const HELLO: [u8; 28] = [
     0x32, 0x9B, 0xFD, 0x46, 0x97, 0xD9, 0xEC, 0x37,
 ];
 const STAMP: Stamp = Stamp([0x99, 0x30, 0x92, 0x51, 0x61, 0x95, 0x80]);
+
+fn refused(place: usize, reason: Reason) -> Option<Error> {
+    Some(Error::Refused(Refused { place, reason }))
+}
 
 fn long() -> String {
     (0..200).map(|i| char::from(b'a' + i % 26)).collect()
@@ -29,10 +33,16 @@ fn reads_a_delivery() {
 }
 
 #[test]
+fn tells_its_version() {
+    let (major, minor, patch) = sms::version();
+    assert_eq!((major, minor < 1000, patch < 1000), (sms::raw::SMS_ABI, true, true));
+    assert!(1_000_000 * major + 1000 * minor + patch >= sms::raw::SMS_VERSION);
+}
+
+#[test]
 fn refuses_each_front_at_its_end() {
     for front in 0..HELLO.len() {
-        let refused = Deliver::read(&HELLO[..front]).unwrap_err();
-        assert_eq!(refused, Refused { place: front, reason: Reason::Short });
+        assert_eq!(Deliver::read(&HELLO[..front]).err(), refused(front, Reason::Short));
     }
     let refused: Box<dyn std::error::Error> = Submit::read(&HELLO).unwrap_err().into();
     assert_eq!(refused.to_string(), "at 0: wrong type");
@@ -52,6 +62,75 @@ fn writes_a_submission() {
 }
 
 #[test]
+fn writes_classes() {
+    let septets = [(None, 0x00), (Some(0), 0x10), (Some(1), 0x11), (Some(2), 0x12), (Some(3), 0x13)];
+    for (message_class, dcs) in septets {
+        let submit = SubmitFields { message_class, ..SubmitFields::new(Reference::Eight(0), Validity::Absent) };
+        let (unit, _) = Submit::write(&submit, "+46708251358", "hellohello", 0).unwrap();
+        assert_eq!((unit.len(), unit[11]), (22, dcs));
+        let deliver = DeliverFields { message_class, ..DeliverFields::new(Reference::Eight(0), STAMP) };
+        let (unit, _) = Deliver::write(&deliver, "+46708251358", "\u{44F}", 0).unwrap();
+        assert_eq!((unit.len(), unit[10]), (21, dcs | 8));
+    }
+    for wrong in [4, 255] {
+        let fields = SubmitFields { message_class: Some(wrong), ..SubmitFields::new(Reference::Eight(0), Validity::Absent) };
+        assert_eq!(Submit::write(&fields, "1", "", 0), Err(Error::OutOfRange));
+    }
+}
+
+#[test]
+fn writes_reports() {
+    let stamp = Stamp([0x30, 0x21, 0x72, 0x51, 0x40, 0x90, 0x80]);
+    let none = ReportFields::default();
+    assert_eq!(Report::write_deliver_ack(&none), Ok(vec![0x00, 0x00]));
+    let abc = ReportFields { pid: Some(0), dcs: Some(0), data: Some(b"abc"), length: 3, ..none };
+    assert_eq!(Report::write_deliver_ack(&abc), Ok(vec![0x00, 0x07, 0x00, 0x00, 0x03, 0x61, 0x62, 0x63]));
+    let octets = ReportFields { pid: Some(0), ..ReportFields::octets(4, &[0x01, 0x02, 0xF0]) };
+    let wanted = vec![0x00, 0xC1, 0x07, 0x00, 0x04, 0x03, 0x01, 0x02, 0xF0];
+    assert_eq!(Report::write_deliver_error(&octets, 0xC1), Ok(wanted));
+    let unit = Report::write_submit_ack(&none, stamp).unwrap();
+    assert_eq!(unit, [&[0x01, 0x00][..], &stamp.0].concat());
+    let unit = Report::write_submit_error(&ReportFields { pid: Some(0xAA), ..none }, 0xD6, stamp).unwrap();
+    assert_eq!(unit, [&[0x01, 0xD6, 0x01][..], &stamp.0, &[0xAA]].concat());
+    assert_eq!(Report::write_deliver_ack(&ReportFields::octets(4, &[0; 160])), Err(Error::TooLong));
+    assert_eq!(Report::write_deliver_ack(&ReportFields { has_header: true, ..none }), Err(Error::OutOfRange));
+    assert_eq!(Report::write_deliver_ack(&ReportFields { length: 2, ..abc }), Err(Error::OutOfRange));
+}
+
+#[test]
+fn writes_status_reports() {
+    let told = [Stamp([0x01, 0x60, 0x12, 0x41, 0x30, 0x34, 0x0A]), Stamp([0x01, 0x60, 0x12, 0x41, 0x30, 0x94, 0x0A])];
+    let plain = StatusReportFields { reference: 4, ..StatusReportFields::new(told[0], told[1], 0) };
+    let address = [0x0D, 0x91, 0x94, 0x51, 0x52, 0x99, 0x11, 0x36, 0xF0];
+    let unit = StatusReport::write(&plain, "+4915259911630").unwrap();
+    assert_eq!(unit, [&[0x06, 0x04][..], &address, &told[0].0, &told[1].0, &[0x00]].concat());
+    let parts = ReportFields { pid: Some(0x7F), has_header: true, ..ReportFields::octets(4, &[0x01, 0xBB, 0xCC]) };
+    let full = StatusReportFields { more: true, looped: true, qualifier: true, status: 0x46, parts, ..plain };
+    let unit = StatusReport::write(&full, "+4915259911630").unwrap();
+    let last = [0x46, 0x07, 0x7F, 0x04, 0x03, 0x01, 0xBB, 0xCC];
+    assert_eq!(unit, [&[0x6A, 0x04][..], &address, &told[0].0, &told[1].0, &last].concat());
+    let (report, _) = StatusReport::read(&unit).unwrap();
+    assert_eq!((report.more, report.looped, report.qualifier, report.has_header), (true, true, true, true));
+    assert_eq!(StatusReport::write(&plain, "+1x"), Err(Error::BadAddress));
+}
+
+#[test]
+fn writes_data() {
+    let submit = SubmitFields { message_reference: 7, ..SubmitFields::new(Reference::Eight(0), Validity::Absent) };
+    let address = [0x0B, 0x91, 0x64, 0x07, 0x28, 0x15, 0x53, 0xF8];
+    let data = [0x05, 0x00, 0x03, 0x2A, 0x02, 0x01, 0x41];
+    let unit = Submit::write_data(&submit, 0x15, true, "+46708251358", &data).unwrap();
+    assert_eq!(unit, [&[0x41, 0x07][..], &address, &[0x00, 0x15, 0x07], &data].concat());
+    let place = Place { reference: Reference::Eight(0x2A), maximum: 2, sequence: 1 };
+    assert_eq!(Submit::read(&unit).unwrap().0.place(), Some(place));
+    let deliver = DeliverFields { more: true, ..DeliverFields::new(Reference::Eight(0), STAMP) };
+    let unit = Deliver::write_data(&deliver, 4, false, "+46708251358", &[0xAA, 0xBB]).unwrap();
+    assert_eq!(unit, [&[0x00][..], &address, &[0x00, 0x04], &STAMP.0, &[0x02, 0xAA, 0xBB]].concat());
+    assert_eq!(Deliver::write_data(&deliver, 4, false, "1", &[0; 141]), Err(Error::TooLong));
+    assert_eq!(Deliver::write_data(&deliver, 0, false, "1", b"abc"), Err(Error::OutOfRange));
+}
+
+#[test]
 fn splits_a_text() {
     let (users, dcs) = sms::split(Reference::Eight(7), &"a".repeat(161)).unwrap();
     assert_eq!((users.iter().map(Vec::len).collect::<Vec<_>>(), dcs), (vec![141, 15], 0));
@@ -66,6 +145,24 @@ fn reads_reports() {
     let (report, _) =
         Report::read_submit_error(&[0x01, 0xD6, 0x00, 0x30, 0x21, 0x72, 0x51, 0x40, 0x90, 0x80]).unwrap();
     assert_eq!((report.cause, report.data), (Some(0xD6), None));
+}
+
+#[test]
+fn reads_texts_of_reports() {
+    let text = |octets: &[u8]| Report::read_deliver_ack(octets).unwrap().0.text();
+    let hello = [&[0x00, 0x04, 0x0A][..], &HELLO[19..]].concat();
+    assert_eq!(text(&hello).as_deref(), Ok("hellohello"));
+    assert_eq!(text(&[0x00, 0x06, 0x08, 0x02, 0x04, 0x4F]).as_deref(), Ok("\u{44F}"));
+    let headed = [0x40, 0x04, 0x09, 0x05, 0x00, 0x03, 0x2A, 0x01, 0x01, 0xD0, 0x69];
+    assert_eq!(text(&headed).as_deref(), Ok("hi"));
+    assert_eq!(text(&[0x00, 0x06, 0x04, 0x02, 0x04, 0x4F]), Err(Error::NotThere));
+    assert_eq!(text(&[0x00, 0x00]), Err(Error::NotThere));
+    assert_eq!(text(&[0x40, 0x06, 0x08, 0x02, 0x09, 0x0A]), Err(Error::NotThere));
+    let mut told = [&[0x06, 0x2A, 0x0B, 0x91, 0x72, 0x38, 0x88, 0x09, 0x00, 0xF1][..], &STAMP.0, &STAMP.0, &[0x00]].concat();
+    assert_eq!(StatusReport::read(&told).unwrap().0.text(), Err(Error::NotThere));
+    told.extend([0x04, 0x0A]);
+    told.extend(&HELLO[19..]);
+    assert_eq!(StatusReport::read(&told).unwrap().0.text().as_deref(), Ok("hellohello"));
 }
 
 #[test]
@@ -91,7 +188,7 @@ fn reads_status_reports() {
     assert_eq!((report.status, report.pid, report.dcs, used), (0x46, Some(0x7F), Some(4), 27));
     assert_eq!((report.data.as_deref(), report.length), (Some(&[0xAA, 0xBB][..]), 2));
     assert_eq!(report.alphabet, Alphabet::EightBit);
-    assert_eq!(StatusReport::read(&full[..19]), Err(Refused { place: 19, reason: Reason::Short }));
+    assert_eq!(StatusReport::read(&full[..19]).err(), refused(19, Reason::Short));
 }
 
 #[test]
@@ -104,8 +201,8 @@ fn reads_commands() {
     assert_eq!((command.data.as_slice(), command.header), (&[0xAA, 0xBB, 0xCC][..], None));
     let headed = [0xFE, 0x08, 0x41, 0x00, 0x06, 0x02, 0x81, 0x21, 0x03, 0x02, 0xBB, 0xCC];
     assert_eq!(Command::read(&headed).unwrap().0.header.as_deref(), Some(&[0xBB, 0xCC][..]));
-    let refused = Refused { place: 8, reason: Reason::DataTooLong };
-    assert_eq!(Command::read(&[0x02, 0x07, 0x00, 0x02, 0x05, 0x02, 0x81, 0x21, 0x9E]), Err(refused));
+    let beyond = [0x02, 0x07, 0x00, 0x02, 0x05, 0x02, 0x81, 0x21, 0x9E];
+    assert_eq!(Command::read(&beyond).err(), refused(8, Reason::DataTooLong));
 }
 
 #[test]
@@ -121,12 +218,16 @@ fn wraps_and_reads_packets() {
     let (rp, _) = Rp::read(user).unwrap();
     assert_eq!((rp.to_phone, rp.reference), (true, 9));
     assert_eq!(rp.body, RpBody::Data { address: Some(&[0x03, 0x91, 0x21, 0x43]), user: &HELLO });
+    assert_eq!(rp.centre().as_deref(), Ok("+1234"));
+    let spoilt = Rp { body: RpBody::Data { address: Some(&[0x02, 0x91, 0x7F]), user: &[] }, ..rp };
+    assert_eq!(spoilt.centre(), Err(Error::BadAddress));
     let packet = envelope.wrap_error(22, &[]).unwrap();
     let user = match Cp::read(&packet).unwrap().0.body {
         CpBody::Data(user) => user,
         other => panic!("{other:?}"),
     };
     assert_eq!(Rp::read(user).unwrap().0.body, RpBody::Error { cause: 22, diagnostic: None, user: None });
+    assert_eq!(Rp::read(user).unwrap().0.centre(), Err(Error::NotThere));
     assert_eq!(Cp::read(&envelope.cp_ack().unwrap()).unwrap().0.body, CpBody::Ack);
     assert_eq!(Cp::read(&envelope.cp_error(97).unwrap()).unwrap().0.body, CpBody::Error(97));
     assert_eq!(envelope.wrap("", &[0; 234]), Err(Error::TooLong));
@@ -147,8 +248,7 @@ fn joins_in_any_order_once() {
     assert_eq!(joiner.offer(0, &other), Err(Error::TooManyOpen));
     assert_eq!(joiner.offer(1, &units[0]), Ok(Offer::Finished(long())));
     assert_eq!((joiner.offer(1, &units[0]), joiner.text()), (Ok(Offer::Repeat), Ok(long())));
-    let refused = Refused { place: 3, reason: Reason::Short };
-    assert_eq!(joiner.offer(1, &other[..3]), Err(Error::Refused(refused)));
+    assert_eq!(joiner.offer(1, &other[..3]).err(), refused(3, Reason::Short));
     assert_eq!(Joiner::open(0, 1).err(), Some(Error::OutOfRange));
 }
 

@@ -1,7 +1,16 @@
+pub mod AddressGiven
+pub mod Answered
+pub mod CentreText
+pub mod Class
+pub mod DataWriting
 pub mod HandedOut
 pub mod Kept
+pub mod Lying
 pub mod Offers
 pub mod Parts
+pub mod ReportGiven
+pub mod ReportText
+pub mod ReportWriting
 pub mod Seen
 pub mod SeenCommand
 pub mod SeenRelay
@@ -9,6 +18,7 @@ pub mod SeenReport
 pub mod SeenStatusReport
 pub mod Splitting
 pub mod Status
+pub mod StatusReportWriting
 pub mod Times
 pub mod Wrapping
 pub mod Writing

@@ -7,9 +7,10 @@ use Rattle.sms_field.specs.declared.validity.Validity.{Validity}
 use Rattle.sms_tpdu.specs.Deliver.{Delivery, SpellsDeliver}
 use Rattle.sms_tpdu.specs.Submit.{Submission, SpellsSubmit}
 use Rattle.sms_tpdu.specs.declared.user_data.concat.Width.{Width}
-use Rattle.sms_join.specs.Segments.User.{dcs_of, user_of}
+use Rattle.sms_join.specs.Segments.User.{user_of}
 use Rattle.sms_join.specs.Segments.{AreSegments}
 use Rattle.sms_join.specs.declared.segment.Segment.{Segment}
+use Rattle.sms_c.specs.Class.{are_allowed, scheme_of}
 use Rattle.sms_c.specs.Parts.{bits_of}
 use Rattle.sms_c.specs.Times.{validity_of}
 use Rattle.sms_c.specs.declared.writing.SubmitFields.{SubmitFields}
@@ -30,7 +31,7 @@ submission fields validity target width segment =
       reference = fields.reference;
       target = target;
       pid = fields.pid;
-      dcs = dcs_of segment.units;
+      dcs = scheme_of fields.message_class segment.units;
       user = user_of width fields.segments.reference segment;
     }
 
@@ -44,7 +45,7 @@ delivery fields origin width segment =
       reply = is_set fields.reply;
       origin = origin;
       pid = fields.pid;
-      dcs = dcs_of segment.units;
+      dcs = scheme_of fields.message_class segment.units;
       stamp = fields.stamp.octets;
       user = user_of width fields.segments.reference segment;
     }
@@ -60,6 +61,7 @@ pub record IsPieceOf (text : List ℕ) (width : Width) (index count : ℕ) (segm
 -- what becomes of the segment of an index of a text that is written as an SMS-SUBMIT
 pub record OfSubmit (fields : SubmitFields) (target text : List ℕ) (index count : ℕ)
     (Out : List ℕ → Type 0) : Type 0 where
+  pub allowed : are_allowed fields.message_class fields.spare ≡ true
   pub width : Width
   pub width_is : fields.segments.width ≡ bits_of width
   pub validity : Validity
@@ -75,6 +77,7 @@ pub record OfSubmit (fields : SubmitFields) (target text : List ℕ) (index coun
 -- what becomes of the segment of an index of a text that is written as an SMS-DELIVER
 pub record OfDeliver (fields : DeliverFields) (origin text : List ℕ) (index count : ℕ)
     (Out : List ℕ → Type 0) : Type 0 where
+  pub allowed : are_allowed fields.message_class fields.spare ≡ true
   pub width : Width
   pub width_is : fields.segments.width ≡ bits_of width
   pub address : AddressValue

@@ -1,6 +1,6 @@
 //! Texts written as user data and as units.
 
-ghost use Rattle.std.specs.Prelude.{◌≡◌, ◌<◌, All, Err, IfOk, IfErr, OnErr};
+ghost use Rattle.std.specs.Prelude.{◌≡◌, ◌<◌, ◌≤◌, false, All, Err, IfOk, IfErr, OnErr};
 ghost use Rattle.std.specs.Str.{chars};
 ghost use Rattle.sms_field.specs.Address.Text.{address_of_text};
 ghost use Rattle.sms_tpdu.specs.Deliver.{SpellsDeliver};
@@ -9,13 +9,15 @@ ghost use Rattle.sms_tpdu.specs.Submit.ValidityPeriod.{IsInRange};
 ghost use Rattle.sms_tpdu.specs.declared.user_data.concat.Width.TheVariants.{Eight};
 ghost use Rattle.sms_join.specs.Segments.User.{IsSendable};
 ghost use Rattle.sms_join.specs.Segments.{AreSegments};
+ghost use Rattle.sms_c.specs.Class.{are_allowed};
 ghost use Rattle.sms_c.specs.Parts.{bits_of};
 ghost use Rattle.sms_c.specs.Writing as seen;
 ghost use Rattle.sms_c.specs.HandedOut.{ArePut, LackRoom};
 ghost use Rattle.sms_c.specs.Status.{IsNotRoom};
 ghost use Rattle.sms_c.specs.Writing.{OfDeliver, OfSubmit};
-ghost use Rattle.sms_c.specs.declared.status.Failure.TheVariants.{NoRoom};
+ghost use Rattle.sms_c.specs.declared.status.Failure.TheVariants.{NoRoom, OutOfRange};
 
+use crate::class::{SPARE, are_allowed, scheme_of};
 use crate::out::{hand_out, text_of};
 use crate::status::{Failure, status_of};
 use crate::times::{StampOctets, ValidityOctets};
@@ -59,6 +61,10 @@ pub struct SubmitFields {
     pub reference: u8,
     pub pid: u8,
     pub validity: ValidityOctets,
+    /// 0 for none, and 1 to 4 for class 0 to 3 (3GPP TS 23.038, 4).
+    pub message_class: u8,
+    /// All 0.
+    pub spare: [u8; SPARE],
 }
 
 /// What an SMS-DELIVER has besides a sender and a text.
@@ -72,10 +78,14 @@ pub struct DeliverFields {
     pub reply: u8,
     pub pid: u8,
     pub stamp: StampOctets,
+    /// 0 for none, and 1 to 4 for class 0 to 3 (3GPP TS 23.038, 4).
+    pub message_class: u8,
+    /// All 0.
+    pub spare: [u8; SPARE],
 }
 
 /// Whether a field that is told as an octet is set.
-fn is_set(octet: u8) -> bool
+pub fn is_set(octet: u8) -> bool
     ensures { result ≡ seen.is_set octet }
 {
     if octet == 0 { false } else { true }
@@ -112,6 +122,7 @@ fn submitted(
     requires validity { IsInRange validity }
     requires sendable { IsSendable width segment.now }
     requires reference { width ≡ Eight → fields.segments.reference < 256 }
+    requires class { fields.message_class ≤ 4 }
     ensures { IfOk result (λ octets. SpellsSubmit
         (seen.submission fields validity target width segment.now) octets.items) }
 {
@@ -123,7 +134,7 @@ fn submitted(
         reference: fields.reference,
         target,
         pid: fields.pid,
-        dcs: segment.coding_scheme(),
+        dcs: scheme_of(segment, fields.message_class),
     };
     segment.write_submit(alloc, &front, width, fields.segments.reference)
 }
@@ -145,7 +156,12 @@ fn put_submit(
         (LackRoom out.old out.new needed.new) }
     ensures none { OnErr result (out.new ≡ out.old) }
     ensures needed { IfErr result (λ why. IsNotRoom why → needed.new ≡ needed.old) }
+    ensures allowed { are_allowed fields.message_class fields.spare ≡ false
+        → result ≡ Err OutOfRange }
 {
+    if !are_allowed(fields.message_class, &fields.spare) {
+        return Err(Failure::OutOfRange);
+    }
     let width = width_of(fields.segments)?;
     let Some(validity) = fields.validity.validity() else {
         return Err(Failure::OutOfRange);
@@ -178,6 +194,8 @@ pub extern "C" fn sms_submit_write(
         (LackRoom out.old out.new needed.new) }
     ensures none { (result ≡ 0 → ⊥) → out.new ≡ out.old }
     ensures needed { (result ≡ 0 → ⊥) → (result ≡ 3 → ⊥) → needed.new ≡ 0 }
+    ensures allowed { are_allowed fields.now.message_class fields.now.spare ≡ false
+        → result ≡ 7 }
 {
     *needed = 0;
     *count = 0;
@@ -194,6 +212,7 @@ fn delivered(
 ) -> Result<Vec<u8>, AllocError>
     requires sendable { IsSendable width segment.now }
     requires reference { width ≡ Eight → fields.segments.reference < 256 }
+    requires class { fields.message_class ≤ 4 }
     ensures { IfOk result (λ octets. SpellsDeliver
         (seen.delivery fields origin width segment.now) octets.items) }
 {
@@ -205,7 +224,7 @@ fn delivered(
         reply: is_set(fields.reply),
         origin,
         pid: fields.pid,
-        dcs: segment.coding_scheme(),
+        dcs: scheme_of(segment, fields.message_class),
         stamp: Stamp::new(fields.stamp.octets),
         user,
     };
@@ -229,7 +248,12 @@ fn put_deliver(
         (LackRoom out.old out.new needed.new) }
     ensures none { OnErr result (out.new ≡ out.old) }
     ensures needed { IfErr result (λ why. IsNotRoom why → needed.new ≡ needed.old) }
+    ensures allowed { are_allowed fields.message_class fields.spare ≡ false
+        → result ≡ Err OutOfRange }
 {
+    if !are_allowed(fields.message_class, &fields.spare) {
+        return Err(Failure::OutOfRange);
+    }
     let width = width_of(fields.segments)?;
     let origin = address_of(alloc, origin)?;
     let segments = segments_of(alloc, text, width)?;
@@ -259,6 +283,8 @@ pub extern "C" fn sms_deliver_write(
         (LackRoom out.old out.new needed.new) }
     ensures none { (result ≡ 0 → ⊥) → out.new ≡ out.old }
     ensures needed { (result ≡ 0 → ⊥) → (result ≡ 3 → ⊥) → needed.new ≡ 0 }
+    ensures allowed { are_allowed fields.now.message_class fields.now.spare ≡ false
+        → result ≡ 7 }
 {
     *needed = 0;
     *count = 0;

@@ -17,13 +17,15 @@ reason. Octets are `bytes`, text is `str`, and moments are aware `datetime` valu
 from __future__ import annotations
 
 import enum
+import operator
 import threading
-from ctypes import byref, c_size_t, c_uint8, c_uint32, c_uint64
+from ctypes import byref, c_size_t, c_uint8, c_uint32, c_uint64, sizeof
 from dataclasses import dataclass, field
 from datetime import datetime, timedelta, timezone
-from typing import Any, Callable, List, NoReturn, Optional, Union
+from typing import Any, Callable, Dict, List, NoReturn, Optional, Tuple, Type, Union
 
 from . import raw
+from .raw import ADDRESS_TEXT_MAX, PACKET_MAX, TEXT_MAX, UNIT_MAX, Status
 
 __all__ = [
     "Alphabet",
@@ -35,6 +37,7 @@ __all__ = [
     "Deliver",
     "DeliverReport",
     "Error",
+    "Format",
     "Joiner",
     "NoMemory",
     "NotThere",
@@ -55,6 +58,7 @@ __all__ = [
     "TooManyOpen",
     "Validity",
     "split",
+    "version",
     "wrap",
     "wrap_answer",
     "wrap_acknowledgement",
@@ -62,15 +66,21 @@ __all__ = [
 
 Octets = Union[bytes, bytearray, memoryview]
 
-TEXT_MAX, UNIT_MAX, PACKET_MAX, ADDRESS_TEXT_MAX = 480, 184, 258, 33
+_MOST = 2 ** (8 * sizeof(c_size_t)) - 1
 _BEGIN = datetime(2000, 1, 1, tzinfo=timezone.utc)
+
+
+def version() -> Tuple[int, int, int]:
+    """The version of the library that is loaded: its first number is that of the interface."""
+    number = raw.lib.sms_version()
+    return number // 1_000_000, number // 1000 % 1000, number % 1000
 
 
 # ---- what is refused
 
 
 class Reason(enum.IntEnum):
-    """Why octets are refused."""
+    """Why octets are refused. A number that this package has no name for is a reason as well, as a newer library may have."""
 
     SHORT = 1
     WRONG_TYPE = 2
@@ -84,9 +94,27 @@ class Reason(enum.IntEnum):
     BAD_RELAY_ADDRESS = 10
     BAD_CAUSE = 11
 
+    @classmethod
+    def _missing_(cls, value: object) -> Optional[Reason]:
+        if not isinstance(value, int):
+            return None
+        other = int.__new__(cls, value)
+        other._name_, other._value_ = f"REASON_{value}", value
+        return other
+
+    def __reduce_ex__(self, protocol: object) -> Tuple[Type[Reason], Tuple[int]]:
+        return type(self), (int(self),)
+
 
 class Error(Exception):
-    """A call of the library did not do what it is for."""
+    """A call of the library did not do what it is for. Two are equal that are of one class and say the same, as one is and
+    what `pickle` makes of it."""
+
+    def __eq__(self, other: object) -> bool:
+        return type(other) is type(self) and isinstance(other, Error) and other.args == self.args
+
+    def __hash__(self) -> int:
+        return hash((type(self), self.args))
 
 
 class Refused(Error, ValueError):
@@ -94,9 +122,12 @@ class Refused(Error, ValueError):
     where some are missing (`Reason.SHORT`)."""
 
     def __init__(self, place: int, reason: Reason):
-        super().__init__(f"at {place}: {reason.name.lower().replace('_', ' ')}")
+        super().__init__(place, reason)
         self.place = place
         self.reason = reason
+
+    def __str__(self) -> str:
+        return f"at {self.place}: {self.reason.name.lower().replace('_', ' ')}"
 
 
 class NoMemory(Error, MemoryError):
@@ -131,24 +162,23 @@ class Closed(Error, ValueError):
     """The joiner is closed."""
 
 
-_ERRORS = {
-    2: NoMemory,
-    4: NotUtf8,
-    5: BadAddress,
-    6: TooLong,
-    7: OutOfRange,
-    8: NotThere,
-    9: TooManyOpen,
-    10: Closed,
+_ERRORS: Dict[int, Type[Error]] = {
+    Status.NO_MEMORY: NoMemory,
+    Status.NOT_UTF8: NotUtf8,
+    Status.BAD_ADDRESS: BadAddress,
+    Status.TOO_LONG: TooLong,
+    Status.OUT_OF_RANGE: OutOfRange,
+    Status.NOT_THERE: NotThere,
+    Status.TOO_MANY_OPEN: TooManyOpen,
+    Status.CLOSED: Closed,
 }
-_OK, _REFUSED, _NO_ROOM = 0, 1, 3
 
 
 def _raise(status: int, refused: Optional[raw.Refused] = None) -> None:
-    if status == _OK:
+    if status == Status.OK:
         return
-    if status == _REFUSED and refused is not None:
-        raise Refused(refused.place, Reason(refused.reason))
+    if status == Status.REFUSED:
+        raise BadAddress() if refused is None else Refused(refused.place, Reason(refused.reason))
     if status in _ERRORS:
         raise _ERRORS[status]()
     raise Error(f"status {status}")
@@ -160,12 +190,12 @@ def _read(call: Callable[..., int], octets: bytes, seen: Any) -> Any:
     return seen
 
 
-def _answer(room: int, call: Callable[..., int], *given: Any, after: tuple = ()) -> bytes:
+def _answer(room: int, call: Callable[..., int], *given: Any, after: Tuple[Any, ...] = ()) -> bytes:
     """What a call of the form (.., out, room, needed, ..) writes, with room made where it wants more."""
     while True:
         out, needed = (c_uint8 * max(room, 1))(), c_size_t()
         status = call(*given, out, room, byref(needed), *after)
-        if status == _NO_ROOM and needed.value > room:
+        if status == Status.NO_ROOM and needed.value > room:
             room = needed.value
             continue
         _raise(status)
@@ -180,14 +210,39 @@ def _header(octets: bytes, span: raw.Span) -> Optional[bytes]:
     return _at(octets, span) if span.offset else None
 
 
+# ---- what is given
+
+
+def _octets(given: Octets) -> bytes:
+    """Octets as bytes. `bytes` alone would make so many zeros of an int."""
+    try:
+        return memoryview(given).tobytes()
+    except TypeError:
+        raise TypeError(f"octets are bytes, or what holds such, and not {type(given).__name__}") from None
+
+
 def _utf8(text: str) -> bytes:
+    if not isinstance(text, str):
+        raise TypeError(f"a text is a str, and not {type(text).__name__}")
     try:
         return text.encode()
     except UnicodeEncodeError:
         raise NotUtf8() from None
 
 
+def _number(value: int, low: int, high: int, what: str) -> int:
+    if not low <= operator.index(value) <= high:
+        raise OutOfRange(f"{what} is {low} to {high}")
+    return value
+
+
+def _octet(value: int) -> int:
+    return _number(value, 0, 255, "an octet")
+
+
 def _seconds(moment: datetime) -> int:
+    if not isinstance(moment, datetime):
+        raise TypeError(f"a moment is a datetime, and not {type(moment).__name__}")
     if moment.tzinfo is None:
         raise OutOfRange("a moment has a time zone")
     seconds = (moment - _BEGIN) // timedelta(seconds=1)
@@ -197,7 +252,7 @@ def _seconds(moment: datetime) -> int:
 
 
 def _seconds_or_now(moment: Optional[datetime]) -> int:
-    return _seconds(moment or datetime.now(timezone.utc))
+    return _seconds(datetime.now(timezone.utc) if moment is None else moment)
 
 
 # ---- parts
@@ -242,6 +297,7 @@ class Stamp:
     octets: bytes
 
     def __post_init__(self) -> None:
+        object.__setattr__(self, "octets", _octets(self.octets))
         if len(self.octets) != 7:
             raise OutOfRange("a stamp has seven octets")
 
@@ -252,7 +308,7 @@ class Stamp:
     def date(self) -> Optional[Date]:
         """The date that the octets say; None where they say none."""
         date = raw.Date()
-        if raw.lib.sms_stamp_date(byref(self._raw()), byref(date)) != _OK:
+        if raw.lib.sms_stamp_date(byref(self._raw()), byref(date)) != Status.OK:
             return None
         return Date(*(getattr(date, name) for name, _ in raw.Date._fields_))
 
@@ -260,7 +316,7 @@ class Stamp:
     def moment(self) -> Optional[datetime]:
         """The moment, in UTC; None where the octets are no date, or lie before 2000."""
         seconds = c_uint64()
-        if raw.lib.sms_stamp_moment(byref(self._raw()), byref(seconds)) != _OK:
+        if raw.lib.sms_stamp_moment(byref(self._raw()), byref(seconds)) != Status.OK:
             return None
         return _BEGIN + timedelta(seconds=seconds.value)
 
@@ -276,15 +332,30 @@ class Stamp:
         return cls(bytes(stamp.octets))
 
 
+class Format(enum.IntEnum):
+    """How a validity period is spelled."""
+
+    ABSENT = 0
+    RELATIVE = 1
+    ENHANCED = 2
+    ABSOLUTE = 3
+
+
+_LENGTHS = {Format.ABSENT: 0, Format.RELATIVE: 1, Format.ENHANCED: 7, Format.ABSOLUTE: 7}
+
+
 @dataclass(frozen=True)
 class Validity:
-    """TP-VP. Formats: 0 absent, 1 relative (one octet), 2 enhanced, 3 absolute (seven octets)."""
+    """TP-VP: its format, and its octets, which are as many as the format has: none, one (relative) or seven."""
 
-    format: int = 0
+    format: int = Format.ABSENT
     octets: bytes = b""
 
+    def __post_init__(self) -> None:
+        object.__setattr__(self, "octets", _octets(self.octets))
+
     def _raw(self) -> raw.Validity:
-        if not 0 <= self.format <= 3 or len(self.octets) != (0, 1, 7, 7)[self.format]:
+        if len(self.octets) != _LENGTHS[Format(_number(self.format, 0, 3, "a format"))]:
             raise OutOfRange("a validity period has one octet (1), seven (2, 3) or none (0)")
         return raw.Validity.from_buffer_copy(bytes([self.format]) + self.octets.ljust(7, b"\0"))
 
@@ -296,13 +367,11 @@ class Validity:
 
     @classmethod
     def relative(cls, octet: int) -> Validity:
-        if not 0 <= octet <= 255:
-            raise OutOfRange("a relative validity period is one octet")
-        return cls(1, bytes([octet]))
+        return cls(Format.RELATIVE, bytes([_octet(octet)]))
 
     @classmethod
     def absolute(cls, stamp: Stamp) -> Validity:
-        return cls(3, stamp.octets)
+        return cls(Format.ABSOLUTE, stamp.octets)
 
 
 @dataclass(frozen=True)
@@ -327,10 +396,10 @@ class _Unit:
         return out.decode()
 
 
-def _common(octets: bytes, seen: Any) -> dict:
+def _common(octets: bytes, seen: Any) -> Dict[str, Any]:
     user, place = seen.user, seen.user.place
     return {
-        "octets": octets,
+        "octets": octets[: seen.used],
         "used": seen.used,
         "pid": seen.pid,
         "dcs": seen.dcs,
@@ -349,7 +418,8 @@ def _address(octets: bytes, address: raw.Address) -> str:
 
 def _segments(call: Callable[..., int], fields: Any, address: str, text: str) -> List[bytes]:
     """Each segment of a text as a unit."""
-    to, octets, count, units = _utf8(address), _utf8(text), c_size_t(1), []
+    to, octets, count = _utf8(address), _utf8(text), c_size_t(1)
+    units: List[bytes] = []
     while len(units) < count.value:
         given = byref(fields), to, len(to), octets, len(octets), len(units)
         units.append(_answer(UNIT_MAX, call, *given, after=(byref(count),)))
@@ -372,7 +442,7 @@ class Deliver(_Unit):
     @classmethod
     def read(cls, octets: Octets) -> Deliver:
         """Reads the unit at the front of the octets, of which it takes `used`; raises `Refused`."""
-        octets = bytes(octets)
+        octets = _octets(octets)
         seen = _read(raw.lib.sms_deliver_read, octets, raw.Deliver())
         return cls(
             **_common(octets, seen),
@@ -399,8 +469,9 @@ class Deliver(_Unit):
         report: bool = False,
         reply: bool = False,
         pid: int = 0,
+        message_class: Optional[int] = None,
     ) -> List[bytes]:
-        """The text as units: one, or a segment each."""
+        """The text as units: one, or a segment each; of a class (0 to 3), if one is given."""
         fields = raw.DeliverFields(
             segments=_reference(reference, width),
             more=more,
@@ -409,8 +480,28 @@ class Deliver(_Unit):
             reply=reply,
             pid=_octet(pid),
             stamp=stamp._raw(),
+            message_class=_class(message_class),
         )
         return _segments(raw.lib.sms_deliver_write, fields, origin, text)
+
+    @staticmethod
+    def write_data(
+        origin: str,
+        data: Octets,
+        stamp: Stamp,
+        dcs: int = 4,
+        *,
+        has_header: bool = False,
+        more: bool = False,
+        looped: bool = False,
+        report: bool = False,
+        reply: bool = False,
+        pid: int = 0,
+    ) -> bytes:
+        """A unit with these octets as TP-UD, at most 140: 8-bit data, or what another TP-DCS says, but septets. With
+        `has_header` they begin with a header, its length octet first."""
+        fields = raw.DeliverFields(more=more, looped=looped, report=report, reply=reply, pid=_octet(pid), stamp=stamp._raw())
+        return _data_unit(raw.lib.sms_deliver_data_write, fields, dcs, has_header, origin, data)
 
 
 @dataclass(frozen=True)
@@ -429,7 +520,7 @@ class Submit(_Unit):
     @classmethod
     def read(cls, octets: Octets) -> Submit:
         """Reads the unit at the front of the octets, of which it takes `used`; raises `Refused`."""
-        octets = bytes(octets)
+        octets = _octets(octets)
         seen = _read(raw.lib.sms_submit_read, octets, raw.Submit())
         period = seen.validity
         return cls(
@@ -441,7 +532,7 @@ class Submit(_Unit):
             report=bool(seen.report),
             reply=bool(seen.reply),
             reference=seen.reference,
-            validity=Validity(period.format, bytes(period.octets)[: (0, 1, 7, 7)[period.format]]),
+            validity=Validity(Format(period.format), bytes(period.octets)[: _LENGTHS[Format(period.format)]]),
         )
 
     @staticmethod
@@ -457,8 +548,9 @@ class Submit(_Unit):
         report: bool = False,
         reply: bool = False,
         pid: int = 0,
+        message_class: Optional[int] = None,
     ) -> List[bytes]:
-        """The text as units: one, or a segment each. TP-MR is the same in all."""
+        """The text as units: one, or a segment each; of a class (0 to 3), if one is given. TP-MR is the same in all."""
         fields = raw.SubmitFields(
             segments=_reference(reference, width),
             reject=reject,
@@ -467,20 +559,52 @@ class Submit(_Unit):
             reference=_octet(message_reference),
             pid=_octet(pid),
             validity=validity._raw(),
+            message_class=_class(message_class),
         )
         return _segments(raw.lib.sms_submit_write, fields, target, text)
 
+    @staticmethod
+    def write_data(
+        target: str,
+        data: Octets,
+        dcs: int = 4,
+        *,
+        has_header: bool = False,
+        message_reference: int = 0,
+        validity: Validity = Validity(),
+        reject: bool = False,
+        report: bool = False,
+        reply: bool = False,
+        pid: int = 0,
+    ) -> bytes:
+        """As `Deliver.write_data`."""
+        fields = raw.SubmitFields(
+            reject=reject,
+            report=report,
+            reply=reply,
+            reference=_octet(message_reference),
+            pid=_octet(pid),
+            validity=validity._raw(),
+        )
+        return _data_unit(raw.lib.sms_submit_data_write, fields, dcs, has_header, target, data)
+
+
+def _data_unit(call: Callable[..., int], fields: Any, dcs: int, has_header: bool, address: str, data: Octets) -> bytes:
+    """A unit of octets."""
+    to, octets = _utf8(address), _octets(data)
+    given = byref(fields), _octet(dcs), bool(has_header), to, len(to), octets, len(octets)
+    return _answer(UNIT_MAX, call, *given)
+
+
+def _class(message_class: Optional[int]) -> int:
+    """How the library is told a class: none is 0."""
+    return 0 if message_class is None else _number(message_class, 0, 3, "a class") + 1
+
 
 def _reference(reference: int, width: int) -> raw.Reference:
-    if width not in (8, 16) or not 0 <= reference < 2**width:
+    if width not in (8, 16):
         raise OutOfRange("a reference has 8 or 16 bits")
-    return raw.Reference(width, reference)
-
-
-def _octet(value: int) -> int:
-    if not 0 <= value <= 255:
-        raise OutOfRange("an octet is 0 to 255")
-    return value
+    return raw.Reference(width, _number(reference, 0, 2**width - 1, f"a reference of {width} bits"))
 
 
 @dataclass(frozen=True)
@@ -499,9 +623,31 @@ class Report:
     length: int
     alphabet: Alphabet
 
+    @property
+    def text(self) -> str:
+        """The text of the data after their header; NotThere where there are no data, or they are no text (8-bit, compressed),
+        or the header goes beyond them."""
+        return _data_text(raw.lib.sms_report_text, raw.Report, self)
+
+
+def _data_text(call: Callable[..., int], kind: Callable[..., Any], report: Union[Report, StatusReport]) -> str:
+    """The text of the data of a report, in which the header lies behind its length octet."""
+    data, header = report.data or b"", report.header
+    seen = kind(
+        data=raw.Span(0, len(data)),
+        header=raw.Span(0, 0) if header is None else raw.Span(1, len(header)),
+        has_header=report.has_header,
+        has_dcs=report.dcs is not None,
+        dcs=report.dcs or 0,
+        has_data=report.data is not None,
+        length=report.length,
+        alphabet=report.alphabet,
+    )
+    return _answer(TEXT_MAX, call, data, len(data), byref(seen)).decode()
+
 
 def _report(call: Callable[..., int], octets: Octets) -> Report:
-    octets = bytes(octets)
+    octets = _octets(octets)
     seen = _read(call, octets, raw.Report())
     return Report(
         used=seen.used,
@@ -517,8 +663,39 @@ def _report(call: Callable[..., int], octets: Octets) -> Report:
     )
 
 
+def _parts(
+    pid: Optional[int], dcs: Optional[int], data: Optional[bytes], has_header: bool, length: Optional[int]
+) -> Dict[str, int]:
+    """The parts of a report that may be left out, as the library is told them."""
+    return {
+        "has_pid": pid is not None,
+        "pid": _octet(pid or 0),
+        "has_dcs": dcs is not None,
+        "dcs": _octet(dcs or 0),
+        "has_data": data is not None,
+        "has_header": bool(has_header),
+        "length": _octet(len(data or b"") if length is None else length),
+    }
+
+
+def _data(data: Optional[Octets]) -> Optional[bytes]:
+    """TP-UD, if there is one: so many octets that TP-UDL counts them."""
+    octets = None if data is None else _octets(data)
+    if octets is not None and len(octets) > 159:
+        raise TooLong("the data of a report have at most 159 octets")
+    return octets
+
+
+def _written(call: Callable[..., int], fields: Any, data: Optional[bytes], *address: Any) -> bytes:
+    """A report with these data."""
+    octets = data or b""
+    return _answer(UNIT_MAX, call, byref(fields), *address, octets, len(octets))
+
+
 class DeliverReport:
-    """Readers of SMS-DELIVER-REPORT."""
+    """Readers and writers of SMS-DELIVER-REPORT. What is written has TP-PID, TP-DCS and TP-UD where they are given; TP-UDL is
+    `length`, in septets under the 7-bit alphabet and where there is no TP-DCS, and else, or if none is given, the number of
+    the octets; with `has_header` the octets begin with a header, its length octet first."""
 
     @staticmethod
     def read_ack(octets: Octets) -> Report:
@@ -530,9 +707,38 @@ class DeliverReport:
         """As it stands in an RP-ERROR."""
         return _report(raw.lib.sms_deliver_error_read, octets)
 
+    @staticmethod
+    def write_ack(
+        *,
+        pid: Optional[int] = None,
+        dcs: Optional[int] = None,
+        data: Optional[Octets] = None,
+        has_header: bool = False,
+        length: Optional[int] = None,
+    ) -> bytes:
+        """For an RP-ACK."""
+        octets = _data(data)
+        fields = raw.ReportFields(**_parts(pid, dcs, octets, has_header, length))
+        return _written(raw.lib.sms_deliver_ack_write, fields, octets)
+
+    @staticmethod
+    def write_error(
+        cause: int,
+        *,
+        pid: Optional[int] = None,
+        dcs: Optional[int] = None,
+        data: Optional[Octets] = None,
+        has_header: bool = False,
+        length: Optional[int] = None,
+    ) -> bytes:
+        """For an RP-ERROR, with TP-FCS."""
+        octets = _data(data)
+        fields = raw.ReportFields(cause=_octet(cause), **_parts(pid, dcs, octets, has_header, length))
+        return _written(raw.lib.sms_deliver_error_write, fields, octets)
+
 
 class SubmitReport:
-    """Readers of SMS-SUBMIT-REPORT."""
+    """Readers and writers of SMS-SUBMIT-REPORT, as in `DeliverReport`."""
 
     @staticmethod
     def read_ack(octets: Octets) -> Report:
@@ -543,6 +749,38 @@ class SubmitReport:
     def read_error(octets: Octets) -> Report:
         """As it stands in an RP-ERROR."""
         return _report(raw.lib.sms_submit_error_read, octets)
+
+    @staticmethod
+    def write_ack(
+        stamp: Stamp,
+        *,
+        pid: Optional[int] = None,
+        dcs: Optional[int] = None,
+        data: Optional[Octets] = None,
+        has_header: bool = False,
+        length: Optional[int] = None,
+    ) -> bytes:
+        """For an RP-ACK, with TP-SCTS."""
+        octets = _data(data)
+        fields = raw.ReportFields(stamp=stamp._raw(), **_parts(pid, dcs, octets, has_header, length))
+        return _written(raw.lib.sms_submit_ack_write, fields, octets)
+
+    @staticmethod
+    def write_error(
+        cause: int,
+        stamp: Stamp,
+        *,
+        pid: Optional[int] = None,
+        dcs: Optional[int] = None,
+        data: Optional[Octets] = None,
+        has_header: bool = False,
+        length: Optional[int] = None,
+    ) -> bytes:
+        """For an RP-ERROR, with TP-FCS and TP-SCTS."""
+        octets = _data(data)
+        parts = _parts(pid, dcs, octets, has_header, length)
+        fields = raw.ReportFields(cause=_octet(cause), stamp=stamp._raw(), **parts)
+        return _written(raw.lib.sms_submit_error_write, fields, octets)
 
 
 @dataclass(frozen=True)
@@ -571,11 +809,47 @@ class StatusReport:
     length: int
     alphabet: Alphabet
 
+    @property
+    def text(self) -> str:
+        """As that of a `Report`."""
+        return _data_text(raw.lib.sms_status_report_text, raw.StatusReport, self)
+
+    @staticmethod
+    def write(
+        recipient: str,
+        stamp: Stamp,
+        discharged: Stamp,
+        status: int,
+        *,
+        reference: int = 0,
+        more: bool = False,
+        looped: bool = False,
+        qualifier: bool = False,
+        pid: Optional[int] = None,
+        dcs: Optional[int] = None,
+        data: Optional[Octets] = None,
+        has_header: bool = False,
+        length: Optional[int] = None,
+    ) -> bytes:
+        """The unit; its data as in `DeliverReport`."""
+        octets, to = _data(data), _utf8(recipient)
+        fields = raw.StatusReportFields(
+            stamp=stamp._raw(),
+            discharged=discharged._raw(),
+            more=bool(more),
+            looped=bool(looped),
+            qualifier=bool(qualifier),
+            reference=_octet(reference),
+            status=_octet(status),
+            **_parts(pid, dcs, octets, has_header, length),
+        )
+        return _written(raw.lib.sms_status_report_write, fields, octets, to, len(to))
+
     @classmethod
     def read(cls, octets: Octets) -> StatusReport:
         """Reads the unit at the front of the octets, of which it takes `used`; raises `Refused`. TP-PI is read where
         another octet follows TP-ST."""
-        octets = bytes(octets)
+        octets = _octets(octets)
         seen = _read(raw.lib.sms_status_report_read, octets, raw.StatusReport())
         return cls(
             used=seen.used,
@@ -621,7 +895,7 @@ class Command:
     @classmethod
     def read(cls, octets: Octets) -> Command:
         """Reads the unit at the front of the octets, of which it takes `used`; raises `Refused`."""
-        octets = bytes(octets)
+        octets = _octets(octets)
         seen = _read(raw.lib.sms_command_read, octets, raw.Command())
         return cls(
             used=seen.used,
@@ -655,13 +929,13 @@ class Cp:
 
     @classmethod
     def read(cls, octets: Octets) -> Cp:
-        octets = bytes(octets)
+        octets = _octets(octets)
         seen = _read(raw.lib.sms_cp_read, octets, raw.Cp())
         return cls(
             used=seen.used,
             flag=bool(seen.flag),
             value=seen.value,
-            kind=("data", "ack", "error")[seen.kind],
+            kind=raw.KINDS[seen.kind],
             user=_at(octets, seen.user) if seen.kind == 0 else None,
             cause=seen.cause if seen.kind == 2 else None,
         )
@@ -680,15 +954,24 @@ class Rp:
     cause: Optional[int]
     diagnostic: Optional[int]
 
+    @property
+    def centre(self) -> Optional[str]:
+        """The text of the centre's address: its digits, after a + where the type of number is 1; None where there is no
+        address. BadAddress where it has no text."""
+        if self.address is None:
+            return None
+        seen = raw.Rp(address=raw.Span(0, len(self.address)), has_address=1)
+        return _answer(ADDRESS_TEXT_MAX, raw.lib.sms_relay_address_text, self.address, len(self.address), byref(seen)).decode()
+
     @classmethod
     def read(cls, octets: Octets) -> Rp:
-        octets = bytes(octets)
+        octets = _octets(octets)
         seen = _read(raw.lib.sms_rp_read, octets, raw.Rp())
         return cls(
             used=seen.used,
             to_phone=seen.side == 1,
             reference=seen.reference,
-            kind=("data", "ack", "error")[seen.kind],
+            kind=raw.KINDS[seen.kind],
             address=_at(octets, seen.address) if seen.has_address else None,
             user=_at(octets, seen.user) if seen.has_user else None,
             cause=seen.cause if seen.kind == 2 else None,
@@ -697,16 +980,14 @@ class Rp:
 
 
 def _envelope(flag: bool, value: int, to_phone: bool, reference: int) -> raw.Envelope:
-    if not 0 <= value <= 6:
-        raise OutOfRange("a transaction's value is 0 to 6")
-    return raw.Envelope(bool(flag), value, bool(to_phone), _octet(reference))
+    return raw.Envelope(bool(flag), _number(value, 0, 6, "a transaction's value"), bool(to_phone), _octet(reference))
 
 
 def wrap(unit: Octets, *, flag: bool, value: int, to_phone: bool, reference: int, centre: str = "") -> bytes:
     """A CP-DATA around an RP-DATA around the octets of a unit, at most 233, which are not looked at."""
-    unit, address = bytes(unit), _utf8(centre)
+    octets, address = _octets(unit), _utf8(centre)
     envelope = _envelope(flag, value, to_phone, reference)
-    given = byref(envelope), address, len(address), unit, len(unit)
+    given = byref(envelope), address, len(address), octets, len(octets)
     return _answer(PACKET_MAX, raw.lib.sms_wrap_data, *given)
 
 
@@ -714,11 +995,11 @@ def wrap_answer(
     unit: Octets = b"", *, flag: bool, value: int, to_phone: bool, reference: int, cause: Optional[int] = None
 ) -> bytes:
     """A CP-DATA around an RP-ACK, or with a cause (0 to 127) an RP-ERROR, and a unit if it has one."""
-    unit = bytes(unit)
+    given = _octets(unit)
     envelope = _envelope(flag, value, to_phone, reference)
     if cause is None:
-        return _answer(PACKET_MAX, raw.lib.sms_wrap_ack, byref(envelope), unit, len(unit))
-    return _answer(PACKET_MAX, raw.lib.sms_wrap_error, byref(envelope), _octet(cause), unit, len(unit))
+        return _answer(PACKET_MAX, raw.lib.sms_wrap_ack, byref(envelope), given, len(given))
+    return _answer(PACKET_MAX, raw.lib.sms_wrap_error, byref(envelope), _octet(cause), given, len(given))
 
 
 def wrap_acknowledgement(*, flag: bool, value: int, cause: Optional[int] = None) -> bytes:
@@ -768,21 +1049,20 @@ class Joiner:
     def __init__(self, open_max: int = 1024, remembered: int = 4096):
         self._lock = threading.Lock()
         self._handle = raw.Joiner()
-        if open_max < 1 or remembered < 1:
-            raise OutOfRange("both limits are from 1 on")
-        _raise(raw.lib.sms_joiner_open(byref(self._handle), open_max, remembered))
+        given = _number(open_max, 1, _MOST, "a limit"), _number(remembered, 1, _MOST, "a limit")
+        _raise(raw.lib.sms_joiner_open(byref(self._handle), *given))
 
     def offer(self, octets: Octets, at: Optional[datetime] = None) -> Optional[str]:
         """Offers an SMS-DELIVER that came at a moment (now, if none is given): the text where it finishes its message,
         whatever other threads offer meanwhile. None where others are missing, or it is a repeat; `outcome` tells which.
         NotThere where its user data are no text (8-bit, compressed)."""
-        octets, seconds = bytes(octets), _seconds_or_now(at)
+        octets, seconds = _octets(octets), _seconds_or_now(at)
         with self._lock:
             return self._text() if self._offer(octets, seconds) == Offer.FINISHED else None
 
     def outcome(self, octets: Octets, at: Optional[datetime] = None) -> Offer:
         """As `offer`, but what becomes of the segment; `text` is then the text that finished last, in any thread."""
-        octets, seconds = bytes(octets), _seconds_or_now(at)
+        octets, seconds = _octets(octets), _seconds_or_now(at)
         with self._lock:
             return self._offer(octets, seconds)
 
@@ -794,7 +1074,7 @@ class Joiner:
 
     def would_finish(self, octets: Octets) -> bool:
         """Whether an SMS-DELIVER would finish its message; nothing changes. NotThere where `offer` raises it."""
-        octets, answer, refused = bytes(octets), c_uint8(), raw.Refused()
+        octets, answer, refused = _octets(octets), c_uint8(), raw.Refused()
         with self._lock:
             given = byref(self._handle), octets, len(octets)
             _raise(raw.lib.sms_joiner_would_finish(*given, byref(answer), byref(refused)), refused)

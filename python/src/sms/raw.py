@@ -3,9 +3,35 @@
 from __future__ import annotations
 
 import ctypes
+import enum
 import os
 from ctypes import POINTER, Structure, c_char_p, c_int8, c_size_t, c_uint8, c_uint16, c_uint32, c_uint64, c_void_p
 from pathlib import Path
+from typing import Any, Dict, List
+
+# The version of the header that these are the declarations of, the number of its interface, and the sizes that are
+# always enough.
+VERSION = 2_000_000
+ABI = VERSION // 1_000_000
+TEXT_MAX, UNIT_MAX, PACKET_MAX, ADDRESS_TEXT_MAX = 480, 192, 258, 33
+# Of packets: CP-DATA and RP-DATA, CP-ACK and RP-ACK, CP-ERROR and RP-ERROR.
+KINDS = ("data", "ack", "error")
+
+
+class Status(enum.IntEnum):
+    """What a call answers."""
+
+    OK = 0
+    REFUSED = 1
+    NO_MEMORY = 2
+    NO_ROOM = 3
+    NOT_UTF8 = 4
+    BAD_ADDRESS = 5
+    TOO_LONG = 6
+    OUT_OF_RANGE = 7
+    NOT_THERE = 8
+    TOO_MANY_OPEN = 9
+    CLOSED = 10
 
 
 class Span(Structure):
@@ -190,6 +216,8 @@ class SubmitFields(Structure):
         ("reference", c_uint8),
         ("pid", c_uint8),
         ("validity", Validity),
+        ("message_class", c_uint8),
+        ("spare", c_uint8 * 6),
     ]
 
 
@@ -202,6 +230,43 @@ class DeliverFields(Structure):
         ("reply", c_uint8),
         ("pid", c_uint8),
         ("stamp", Stamp),
+        ("message_class", c_uint8),
+        ("spare", c_uint8 * 6),
+    ]
+
+
+class ReportFields(Structure):
+    _fields_ = [
+        ("stamp", Stamp),
+        ("cause", c_uint8),
+        ("has_pid", c_uint8),
+        ("pid", c_uint8),
+        ("has_dcs", c_uint8),
+        ("dcs", c_uint8),
+        ("has_data", c_uint8),
+        ("has_header", c_uint8),
+        ("length", c_uint8),
+        ("spare", c_uint8 * 6),
+    ]
+
+
+class StatusReportFields(Structure):
+    _fields_ = [
+        ("stamp", Stamp),
+        ("discharged", Stamp),
+        ("more", c_uint8),
+        ("looped", c_uint8),
+        ("qualifier", c_uint8),
+        ("reference", c_uint8),
+        ("status", c_uint8),
+        ("has_pid", c_uint8),
+        ("pid", c_uint8),
+        ("has_dcs", c_uint8),
+        ("dcs", c_uint8),
+        ("has_data", c_uint8),
+        ("has_header", c_uint8),
+        ("length", c_uint8),
+        ("spare", c_uint8 * 6),
     ]
 
 
@@ -210,7 +275,7 @@ class Joiner(Structure):
 
 
 # The structs by their names in sms.h.
-STRUCTS = {
+STRUCTS: Dict[str, Any] = {
     "sms_refused": Refused,
     "sms_span": Span,
     "sms_address": Address,
@@ -230,17 +295,19 @@ STRUCTS = {
     "sms_reference": Reference,
     "sms_submit_fields": SubmitFields,
     "sms_deliver_fields": DeliverFields,
+    "sms_report_fields": ReportFields,
+    "sms_status_report_fields": StatusReportFields,
     "sms_joiner": Joiner,
 }
 
-_IN = [c_char_p, c_size_t]
-_OUT = [POINTER(c_uint8), c_size_t, POINTER(c_size_t)]
+_IN: List[Any] = [c_char_p, c_size_t]
+_OUT: List[Any] = [POINTER(c_uint8), c_size_t, POINTER(c_size_t)]
 _REFUSED = POINTER(Refused)
 _ENVELOPE = POINTER(Envelope)
 _JOINER = POINTER(Joiner)
 
 # The parameters of each call, as sms.h declares them.
-CALLS = {
+CALLS: Dict[str, List[Any]] = {
     "sms_deliver_read": [*_IN, POINTER(Deliver), _REFUSED],
     "sms_submit_read": [*_IN, POINTER(Submit), _REFUSED],
     "sms_deliver_ack_read": [*_IN, POINTER(Report), _REFUSED],
@@ -273,6 +340,17 @@ CALLS = {
         POINTER(c_size_t),
         POINTER(c_uint8),
     ],
+    "sms_version": [],
+    "sms_relay_address_text": [*_IN, POINTER(Rp), *_OUT],
+    "sms_report_text": [*_IN, POINTER(Report), *_OUT],
+    "sms_status_report_text": [*_IN, POINTER(StatusReport), *_OUT],
+    "sms_deliver_ack_write": [POINTER(ReportFields), *_IN, *_OUT],
+    "sms_deliver_error_write": [POINTER(ReportFields), *_IN, *_OUT],
+    "sms_submit_ack_write": [POINTER(ReportFields), *_IN, *_OUT],
+    "sms_submit_error_write": [POINTER(ReportFields), *_IN, *_OUT],
+    "sms_status_report_write": [POINTER(StatusReportFields), *_IN, *_IN, *_OUT],
+    "sms_submit_data_write": [POINTER(SubmitFields), c_uint8, c_uint8, *_IN, *_IN, *_OUT],
+    "sms_deliver_data_write": [POINTER(DeliverFields), c_uint8, c_uint8, *_IN, *_IN, *_OUT],
     "sms_joiner_open": [_JOINER, c_size_t, c_size_t],
     "sms_joiner_close": [_JOINER],
     "sms_joiner_offer": [_JOINER, c_uint64, *_IN, POINTER(c_uint32), _REFUSED],
@@ -282,17 +360,27 @@ CALLS = {
 }
 
 
+# What a call answers, where it is no status.
+ANSWERS: Dict[str, Any] = {"sms_joiner_close": None, "sms_version": c_uint32}
+
+
 def _path() -> str:
     """The shared library: SMS_LIBRARY names it, or it lies beside this file, or the loader finds it."""
-    beside = Path(__file__).with_name("libsms.so.1")
-    return os.environ.get("SMS_LIBRARY") or (str(beside) if beside.is_file() else "libsms.so.1")
+    beside = Path(__file__).with_name("libsms.so")
+    return os.environ.get("SMS_LIBRARY") or (str(beside) if beside.is_file() else f"libsms.so.{ABI}")
 
 
 def _loaded() -> ctypes.CDLL:
-    loaded = ctypes.CDLL(_path())
+    """The library, which has to be of this interface: a library before 2 tells no version."""
+    path = _path()
+    loaded = ctypes.CDLL(path)
+    version = getattr(loaded, "sms_version", None)
+    abi = version() // 1_000_000 if version else 1
+    if abi != ABI:
+        raise ImportError(f"{path} is of SMS_ABI {abi}, and this package is for SMS_ABI {ABI}")
     for name, parameters in CALLS.items():
         call = getattr(loaded, name)
-        call.argtypes, call.restype = parameters, None if name == "sms_joiner_close" else c_uint32
+        call.argtypes, call.restype = parameters, ANSWERS.get(name, c_uint32)
     return loaded
 
 

@@ -1,0 +1,18 @@
+"""What a type checker is to refuse of the Python package, each line of it, and nothing else: mypy --strict (it says where a
+line is right that is marked as wrong)."""
+
+from datetime import datetime
+
+import sms
+
+message: sms.Deliver = sms.Deliver.read(b"")
+length: int = len(message.text) + len(message.octets) + message.used
+header: bytes = message.header  # type: ignore[assignment]
+sms.Deliver.read(28)  # type: ignore[arg-type]
+sms.Deliver.read("00")  # type: ignore[arg-type]
+sms.split(b"text")  # type: ignore[arg-type]
+sms.Stamp.at(0)  # type: ignore[arg-type]
+sms.Submit.write("1", "text", validity=4)  # type: ignore[arg-type]
+text: str = sms.Joiner().offer(b"", datetime.now())  # type: ignore[assignment]
+reason: str = sms.Refused(0, sms.Reason.SHORT).reason.name
+sms.Refused(0, 1)  # type: ignore[arg-type]
