@@ -1,3 +1,4 @@
+pub mod Fitting
 pub mod HandedOut
 pub mod Kept
 pub mod Offers
