@@ -22,8 +22,8 @@ EndsBeyond octets span = length octets < span.offset + span.length
 -- ---- addresses
 
 -- at the front of octets no address is read
-abbrev pub HoldNoAddress : List ℕ → Type 0
-HoldNoAddress octets = (value : AddressValue) (used : ℕ) → Reads address value octets used → ⊥
+pub record HoldNoAddress (octets : List ℕ) : Type 0 where
+  pub none : (value : AddressValue) (used : ℕ) → Reads address value octets used → ⊥
 
 -- the span lies in the octets, and no address at its front
 abbrev pub IsAtNoAddress : List ℕ → Span → Type 0

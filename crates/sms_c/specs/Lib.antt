@@ -12,4 +12,6 @@ pub mod Splitting
 pub mod Status
 pub mod Times
 pub mod Wrapping
+pub mod WrappingFaults
 pub mod Writing
+pub mod WritingFaults

@@ -1,7 +1,7 @@
 //! Answers handed to C, and texts taken from it.
 
-ghost use Rattle.std.specs.Prelude.{◌≡◌, ◌≢◌, ◌⊎◌, ◌<◌, ◌↔◌, Err, IfOk, IfErr, length};
-ghost use Rattle.std.specs.Str.{IsUtf8};
+ghost use Rattle.std.specs.Prelude.{◌≡◌, ◌⊎◌, true, false, IfOk, IfErr, MatchResult};
+ghost use Rattle.std.specs.Str.{is_utf8, IsUtf8};
 ghost use Rattle.sms_c.specs.HandedOut.{ArePut, LackRoom};
 ghost use Rattle.sms_c.specs.Status.{status_in};
 ghost use Rattle.sms_c.specs.declared.status.Failure.TheVariants.{NoRoom, NotUtf8};
@@ -27,6 +27,8 @@ pub fn hand_out(octets: &[u8], out: &mut [u8], needed: &mut usize) -> Result<(),
 pub fn text_of(octets: &[u8]) -> Result<&str, Failure>
     ensures text { IfOk result (λ text. text.now ≡ octets.now) }
     ensures utf8 { IfOk result (λ _. IsUtf8 octets.now) }
+    ensures test { MatchResult result (λ _. is_utf8 octets.now ≡ true)
+        (λ _. is_utf8 octets.now ≡ false) }
     ensures none { IfErr result (λ why. (why ≡ NotUtf8) × (IsUtf8 octets.now → ⊥)) }
 {
     match str::from_utf8(octets) {
