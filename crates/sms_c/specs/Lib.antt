@@ -1,6 +1,7 @@
 pub mod Fitting
 pub mod HandedOut
 pub mod Kept
+pub mod Lengths
 pub mod Offers
 pub mod Parts
 pub mod Seen
