@@ -3,7 +3,9 @@
  * Octets in, values out. Every call checks what it is given and answers with a status; none aborts,
  * waits, prints, reads a clock or keeps a global.
  *
- * Pointers. What a caller owes is the pointers, and nothing else:
+ * What a caller owes is said of pointers, joiners, memory and threads below, and nothing else: each value
+ * that it gives is checked.
+ * Pointers:
  *  - a pointer that goes with a count points to that many values; where the count is 0 it may be NULL;
  *  - every other pointer points to one value and is never NULL; what is written only need not be set;
  *  - while a call runs, nothing else reads or writes what it may write, nothing else writes what it
@@ -11,19 +13,24 @@
  * Ownership. The library keeps no pointer after a call and gives none out. Structs that are filled
  * hold numbers, and places in the caller's own octets (sms_span); nothing is to be freed, but for a
  * joiner, which sms_joiner_close frees.
- * Memory. sms_*_read, sms_stamp_* and sms_validity_end take none. The others call malloc, realloc
- * and free of the program, and answer SMS_NO_MEMORY where these refuse; what they had taken is free
- * again then (a joiner may keep room that it made), and the call may be made again.
+ * Joiners. An sms_joiner begins as SMS_JOINER_CLOSED; calls alone change it, and of an open one no copy is
+ * used.
+ * Memory. sms_*_read, sms_stamp_*, sms_validity_end and sms_joiner_text, _would_finish, _age and _close take
+ * none. The others call malloc, realloc and free of the program: these are of one allocator, and align a
+ * block to each power of two up to 16 that divides its size. SMS_NO_MEMORY: they refused; what the call had
+ * taken is free again (a joiner may keep room that it made), and it may be made again.
  * Threads. Any number of threads may call at the same time on values of their own. A joiner is one
- * value: one call at a time, from whichever thread, as far as the program orders the calls; threads that
- * share one hold a lock over sms_joiner_offer and the sms_joiner_text that takes its text. Not from a signal
- * handler, nor in the forked child of a process with threads.
+ * value: one call at a time, from whichever thread. A lock, the start or join of a thread, or a sequentially
+ * consistent atomic orders them; threads that share one hold a lock over sms_joiner_offer and the
+ * sms_joiner_text that takes its text. Not from a signal handler, nor in the forked child of a process with
+ * threads.
  * Text is UTF-8 and has no NUL at its end; its length is told.
  * Answers of unknown length ("out, room, needed"): where the answer has at most `room` octets they are
  * written to `out` and the call answers SMS_OK; else nothing is written and the call answers
  * SMS_NO_ROOM. *needed is the length of the answer in both cases (0 after another status). So a call
  * with room 0 asks. SMS_TEXT_MAX and SMS_UNIT_MAX are always enough for one unit.
- * After a status other than SMS_OK what else a call may write is as it was, unless it says more.
+ * After a status other than SMS_OK what else a call may write is as it was, unless it says more. A call
+ * answers with SMS_OK or a status that its comment names, of several that are so with the first.
  */
 #ifndef SMS_H
 #define SMS_H
@@ -63,7 +70,7 @@ enum {
     SMS_NO_ROOM = 3,       /* *needed says how much is wanted */
     SMS_NOT_UTF8 = 4,
     SMS_BAD_ADDRESS = 5,   /* the text is no address */
-    SMS_TOO_LONG = 6,      /* more than 255 segments, or more than a packet carries */
+    SMS_TOO_LONG = 6,      /* more than 255 segments, or than the 233 octets that a message of the relay carries */
     SMS_OUT_OF_RANGE = 7,  /* a value is none of those that its comment allows */
     SMS_NOT_THERE = 8,     /* no such date, moment, end, text or segment */
     SMS_TOO_MANY_OPEN = 9, /* joiner: a segment of one more message than may be open */
@@ -232,8 +239,9 @@ typedef struct sms_command {
     uint8_t message; /* TP-MN: TP-MR of the message in question */
 } sms_command;
 
-/* Reads the unit at the front of the octets. SMS_OK: *out is the unit, *refused as it was.
- * SMS_REFUSED: *refused says where and why, *out is as it was. No other status, no memory. */
+/* Reads the unit at the front of the octets. SMS_REFUSED: *refused says where and why, *out is as it was.
+ * Else SMS_OK: *out is the unit, *refused as it was. What follows the unit is not looked at, but where an
+ * optional part might stand: after TP-ST of an SMS-STATUS-REPORT. */
 SMS_STATUS sms_deliver_read(const uint8_t *octets, size_t count, sms_deliver *out, sms_refused *refused);
 SMS_STATUS sms_submit_read(const uint8_t *octets, size_t count, sms_submit *out, sms_refused *refused);
 /* SMS-DELIVER-REPORT and SMS-SUBMIT-REPORT, in an RP-ACK and in an RP-ERROR. */
@@ -245,12 +253,15 @@ SMS_STATUS sms_submit_error_read(const uint8_t *octets, size_t count, sms_report
 SMS_STATUS sms_status_report_read(const uint8_t *octets, size_t count, sms_status_report *out, sms_refused *refused);
 SMS_STATUS sms_command_read(const uint8_t *octets, size_t count, sms_command *out, sms_refused *refused);
 
-/* The text of an address, or of user data, that a call above found in these same octets: its digits
- * (after a + where the type is 1) or its name; septets or UCS-2 as text, where an unpaired surrogate
- * becomes U+FFFD. SMS_NOT_THERE: the user data are no text (8-bit, compressed). SMS_OUT_OF_RANGE or
- * SMS_REFUSED: the struct does not fit these octets. Also SMS_NO_ROOM, SMS_NO_MEMORY. */
+/* The text of an address that a call above found in these same octets: its digits (after a + where the type
+ * is 1) or its name. SMS_OUT_OF_RANGE: its span ends beyond the octets. SMS_REFUSED: no address begins it.
+ * Else SMS_OK, SMS_NO_ROOM or SMS_NO_MEMORY. */
 SMS_STATUS sms_address_text(const uint8_t *octets, size_t count, const sms_address *address,
                             uint8_t *out, size_t room, size_t *needed);
+/* The text of user data likewise: septets or UCS-2, where an unpaired surrogate becomes U+FFFD.
+ * SMS_OUT_OF_RANGE: the body ends beyond the octets; or, of SMS_GSM7, fill is above 6, or body.length octets
+ * are too few for count septets after fill bits. SMS_NOT_THERE: the user data are no text (8-bit, compressed:
+ * neither SMS_GSM7 nor SMS_UCS2). Else SMS_OK, SMS_NO_ROOM or SMS_NO_MEMORY. */
 SMS_STATUS sms_user_text(const uint8_t *octets, size_t count, const sms_user *user,
                          uint8_t *out, size_t room, size_t *needed);
 
@@ -263,8 +274,9 @@ SMS_STATUS sms_stamp_moment(const sms_stamp *stamp, uint64_t *seconds);
 /* The stamp of a moment, told in a zone; SMS_OUT_OF_RANGE where the local time lies outside 2000 to
  * 2099 or the zone outside -79 to 79. */
 SMS_STATUS sms_stamp_at(uint64_t seconds, int8_t quarters, sms_stamp *out);
-/* When a validity period ends of a message that was accepted at a moment below 2^63: absent is two
- * days. SMS_NOT_THERE: enhanced, or absolute with no moment. SMS_OUT_OF_RANGE: no such format. */
+/* When a validity period ends of a message that was accepted at a moment: absent is two days.
+ * SMS_OUT_OF_RANGE: the moment is not below 2^63, or there is no such format. SMS_NOT_THERE: enhanced, or
+ * absolute with no moment. */
 SMS_STATUS sms_validity_end(const sms_validity *validity, uint64_t accepted, uint64_t *seconds);
 
 /* ---- packets */
@@ -293,7 +305,8 @@ typedef struct sms_rp {
 } sms_rp;
 
 /* As the readers of units. Places in an RP message count from its first octet:
- * sms_rp_read(octets + cp.user.offset, cp.user.length, ..). */
+ * sms_rp_read(octets + cp.user.offset, cp.user.length, ..). What follows an RP-ACK or RP-ERROR without user
+ * data is looked at: an octet 41 (hexadecimal) begins them. */
 SMS_STATUS sms_cp_read(const uint8_t *octets, size_t count, sms_cp *out, sms_refused *refused);
 SMS_STATUS sms_rp_read(const uint8_t *octets, size_t count, sms_rp *out, sms_refused *refused);
 
@@ -306,7 +319,9 @@ typedef struct sms_envelope {
 
 /* CP-DATA around RP-DATA (address: the centre's, as text, none where it is empty), RP-ACK or RP-ERROR
  * (cause 0 to 127) around the octets of a unit, at most 233, which are not looked at; none for an
- * answer where they are empty. CP-ACK and CP-ERROR alone, where side and reference do not count. */
+ * answer where they are empty. CP-ACK and CP-ERROR alone, where side and reference do not count.
+ * SMS_OUT_OF_RANGE: the cause of an RP-ERROR, or what counts of the envelope. SMS_NOT_UTF8, SMS_BAD_ADDRESS:
+ * the address. SMS_TOO_LONG: a unit of more than 233 octets. Else SMS_OK, SMS_NO_ROOM or SMS_NO_MEMORY. */
 SMS_STATUS sms_wrap_data(const sms_envelope *envelope, const uint8_t *address, size_t address_count,
                          const uint8_t *unit, size_t unit_count, uint8_t *out, size_t room, size_t *needed);
 SMS_STATUS sms_wrap_ack(const sms_envelope *envelope, const uint8_t *unit, size_t unit_count,
@@ -348,10 +363,12 @@ typedef struct sms_deliver_fields {
     uint8_t spare[6];      /* must be 0 */
 } sms_deliver_fields;
 
-/* The segment of an index, from 0, of a text as a whole unit. *segments is how many there are (0 where
- * the text was not cut); SMS_NOT_THERE where the index is not below it. target, origin: + and digits,
- * digits, or a name of at most 11 septets. Also SMS_NOT_UTF8, SMS_BAD_ADDRESS, SMS_TOO_LONG,
- * SMS_OUT_OF_RANGE, SMS_NO_ROOM, SMS_NO_MEMORY. */
+/* The segment of an index, from 0, of a text as a whole unit. target, origin: + and at most 20 digits, such
+ * digits, or a name of at most 11 septets. SMS_OUT_OF_RANGE: the message class, a spare octet, the reference or
+ * its width, or no format of TP-VP. SMS_NOT_UTF8: the address or the text. SMS_BAD_ADDRESS. SMS_TOO_LONG: more
+ * than 255 segments. SMS_NOT_THERE: the index is not below their number. SMS_NO_ROOM, SMS_OK. From
+ * SMS_BAD_ADDRESS on SMS_NO_MEMORY may come in place of each. *segments is how many segments there are under SMS_OK,
+ * SMS_NO_ROOM and SMS_NOT_THERE, not told under SMS_NO_MEMORY, and else 0. */
 SMS_STATUS sms_submit_write(const sms_submit_fields *fields, const uint8_t *target, size_t target_count,
                             const uint8_t *text, size_t text_count, size_t index,
                             uint8_t *out, size_t room, size_t *needed, size_t *segments);
@@ -360,9 +377,10 @@ SMS_STATUS sms_deliver_write(const sms_deliver_fields *fields, const uint8_t *or
                              uint8_t *out, size_t room, size_t *needed, size_t *segments);
 
 /* The user data of all segments, each from its TP-UDL on, one after another, and where each lies in
- * out. *segments is how many there are, and *dcs the TP-DCS of all. Where there is too little room for
- * the octets or for the spans, the call answers SMS_NO_ROOM and writes neither, but *segments and *dcs,
- * and *needed: so much is wanted. Also SMS_NOT_UTF8, SMS_TOO_LONG, SMS_OUT_OF_RANGE, SMS_NO_MEMORY. */
+ * out. *segments is how many there are, and *dcs the TP-DCS of all. SMS_OUT_OF_RANGE: the reference or its
+ * width. SMS_NOT_UTF8: the text. SMS_TOO_LONG: more than 255 segments. SMS_NO_ROOM: there is too little room
+ * for the octets or for the spans; neither is written, but *segments and *dcs, and *needed: so much is
+ * wanted. SMS_OK. From SMS_TOO_LONG on SMS_NO_MEMORY may come in place of each. */
 SMS_STATUS sms_split(const sms_reference *reference, const uint8_t *text, size_t text_count,
                      uint8_t *out, size_t room, size_t *needed,
                      sms_span *spans, size_t span_count, size_t *segments, uint8_t *dcs);
@@ -455,8 +473,7 @@ SMS_STATUS sms_deliver_data_write(const sms_deliver_fields *fields, uint8_t dcs,
                                   const uint8_t *origin, size_t origin_count, const uint8_t *octets, size_t count,
                                   uint8_t *out, size_t room, size_t *needed);
 
-/* ---- joining segments. A joiner lies in the caller's memory and holds memory of the library. Begin
- * with SMS_JOINER_CLOSED, change nothing in it, and never use a copy of an open one. */
+/* ---- joining segments. A joiner lies in the caller's memory and holds memory of the library. */
 
 typedef struct sms_joiner {
     uint32_t open;
@@ -473,60 +490,28 @@ enum { SMS_REPEAT = 0, SMS_KEPT = 1, SMS_FINISHED = 2 };
 
 /* Opens it for at most so many messages at a time that are not whole, and so many finished ones that
  * are remembered, so that none finishes twice: they are forgotten by number, never by time. Both are
- * from 1 on. SMS_OUT_OF_RANGE: one is 0, and the joiner is as it was. Else an open one is closed first.
- * SMS_NO_MEMORY: it is closed. */
+ * from 1 on. SMS_OUT_OF_RANGE: one is 0, and the joiner is as it was. Else an open one is closed first, and
+ * what it held is gone. SMS_NO_MEMORY: it is closed. SMS_OK: it is open, and holds nothing. */
 SMS_STATUS sms_joiner_open(sms_joiner *joiner, size_t open_max, size_t remembered);
 /* Frees what it holds. On a closed one it does nothing. */
 void sms_joiner_close(sms_joiner *joiner);
-/* Offers an SMS-DELIVER that came at a moment. SMS_OK: *outcome is SMS_REPEAT (it is there, or its message
- * is a finished one that is remembered), SMS_KEPT or SMS_FINISHED. After another status the joiner is as it
- * was. SMS_REFUSED: as sms_deliver_read. SMS_NOT_THERE: the user data are no text (8-bit, compressed).
- * SMS_TOO_MANY_OPEN, SMS_NO_MEMORY: the same unit may be offered again. SMS_CLOSED. */
+/* Offers an SMS-DELIVER, at the front of the octets, that came at a moment. SMS_CLOSED. SMS_REFUSED: as
+ * sms_deliver_read. SMS_NOT_THERE: the user data are no text (8-bit, compressed). SMS_TOO_MANY_OPEN: it would
+ * open one message more than may be open, and the same unit may be offered again. SMS_OK: *outcome is
+ * SMS_REPEAT (it is there, or its message is a finished one that is remembered), SMS_KEPT or SMS_FINISHED.
+ * SMS_NO_MEMORY may come in place of the last two. After another status than SMS_OK the joiner is as it was. */
 SMS_STATUS sms_joiner_offer(sms_joiner *joiner, uint64_t seconds, const uint8_t *octets, size_t count,
                             uint32_t *outcome, sms_refused *refused);
-/* The text that finished last, as often as one asks; empty before one did. */
+/* The text that finished last since the joiner was opened, as often as one asks; empty before one did.
+ * SMS_CLOSED. Else SMS_OK or SMS_NO_ROOM. */
 SMS_STATUS sms_joiner_text(sms_joiner *joiner, uint8_t *out, size_t room, size_t *needed);
-/* Whether an SMS-DELIVER would finish its message: *finishes is 0 or 1; nothing changes. What
- * sms_joiner_offer answers with SMS_NOT_THERE is answered so. Also SMS_REFUSED, SMS_CLOSED. */
+/* Whether an SMS-DELIVER would finish its message: nothing changes. SMS_CLOSED, SMS_REFUSED, SMS_NOT_THERE: as
+ * sms_joiner_offer. Else SMS_OK: *finishes is 0 or 1. */
 SMS_STATUS sms_joiner_would_finish(sms_joiner *joiner, const uint8_t *octets, size_t count,
                                    uint8_t *finishes, sms_refused *refused);
-/* Drops the messages whose first segment came 604,800 seconds before the moment, or earlier. */
+/* Drops the messages of which the segment that came first came 604,800 seconds before the moment, or earlier;
+ * the text that finished last stays. SMS_CLOSED. Else SMS_OK. */
 SMS_STATUS sms_joiner_age(sms_joiner *joiner, uint64_t seconds);
-
-/* ---- the size of each struct, in octets, where a pointer has eight: said to compilers that can tell (C11, C++11) */
-
-#ifdef __LP64__
-#if defined(__cplusplus) && __cplusplus >= 201103L
-#define SMS_HAS(size, type) static_assert(sizeof(type) == size, #type)
-#elif defined(__STDC_VERSION__) && __STDC_VERSION__ >= 201112L
-#define SMS_HAS(size, type) _Static_assert(sizeof(type) == size, #type)
-#endif
-#endif
-#ifdef SMS_HAS
-SMS_HAS(16, sms_refused);
-SMS_HAS(16, sms_span);
-SMS_HAS(24, sms_address);
-SMS_HAS(6, sms_place);
-SMS_HAS(48, sms_user);
-SMS_HAS(7, sms_stamp);
-SMS_HAS(8, sms_validity);
-SMS_HAS(8, sms_date);
-SMS_HAS(96, sms_deliver);
-SMS_HAS(96, sms_submit);
-SMS_HAS(64, sms_report);
-SMS_HAS(96, sms_status_report);
-SMS_HAS(72, sms_command);
-SMS_HAS(32, sms_cp);
-SMS_HAS(48, sms_rp);
-SMS_HAS(4, sms_envelope);
-SMS_HAS(4, sms_reference);
-SMS_HAS(24, sms_submit_fields);
-SMS_HAS(24, sms_deliver_fields);
-SMS_HAS(21, sms_report_fields);
-SMS_HAS(32, sms_status_report_fields);
-SMS_HAS(16, sms_joiner);
-#undef SMS_HAS
-#endif
 
 #ifdef __cplusplus
 }

@@ -458,6 +458,304 @@ static void no_text(void)
     free(octets);
 }
 
+/* ---- each status of each call, where sms.h says that it comes; SMS_NO_MEMORY is tried in memory.c */
+
+#define ANY SIZE_MAX /* a length that is not told here */
+
+static void statuses_of_texts(void)
+{
+    size_t count, needed;
+    uint8_t text[SMS_TEXT_MAX], *octets = block("0491214315912143", &count);
+    static const struct {
+        sms_span octets;
+        size_t room;
+        sms_status status;
+        size_t needed;
+    } addresses[] = {
+        {{0, 4}, 33, SMS_OK, 5},
+        {{0, 8}, 5, SMS_OK, 5},
+        {{0, 4}, 4, SMS_NO_ROOM, 5},
+        {{0, 4}, 0, SMS_NO_ROOM, 5},
+        {{0, 3}, 33, SMS_REFUSED, 0}, /* short */
+        {{4, 4}, 33, SMS_REFUSED, 0}, /* 21 digits */
+        {{8, 0}, 33, SMS_REFUSED, 0},
+        {{0, 9}, 33, SMS_OUT_OF_RANGE, 0},
+        {{9, 0}, 33, SMS_OUT_OF_RANGE, 0},
+        {{SIZE_MAX, 2}, 33, SMS_OUT_OF_RANGE, 0},
+        {{2, SIZE_MAX}, 33, SMS_OUT_OF_RANGE, 0},
+    };
+    for (size_t i = 0; i < sizeof addresses / sizeof addresses[0]; i++) {
+        sms_address address = {addresses[i].octets, 1, 1};
+        memset(text, 0xA5, sizeof text);
+        CHECK(sms_address_text(octets, count, &address, text, addresses[i].room, &needed) == addresses[i].status);
+        CHECK(needed == addresses[i].needed && (addresses[i].status == SMS_OK || text[0] == 0xA5));
+    }
+    free(octets);
+    octets = block("E8329BFD4697D9EC37", &count);
+    static const struct {
+        sms_span body;
+        uint8_t alphabet, fill, count;
+        size_t room;
+        sms_status status;
+        size_t needed;
+    } users[] = {
+        {{0, 9}, SMS_GSM7, 0, 10, 10, SMS_OK, 10},
+        {{0, 9}, SMS_GSM7, 0, 10, 9, SMS_NO_ROOM, 10},
+        {{0, 8}, SMS_GSM7, 0, 9, 480, SMS_OK, 9},
+        {{0, 8}, SMS_GSM7, 1, 9, 480, SMS_OK, ANY},
+        {{0, 8}, SMS_GSM7, 2, 9, 480, SMS_OUT_OF_RANGE, 0},
+        {{0, 8}, SMS_GSM7, 0, 10, 480, SMS_OUT_OF_RANGE, 0},
+        {{0, 8}, SMS_GSM7, 6, 0, 0, SMS_OK, 0},
+        {{0, 8}, SMS_GSM7, 7, 0, 480, SMS_OUT_OF_RANGE, 0},
+        {{1, 9}, SMS_GSM7, 0, 1, 480, SMS_OUT_OF_RANGE, 0},
+        {{0, 4}, SMS_UCS2, 99, 99, 6, SMS_OK, 6},
+        {{0, 4}, SMS_UCS2, 0, 0, 5, SMS_NO_ROOM, 6},
+        {{6, 4}, SMS_UCS2, 0, 0, 480, SMS_OUT_OF_RANGE, 0},
+        {{0, 9}, SMS_EIGHT_BIT, 0, 9, 480, SMS_NOT_THERE, 0},
+        {{0, 9}, SMS_COMPRESSED, 0, 9, 480, SMS_NOT_THERE, 0},
+        {{0, 9}, 4, 0, 9, 480, SMS_NOT_THERE, 0},
+        {{0, 9}, 255, 7, 99, 480, SMS_NOT_THERE, 0},
+        {{1, 9}, SMS_EIGHT_BIT, 0, 9, 480, SMS_OUT_OF_RANGE, 0},
+    };
+    for (size_t i = 0; i < sizeof users / sizeof users[0]; i++) {
+        sms_user user = {{0, 0}, users[i].body, {0, 0, 0, 0}, 0, users[i].alphabet, 0, users[i].fill, users[i].count};
+        memset(text, 0xA5, sizeof text);
+        CHECK(sms_user_text(octets, count, &user, text, users[i].room, &needed) == users[i].status);
+        CHECK((users[i].needed == ANY || needed == users[i].needed) && (users[i].status == SMS_OK || text[0] == 0xA5));
+    }
+    free(octets);
+}
+
+static void statuses_of_times(void)
+{
+    static const sms_stamp no_date = {{0x99, 0x30, 0x92, 0x51, 0x61, 0xA5, 0x80}};
+    static const sms_stamp before = {{0x00, 0x10, 0x10, 0x00, 0x00, 0x00, 0x40}}; /* 2000-01-01, an hour east */
+    static const sms_stamp date = {{0x10, 0x10, 0x10, 0x00, 0x00, 0x00, 0x00}};
+    sms_date out;
+    uint64_t seconds = 77;
+    sms_stamp stamp = date;
+    CHECK(sms_stamp_date(&date, &out) == SMS_OK && sms_stamp_date(&before, &out) == SMS_OK);
+    CHECK(sms_stamp_date(&no_date, &out) == SMS_NOT_THERE && out.year == 2000);
+    CHECK(sms_stamp_moment(&no_date, &seconds) == SMS_NOT_THERE && sms_stamp_moment(&before, &seconds) == SMS_NOT_THERE);
+    CHECK(seconds == 77 && sms_stamp_moment(&date, &seconds) == SMS_OK && seconds == 366 * 86400u);
+    CHECK(sms_stamp_at(0, -1, &stamp) == SMS_OUT_OF_RANGE && sms_stamp_at(0, 80, &stamp) == SMS_OUT_OF_RANGE);
+    CHECK(sms_stamp_at(0, -80, &stamp) == SMS_OUT_OF_RANGE && sms_stamp_at(UINT64_MAX, 0, &stamp) == SMS_OUT_OF_RANGE);
+    CHECK(memcmp(&stamp, &date, 7) == 0 && sms_stamp_at(0, 79, &stamp) == SMS_OK);
+    static const struct {
+        sms_validity validity;
+        uint64_t accepted;
+        sms_status status;
+    } ends[] = {
+        {{SMS_VALIDITY_ABSENT, {0}}, 5, SMS_OK},
+        {{SMS_VALIDITY_RELATIVE, {255}}, 5, SMS_OK},
+        {{SMS_VALIDITY_ABSOLUTE, {0x10, 0x10, 0x10, 0, 0, 0, 0}}, 5, SMS_OK},
+        {{SMS_VALIDITY_ENHANCED, {0}}, 5, SMS_NOT_THERE},
+        {{SMS_VALIDITY_ABSOLUTE, {0x00, 0x10, 0x10, 0, 0, 0, 0x40}}, 5, SMS_NOT_THERE},
+        {{4, {0}}, 5, SMS_OUT_OF_RANGE},
+        {{SMS_VALIDITY_ENHANCED, {0}}, UINT64_C(1) << 63, SMS_OUT_OF_RANGE},
+    };
+    for (size_t i = 0; i < sizeof ends / sizeof ends[0]; i++) {
+        seconds = 77;
+        CHECK(sms_validity_end(&ends[i].validity, ends[i].accepted, &seconds) == ends[i].status);
+        CHECK((seconds == 77) == (ends[i].status != SMS_OK));
+    }
+}
+
+/* a text of one segment more than there may be, where a row has none */
+static uint8_t too_long[153 * 255 + 1];
+
+static void statuses_of_writers(void)
+{
+    static const struct {
+        sms_reference segments;
+        uint8_t format;
+        const char *address, *text;
+        size_t index, room;
+        sms_status status;
+        size_t cut;
+    } rows[] = {
+        {{8, 255}, SMS_VALIDITY_ABSENT, "+46708251358", "hello", 0, 184, SMS_OK, 1},
+        {{16, 65535}, SMS_VALIDITY_ENHANCED, "46708251358", "", 0, 184, SMS_OK, 1},
+        {{8, 0}, SMS_VALIDITY_ABSOLUTE, "eleven char", "hello", 0, 184, SMS_OK, 1},
+        {{8, 255}, SMS_VALIDITY_RELATIVE, "+12345678901234567890", "hello", 0, 0, SMS_NO_ROOM, 1},
+        {{8, 256}, SMS_VALIDITY_ABSENT, "+1", "hello", 0, 184, SMS_OUT_OF_RANGE, 0},
+        {{0, 0}, SMS_VALIDITY_ABSENT, "\xff", "hello", 0, 184, SMS_OUT_OF_RANGE, 0},
+        {{9, 0}, SMS_VALIDITY_ABSENT, "+1", NULL, 0, 184, SMS_OUT_OF_RANGE, 0},
+        {{8, 0}, SMS_VALIDITY_ABSENT, "\xff", "hello", 0, 184, SMS_NOT_UTF8, 0},
+        {{8, 0}, SMS_VALIDITY_ABSENT, "+1", "\xed\xa0\x80", 0, 184, SMS_NOT_UTF8, 0},
+        {{8, 0}, SMS_VALIDITY_ABSENT, "+1x", "\xff", 0, 184, SMS_NOT_UTF8, 0},
+        {{8, 0}, SMS_VALIDITY_ABSENT, "+1x", NULL, 0, 184, SMS_BAD_ADDRESS, 0},
+        {{8, 0}, SMS_VALIDITY_ABSENT, "+123456789012345678901", "hello", 0, 184, SMS_BAD_ADDRESS, 0},
+        {{8, 0}, SMS_VALIDITY_ABSENT, "twelve chars", "hello", 9, 184, SMS_BAD_ADDRESS, 0},
+        {{8, 0}, SMS_VALIDITY_ABSENT, "\xd0\x96", "hello", 0, 184, SMS_BAD_ADDRESS, 0},
+        {{8, 0}, SMS_VALIDITY_ABSENT, "+1", NULL, 300, 184, SMS_TOO_LONG, 0},
+        {{8, 0}, SMS_VALIDITY_ABSENT, "+1", "hello", 1, 184, SMS_NOT_THERE, 1},
+        {{8, 0}, SMS_VALIDITY_ABSENT, "+1", "hello", SIZE_MAX, 0, SMS_NOT_THERE, 1},
+    };
+    memset(too_long, 'a', sizeof too_long);
+    for (size_t i = 0; i < sizeof rows / sizeof rows[0]; i++) {
+        sms_submit_fields submit = {rows[i].segments, 0, 0, 0, 0, 0, {rows[i].format, {0}}};
+        sms_deliver_fields deliver = {rows[i].segments, 0, 0, 0, 0, 0, {{0}}};
+        const uint8_t *text = rows[i].text == NULL ? too_long : (const uint8_t *)rows[i].text;
+        size_t size = rows[i].text == NULL ? sizeof too_long : strlen(rows[i].text), needed, segments;
+        const uint8_t *address = (const uint8_t *)rows[i].address;
+        uint8_t out[SMS_UNIT_MAX];
+        memset(out, 0xA5, sizeof out);
+        CHECK(sms_submit_write(&submit, address, strlen(rows[i].address), text, size, rows[i].index, out, rows[i].room, &needed,
+                               &segments) == rows[i].status);
+        CHECK(segments == rows[i].cut && (needed != 0) == (rows[i].status == SMS_OK || rows[i].status == SMS_NO_ROOM));
+        CHECK((out[0] != 0xA5) == (rows[i].status == SMS_OK));
+        memset(out, 0xA5, sizeof out);
+        CHECK(sms_deliver_write(&deliver, address, strlen(rows[i].address), text, size, rows[i].index, out, rows[i].room, &needed,
+                                &segments) == rows[i].status);
+        CHECK(segments == rows[i].cut && (needed != 0) == (rows[i].status == SMS_OK || rows[i].status == SMS_NO_ROOM));
+        CHECK((out[0] != 0xA5) == (rows[i].status == SMS_OK));
+    }
+    sms_submit_fields submit = {{8, 0}, 0, 0, 0, 0, 0, {4, {0}}};
+    size_t needed, segments;
+    CHECK(sms_submit_write(&submit, (const uint8_t *)"\xff", 1, too_long, 1, 0, NULL, 0, &needed, &segments) == SMS_OUT_OF_RANGE);
+    static const struct {
+        sms_reference reference;
+        const char *text;
+        size_t room, spans;
+        sms_status status;
+    } splits[] = {
+        {{8, 255}, "hello", 6, 1, SMS_OK},
+        {{16, 256}, "hello", 5, 1, SMS_NO_ROOM},
+        {{16, 256}, "hello", 6, 0, SMS_NO_ROOM},
+        {{8, 256}, "\xff", 6, 1, SMS_OUT_OF_RANGE},
+        {{15, 0}, NULL, 6, 1, SMS_OUT_OF_RANGE},
+        {{8, 0}, "\xff", 6, 1, SMS_NOT_UTF8},
+        {{8, 0}, NULL, 6, 1, SMS_TOO_LONG},
+    };
+    for (size_t i = 0; i < sizeof splits / sizeof splits[0]; i++) {
+        const uint8_t *text = splits[i].text == NULL ? too_long : (const uint8_t *)splits[i].text;
+        size_t size = splits[i].text == NULL ? sizeof too_long : strlen(splits[i].text);
+        int cut = splits[i].status == SMS_OK || splits[i].status == SMS_NO_ROOM;
+        uint8_t out[6] = {0xA5}, dcs = 77;
+        sms_span span = {77, 77};
+        segments = 77;
+        CHECK(sms_split(&splits[i].reference, text, size, out, splits[i].room, &needed, &span, splits[i].spans, &segments, &dcs)
+              == splits[i].status);
+        CHECK(segments == (cut ? 1 : 77) && dcs == (cut ? 0 : 77) && needed == (cut ? 6 : 0));
+        CHECK((out[0] == 5 && span.offset == 0 && span.length == 6) == (splits[i].status == SMS_OK));
+        CHECK((out[0] == 0xA5 && span.offset == 77 && span.length == 77) == (splits[i].status != SMS_OK));
+    }
+}
+
+static void statuses_of_packets(void)
+{
+    enum { DATA, ACK, ERROR, CP_ACK, CP_ERROR };
+    static const uint8_t unit[234] = {0};
+    static const struct {
+        int call;
+        sms_envelope envelope;
+        uint8_t cause;
+        const char *address;
+        size_t unit, room;
+        sms_status status;
+    } rows[] = {
+        {DATA, {1, 6, 1, 9}, 0, "+12345678901234567890", 233, 258, SMS_OK},
+        {DATA, {0, 0, 0, 9}, 0, "", 0, 7, SMS_NO_ROOM},
+        {DATA, {2, 6, 1, 9}, 0, "\xff", 234, 258, SMS_OUT_OF_RANGE},
+        {DATA, {0, 7, 1, 9}, 0, "+1", 1, 258, SMS_OUT_OF_RANGE},
+        {DATA, {0, 0, 2, 9}, 0, "+1", 1, 258, SMS_OUT_OF_RANGE},
+        {DATA, {0, 0, 0, 9}, 0, "\xff", 234, 258, SMS_NOT_UTF8},
+        {DATA, {0, 0, 0, 9}, 0, "name", 234, 258, SMS_BAD_ADDRESS},
+        {DATA, {0, 0, 0, 9}, 0, "123456789012345678901", 1, 258, SMS_BAD_ADDRESS},
+        {DATA, {0, 0, 0, 9}, 0, "+1", 234, 258, SMS_TOO_LONG},
+        {ACK, {1, 6, 1, 9}, 0, "", 233, 258, SMS_OK},
+        {ACK, {1, 6, 1, 9}, 0, "", 0, 4, SMS_NO_ROOM},
+        {ACK, {2, 0, 0, 9}, 0, "", 234, 258, SMS_OUT_OF_RANGE},
+        {ACK, {0, 7, 0, 9}, 0, "", 0, 258, SMS_OUT_OF_RANGE},
+        {ACK, {0, 0, 2, 9}, 0, "", 0, 258, SMS_OUT_OF_RANGE},
+        {ACK, {0, 0, 0, 9}, 0, "", 234, 258, SMS_TOO_LONG},
+        {ERROR, {1, 6, 1, 9}, 127, "", 233, 258, SMS_OK},
+        {ERROR, {1, 6, 1, 9}, 0, "", 0, 6, SMS_NO_ROOM},
+        {ERROR, {0, 0, 0, 9}, 128, "", 234, 258, SMS_OUT_OF_RANGE},
+        {ERROR, {2, 0, 0, 9}, 0, "", 0, 258, SMS_OUT_OF_RANGE},
+        {ERROR, {0, 7, 0, 9}, 0, "", 0, 258, SMS_OUT_OF_RANGE},
+        {ERROR, {0, 0, 2, 9}, 0, "", 0, 258, SMS_OUT_OF_RANGE},
+        {ERROR, {0, 0, 0, 9}, 0, "", 234, 258, SMS_TOO_LONG},
+        {CP_ACK, {1, 6, 99, 9}, 0, "", 0, 2, SMS_OK},
+        {CP_ACK, {1, 6, 99, 9}, 0, "", 0, 1, SMS_NO_ROOM},
+        {CP_ACK, {2, 6, 0, 9}, 0, "", 0, 2, SMS_OUT_OF_RANGE},
+        {CP_ACK, {0, 7, 0, 9}, 0, "", 0, 2, SMS_OUT_OF_RANGE},
+        {CP_ERROR, {1, 6, 99, 9}, 255, "", 0, 3, SMS_OK},
+        {CP_ERROR, {1, 6, 99, 9}, 255, "", 0, 2, SMS_NO_ROOM},
+        {CP_ERROR, {2, 6, 0, 9}, 0, "", 0, 3, SMS_OUT_OF_RANGE},
+        {CP_ERROR, {0, 7, 0, 9}, 0, "", 0, 3, SMS_OUT_OF_RANGE},
+    };
+    for (size_t i = 0; i < sizeof rows / sizeof rows[0]; i++) {
+        const sms_envelope *envelope = &rows[i].envelope;
+        const uint8_t *address = (const uint8_t *)rows[i].address;
+        uint8_t out[SMS_PACKET_MAX], cause = rows[i].cause;
+        size_t needed = 77, size = strlen(rows[i].address), room = rows[i].room;
+        sms_status status = SMS_CLOSED;
+        memset(out, 0xA5, sizeof out);
+        switch (rows[i].call) {
+        case DATA: status = sms_wrap_data(envelope, address, size, unit, rows[i].unit, out, room, &needed); break;
+        case ACK: status = sms_wrap_ack(envelope, unit, rows[i].unit, out, room, &needed); break;
+        case ERROR: status = sms_wrap_error(envelope, cause, unit, rows[i].unit, out, room, &needed); break;
+        case CP_ACK: status = sms_cp_ack(envelope, out, room, &needed); break;
+        case CP_ERROR: status = sms_cp_error(envelope, cause, out, room, &needed); break;
+        }
+        if (status != rows[i].status) {
+            printf("packet %zu: status %u\n", i, (unsigned)status);
+            failures++;
+        }
+        CHECK((needed == 0) == (rows[i].status != SMS_OK && rows[i].status != SMS_NO_ROOM));
+        CHECK((needed > room) == (rows[i].status == SMS_NO_ROOM));
+        CHECK((out[0] == 0xA5) == (rows[i].status != SMS_OK));
+    }
+}
+
+/* a joiner that is closed, then open for one message, then full, then closed */
+static void statuses_of_joiner(void)
+{
+    size_t count, needed = 77;
+    /* the first of two segments under a reference of 8 bits */
+    uint8_t *octets = block("440BC87238880900F100009930925161958008050003090201C2", &count);
+    sms_joiner joiner = SMS_JOINER_CLOSED;
+    sms_refused refused = {77, 77};
+    uint32_t outcome = 77;
+    uint8_t finishes = 77, text[1];
+    CHECK(sms_joiner_offer(&joiner, 0, octets, 3, &outcome, &refused) == SMS_CLOSED);
+    CHECK(sms_joiner_would_finish(&joiner, octets, 3, &finishes, &refused) == SMS_CLOSED);
+    CHECK(sms_joiner_text(&joiner, text, 1, &needed) == SMS_CLOSED && needed == 0);
+    CHECK(sms_joiner_age(&joiner, 0) == SMS_CLOSED);
+    CHECK(sms_joiner_open(&joiner, 0, SIZE_MAX) == SMS_OUT_OF_RANGE && sms_joiner_open(&joiner, 1, SIZE_MAX) == SMS_NO_MEMORY);
+    CHECK(sms_joiner_open(&joiner, 1, 1) == SMS_OK);
+    CHECK(sms_joiner_would_finish(&joiner, octets, count, &finishes, &refused) == SMS_OK && finishes == 0);
+    CHECK(sms_joiner_offer(&joiner, 0, octets, count, &outcome, &refused) == SMS_OK && outcome == SMS_KEPT);
+    octets[22] = 0x0A; /* another reference */
+    CHECK(sms_joiner_would_finish(&joiner, octets, count, &finishes, &refused) == SMS_OK && finishes == 0);
+    CHECK(sms_joiner_offer(&joiner, 0, octets, count, &outcome, &refused) == SMS_TOO_MANY_OPEN);
+    octets[10] = 0x04; /* 8-bit data, 7 octets of them */
+    octets[18] = 7;
+    CHECK(sms_joiner_would_finish(&joiner, octets, count, &finishes, &refused) == SMS_NOT_THERE);
+    CHECK(sms_joiner_offer(&joiner, 0, octets, count, &outcome, &refused) == SMS_NOT_THERE);
+    CHECK(outcome == SMS_KEPT && finishes == 0 && refused.place == 77 && refused.reason == 77);
+    CHECK(sms_joiner_would_finish(&joiner, octets, 3, &finishes, &refused) == SMS_REFUSED && refused.place == 3);
+    CHECK(sms_joiner_offer(&joiner, 0, octets, 2, &outcome, &refused) == SMS_REFUSED && refused.place == 2);
+    CHECK(outcome == SMS_KEPT && finishes == 0);
+    CHECK(sms_joiner_text(&joiner, NULL, 0, &needed) == SMS_OK && needed == 0 && sms_joiner_age(&joiner, 0) == SMS_OK);
+    free(octets);
+    octets = block("040BC87238880900F10000993092516195800141", &count);
+    CHECK(sms_joiner_would_finish(&joiner, octets, count, &finishes, &refused) == SMS_OK && finishes == 1);
+    CHECK(sms_joiner_offer(&joiner, 0, octets, count, &outcome, &refused) == SMS_OK && outcome == SMS_FINISHED);
+    CHECK(sms_joiner_text(&joiner, text, 0, &needed) == SMS_NO_ROOM && needed == 1);
+    CHECK(sms_joiner_age(&joiner, 604800) == SMS_OK); /* the text stays */
+    CHECK(sms_joiner_text(&joiner, text, 1, &needed) == SMS_OK && needed == 1 && text[0] == 'A');
+    CHECK(sms_joiner_offer(&joiner, 0, octets, count, &outcome, &refused) == SMS_OK && outcome == SMS_REPEAT);
+    CHECK(sms_joiner_open(&joiner, 1, 1) == SMS_OK); /* nothing is left of it */
+    CHECK(sms_joiner_text(&joiner, text, 1, &needed) == SMS_OK && needed == 0);
+    CHECK(sms_joiner_offer(&joiner, 0, octets, count, &outcome, &refused) == SMS_OK && outcome == SMS_FINISHED);
+    sms_joiner_close(&joiner);
+    CHECK(sms_joiner_age(&joiner, 0) == SMS_CLOSED);
+    free(octets);
+}
+
 typedef sms_status (*reader)(const uint8_t *, size_t, sms_refused *);
 static sms_status deliver(const uint8_t *octets, size_t count, sms_refused *refused)
 {
@@ -631,6 +929,11 @@ int main(int argc, char **argv)
     limits();
     uncut();
     no_text();
+    statuses_of_texts();
+    statuses_of_times();
+    statuses_of_writers();
+    statuses_of_packets();
+    statuses_of_joiner();
     cuts();
     rubbish(argc > 1 ? (unsigned)strtoul(argv[1], NULL, 10) : 200000);
     printf("%d failures\n", failures);

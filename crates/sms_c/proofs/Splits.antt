@@ -97,14 +97,16 @@ one_scheme width text segments are =
     alike (scheme_in (alphabet_of text)) segments (all_in (alphabet_of text) segments l.0 (are.2.units ∙ l.1))
 
 -- what becomes of them
-pub of_split : (reference : Reference) (text : List ℕ) (count dcs : ℕ) (Out : List ℕ → List Span → Type 0) (width : Width) (segments : List Segment) (octets same : List ℕ) (spans told : List Span) → reference.width ≡ bits_of width → AreSegments width (chars text) segments → count ≡ length segments → dcs ≡ first_scheme segments → AreUsers width reference.reference segments octets spans → same ≡ octets → told ≡ spans → Out same told → OfSplit reference text count dcs Out
-of_split reference text count dcs Out width segments octets same spans told width_is cut counted first users is_octets is_spans out =
+pub of_split : (reference : Reference) (text inner : List ℕ) (count dcs : ℕ) (Out : List ℕ → List Span → Type 0) (width : Width) (segments : List Segment) (octets same : List ℕ) (spans told : List Span) → reference.width ≡ bits_of width → inner ≡ text → AreSegments width (chars inner) segments → count ≡ length segments → count ≤ 255 → dcs ≡ first_scheme segments → AreUsers width reference.reference segments octets spans → same ≡ octets → told ≡ spans → Out same told → OfSplit reference text count dcs Out
+of_split reference text inner count dcs Out width segments octets same spans told width_is same_text whole counted few first users is_octets is_spans out =
+    let cut : AreSegments width (chars text) segments = subst (λ (l : List ℕ). AreSegments width (chars l) segments) same_text whole in
     record {
       width = width;
       width_is = width_is;
       segments = segments;
       cut = cut;
       counted = counted;
+      few = few;
       coded = subst (λ (n : ℕ). AllByRecursion (λ (s : Segment). n ≡ dcs_of s.units) segments) (sym first) (one_scheme width (chars text) segments cut);
       octets = same;
       spans = told;

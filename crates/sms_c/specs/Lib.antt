@@ -3,8 +3,10 @@ pub mod Answered
 pub mod CentreText
 pub mod Class
 pub mod DataWriting
+pub mod Fitting
 pub mod HandedOut
 pub mod Kept
+pub mod Lengths
 pub mod Lying
 pub mod Offers
 pub mod Parts
@@ -21,4 +23,6 @@ pub mod Status
 pub mod StatusReportWriting
 pub mod Times
 pub mod Wrapping
+pub mod WrappingFaults
 pub mod Writing
+pub mod WritingFaults

@@ -14,6 +14,7 @@ use Rattle.sms_tpdu.specs.declared.user_data.concat.Concat.{Concat}
 use Rattle.sms_join.specs.declared.units.Units.{Units}
 use Rattle.sms_join.specs.declared.offer.Offer.{Offer}
 use Rattle.sms_join.specs.declared.offer.Offer.TheVariants.{Repeat, Kept, Finished}
+use Rattle.sms_join.specs.declared.offer.OfferFault.TheVariants.{TooManyOpen}
 use Rattle.sms_join.specs.BodyUnits.{units_of_body}
 use Rattle.sms_join.specs.Piece.{piece_of}
 use Rattle.sms_join.specs.Joiner.{offered}
@@ -71,6 +72,10 @@ RefusesUnit status octets refused =
     status ≡ 1 → (fault : Fault UnitFault)
     × IsFaultOf deliver Short octets fault × (refused ≡ unit_refused fault)
 
+-- no SMS-DELIVER is read
+pub record IsUnread (octets : List ℕ) : Type 0 where
+  pub none : (value : Delivery) (used : ℕ) → Reads deliver value octets used → ⊥
+
 -- the user data are a text: septets of the default alphabet, or UCS-2 (3GPP TS 23.038, 4)
 abbrev pub has_text : Delivery → Bool
 has_text value = is_some (units_of_body (alphabet_at value.dcs) value.user.body)
@@ -81,6 +86,29 @@ pub record HasNoText (octets : List ℕ) : Type 0 where
   pub used : ℕ
   pub read : Reads deliver value octets used
   pub none : has_text value ≡ false
+
+-- an SMS-DELIVER is read, and its user data are a text
+pub record HasText (octets : List ℕ) : Type 0 where
+  pub value : Delivery
+  pub used : ℕ
+  pub read : Reads deliver value octets used
+  pub text : has_text value ≡ true
+
+-- it is read and has a text, and its piece would open one set more than may be open
+pub record OpensTooMany (before : Inside) (seconds : ℕ) (octets : List ℕ) : Type 0 where
+  pub value : Delivery
+  pub used : ℕ
+  pub read : Reads deliver value octets used
+  pub origin : AddressValue
+  pub origin_is : origin ≡ value.origin
+  pub stamp : List ℕ
+  pub stamp_is : stamp ≡ value.stamp
+  pub place : Option Concat
+  pub place_is : place ≡ concat_of_header value.user.header
+  pub units : Units
+  pub units_are : units_of_body (alphabet_at value.dcs) value.user.body ≡ Some units
+  pub says : Says before.joiner.open_max before.joiner.holds
+      (piece_of seconds origin stamp place units) (Err TooManyOpen)
 
 -- under status 8 it is read, and has no text
 abbrev pub LacksText : ℕ → List ℕ → Type 0

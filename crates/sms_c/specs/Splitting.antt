@@ -40,7 +40,8 @@ abbrev pub first_scheme : List Segment → ℕ
 first_scheme [] = 0
 first_scheme (segment ∷ segments) = dcs_of segment.units
 
--- what becomes of the segments of a text that is cut into so many, whose TP-DCS is that of each
+-- what becomes of the segments of a text that is cut into so many, at most 255 (3GPP TS 23.040,
+-- 9.2.3.24.1), whose TP-DCS is that of each
 pub record OfSplit (reference : Reference) (text : List ℕ) (count dcs : ℕ)
     (Out : List ℕ → List Span → Type 0) : Type 0 where
   pub width : Width
@@ -48,6 +49,7 @@ pub record OfSplit (reference : Reference) (text : List ℕ) (count dcs : ℕ)
   pub segments : List Segment
   pub cut : AreSegments width (chars text) segments
   pub counted : count ≡ length segments
+  pub few : count ≤ 255
   pub coded : AllByRecursion (λ segment. dcs ≡ dcs_of segment.units) segments
   pub octets : List ℕ
   pub spans : List Span

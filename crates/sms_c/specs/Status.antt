@@ -25,7 +25,7 @@ status_of why.NotThere = 8
 status_of why.TooManyOpen = 9
 status_of why.Closed = 10
 
-abbrev pub status_in : Result (Unit {0}) Failure → ℕ
+abbrev pub status_in : {A : Type 0} → Result A Failure → ℕ
 status_in (Ok _) = 0
 status_in (Err failure) = status_of failure
 

@@ -1,5 +1,5 @@
 -- What is written of a text.
-use Rattle.std.specs.Prelude.{◌≡◌, ℕ, ◌==◌, if◌then◌else◌, Bool, true, false, List, length, slice_get, Some, Ok}
+use Rattle.std.specs.Prelude.{◌≡◌, ◌≤◌, ℕ, ◌==◌, if◌then◌else◌, Bool, true, false, List, length, slice_get, Some, Ok}
 use Rattle.std.specs.Str.{chars}
 use Rattle.sms_field.specs.Address.Value.{AddressValue}
 use Rattle.sms_field.specs.Address.Text.{address_of_text}
@@ -50,12 +50,14 @@ delivery fields origin width segment =
       user = user_of width fields.segments.reference segment;
     }
 
--- the segment of an index of a text that is cut into so many
+-- the segment of an index of a text that is cut into so many, at most 255 (3GPP TS 23.040,
+-- 9.2.3.24.1)
 pub record IsPieceOf (text : List ℕ) (width : Width) (index count : ℕ) (segment : Segment)
     : Type 0 where
   pub segments : List Segment
   pub cut : AreSegments width (chars text) segments
   pub counted : count ≡ length segments
+  pub few : count ≤ 255
   pub there : slice_get segments index ≡ Some segment
 
 -- what becomes of the segment of an index of a text that is written as an SMS-SUBMIT

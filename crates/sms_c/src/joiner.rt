@@ -1,6 +1,6 @@
 //! A joiner that C keeps.
 
-ghost use Rattle.std.specs.Prelude.{◌≡◌, ◌≢◌, ◌≤◌, ◌<◌, ◌⊎◌, ◌↔◌, ℕ, length, true, false, is_some, Some, None, Err, IsSome, MatchOption, MatchResult, IfSome, IfOk, IfErr, OnErr};
+ghost use Rattle.std.specs.Prelude.{[], ◌≡◌, ◌≢◌, ◌≤◌, ◌<◌, ◌⊎◌, ◌↔◌, ℕ, length, true, false, is_some, Some, None, Err, IsSome, MatchOption, MatchResult, IfSome, IfOk, IfErr, OnErr};
 ghost use Rattle.std.specs.String.{string_bytes};
 ghost use Rattle.sms_field.specs.Reading.{Reads};
 ghost use Rattle.sms_tpdu.specs.Deliver.{Delivery, deliver};
@@ -11,7 +11,7 @@ ghost use Rattle.sms_join.specs.Joiner.Aging.{aged};
 ghost use Rattle.sms_join.specs.Joiner.{new_joiner};
 ghost use Rattle.sms_join.specs.Joiner.Value.{SameLimits};
 ghost use Rattle.sms_join.specs.Joiner.Same.{IsSame};
-ghost use Rattle.sms_c.specs.Offers.{has_text, HasNoText, LacksText, Offers, OnOkIs, RefusesUnit, WouldFinish};
+ghost use Rattle.sms_c.specs.Offers.{has_text, HasNoText, HasText, IsUnread, LacksText, OpensTooMany, Offers, OnOkIs, RefusesUnit, WouldFinish};
 ghost use Rattle.sms_c.specs.HandedOut.{ArePut, LackRoom};
 ghost use Rattle.sms_c.specs.Kept.{count};
 ghost use Rattle.sms_c.specs.Status as numbers;
@@ -30,7 +30,7 @@ use crate::status::{Failure, OK, Refused, status_of, unit_refused};
 use sms_field::{Alphabet, alphabet_of};
 use sms_join::{Joiner, Offer, OfferFault, Units};
 use sms_tpdu::{BodyView, DeliverView};
-use std::alloc::Global;
+use std::alloc::{AllocError, Global};
 use std::mem;
 
 /// A joiner in C's memory: closed, or with what it holds.
@@ -79,6 +79,7 @@ fn opened(alloc: Global, open_max: usize, remembered: usize) -> Result<Box<Insid
     requires keys { 0 < remembered }
     ensures holds { IfOk result (λ inside. inside.value.joiner
         ≡ record { open_max = open_max; remembered = remembered; holds = new_joiner }) }
+    ensures text { IfOk result (λ inside. string_bytes inside.value.text ≡ []) }
     ensures memory { IfErr result (λ why. why ≡ Memory) }
 {
     let joiner = Joiner::new(alloc, open_max, remembered)?;
@@ -97,7 +98,10 @@ pub extern "C" fn sms_joiner_open(
     ensures range { (result ≡ 7) ↔ ((open_max ≡ 0) ⊎ (remembered ≡ 0)) }
     ensures same { result ≡ 7 → handle.new ≡ handle.old }
     ensures closed { result ≢ 0 → result ≢ 7 → handle.new.kept.held ≡ None }
+    ensures answered { result ≢ 7 → (result ≡ 0) ⊎ (result ≡ 2) }
     ensures held { result ≡ 0 → count handle.new.kept.held ≡ 1 }
+    ensures text { result ≡ 0 → IfSome handle.new.kept.held (λ inside.
+        string_bytes inside.text ≡ []) }
     ensures holds { result ≡ 0 → IfSome handle.new.kept.held (λ inside. inside.joiner
         ≡ record { open_max = open_max; remembered = remembered; holds = new_joiner }) }
 {
@@ -129,8 +133,10 @@ fn delivered<'a>(octets: &'a [u8], refused: &mut Refused) -> Result<DeliverView<
     ensures read { IfOk result (λ view. (used : ℕ) × Reads deliver view octets.now used) }
     ensures exact { (value : Delivery) (used : ℕ) → Reads deliver value octets.now used
         → MatchResult result (λ view. view ≡ value) (λ _. ⊥) }
+    ensures unread { (numbers.status_in result ≡ 1) ↔ IsUnread octets.now }
     ensures refused { IfErr result (λ why. (why ≡ TheRefused)
         × RefusesUnit 1 octets.now refused.new) }
+    ensures untold { IfOk result (λ _. refused.new ≡ refused.old) }
 {
     match DeliverView::read(octets) {
         Ok((view, _)) => Ok(view),
@@ -152,18 +158,32 @@ fn is_text(alphabet: Alphabet, body: &BodyView) -> bool
     }
 }
 
-/// The units of an SMS-DELIVER, where it has a text.
-fn units_of(alloc: Global, view: &DeliverView) -> Result<Units, Failure>
-    ensures units { IfOk result (λ units.
-        units_of_body (alphabet_at view.now.dcs) view.now.user.body ≡ Some units) }
-    ensures read { IfErr result (λ why. numbers.status_of why ≡ 1 → ⊥) }
-    ensures no_text { IfErr result (λ why. numbers.status_of why ≡ 8
-        → has_text view.now ≡ false) }
+/// An SMS-DELIVER that has a text.
+fn told<'a>(octets: &'a [u8], refused: &mut Refused) -> Result<DeliverView<'a>, Failure>
+    ensures read { IfOk result (λ view. (used : ℕ) × Reads deliver view octets.now used) }
+    ensures text { IfOk result (λ view. has_text view ≡ true) }
+    ensures unread { (numbers.status_in result ≡ 1) ↔ IsUnread octets.now }
+    ensures no_text { (numbers.status_in result ≡ 8) ↔ HasNoText octets.now }
+    ensures answered { IfErr result (λ why. (why ≡ TheRefused) ⊎ (why ≡ NotThere)) }
+    ensures refused { RefusesUnit (numbers.status_in result) octets.now refused.new }
+    ensures untold { (numbers.status_in result ≡ 1 → ⊥) → refused.new ≡ refused.old }
 {
-    let alphabet = alphabet_of(view.dcs);
-    match Units::of_body_view(alloc, alphabet, &view.user.body())? {
+    let view = delivered(octets, refused)?;
+    if !is_text(alphabet_of(view.dcs), &view.user.body()) {
+        return Err(Failure::NotThere);
+    }
+    Ok(view)
+}
+
+/// The units of an SMS-DELIVER that has a text.
+fn units_of(alloc: Global, view: &DeliverView) -> Result<Units, AllocError>
+    requires { has_text view.now ≡ true }
+    ensures { IfOk result (λ units.
+        units_of_body (alphabet_at view.now.dcs) view.now.user.body ≡ Some units) }
+{
+    match Units::of_body_view(alloc, alphabet_of(view.dcs), &view.user.body())? {
         Some(units) => Ok(units),
-        None => Err(Failure::NotThere),
+        None => unreachable!(),
     }
 }
 
@@ -176,12 +196,18 @@ fn offered(
     refused: &mut Refused,
 ) -> Result<u32, Failure>
     ensures same { OnErr result (inside.new ≡ inside.old) }
-    ensures refused { IfErr result (λ why. RefusesUnit (numbers.status_of why) octets.now
-        refused.new) }
-    ensures no_text { IfErr result (λ why. LacksText (numbers.status_of why) octets.now) }
+    ensures refused { RefusesUnit (numbers.status_in result) octets.now refused.new }
+    ensures no_text { (numbers.status_in result ≡ 8) ↔ HasNoText octets.now }
+    ensures unread { (numbers.status_in result ≡ 1) ↔ IsUnread octets.now }
+    ensures untold { (numbers.status_in result ≡ 1 → ⊥) → refused.new ≡ refused.old }
+    ensures too_many { numbers.status_in result ≡ 9
+        → OpensTooMany inside.old seconds octets.now }
+    ensures memory { numbers.status_in result ≡ 2 → HasText octets.now }
+    ensures answered { IfErr result (λ why. numbers.status_of why < 10
+        × (numbers.status_of why < 3 ⊎ 7 < numbers.status_of why)) }
     ensures offers { OnOkIs result (Offers inside.old inside.new seconds octets.now) }
 {
-    let view = delivered(octets, refused)?;
+    let view = told(octets, refused)?;
     let units = units_of(alloc, &view)?;
     let origin = view.origin.to_value(alloc)?;
     let place = view.user.concat();
@@ -216,6 +242,14 @@ pub extern "C" fn sms_joiner_offer(
     ensures outcome { (result ≡ 0 → ⊥) → outcome.new ≡ outcome.old }
     ensures refused { RefusesUnit result octets.now refused.new }
     ensures no_text { LacksText result octets.now }
+    ensures not_there { IsSome handle.old.kept.held → HasNoText octets.now → result ≡ 8 }
+    ensures unread { IsSome handle.old.kept.held → (result ≡ 1) ↔ IsUnread octets.now }
+    ensures untold { (result ≡ 1 → ⊥) → refused.new ≡ refused.old }
+    ensures too_many { result ≡ 9 → IfSome handle.old.kept.held (λ before.
+        OpensTooMany before seconds octets.now) }
+    ensures memory { result ≡ 2 → HasText octets.now }
+    ensures answered { IsSome handle.old.kept.held
+        → (result < 10) × ((result < 3) ⊎ (7 < result)) }
     ensures offers { result ≡ 0 → IfSome handle.old.kept.held (λ before.
         IfSome handle.new.kept.held (λ after.
         Offers before after seconds octets.now outcome.new)) }
@@ -268,16 +302,15 @@ fn finishes(
     octets: &[u8],
     refused: &mut Refused,
 ) -> Result<u8, Failure>
-    ensures refused { IfErr result (λ why. RefusesUnit (numbers.status_of why) octets.now
-        refused.new) }
-    ensures no_text { IfErr result (λ why. LacksText (numbers.status_of why) octets.now) }
-    ensures not_there { HasNoText octets.now → result ≡ Err NotThere }
+    ensures refused { RefusesUnit (numbers.status_in result) octets.now refused.new }
+    ensures no_text { (numbers.status_in result ≡ 8) ↔ HasNoText octets.now }
+    ensures unread { (numbers.status_in result ≡ 1) ↔ IsUnread octets.now }
+    ensures untold { (numbers.status_in result ≡ 1 → ⊥) → refused.new ≡ refused.old }
+    ensures answered { IfErr result (λ why. (numbers.status_of why ≡ 1)
+        ⊎ (numbers.status_of why ≡ 8)) }
     ensures finishes { OnOkIs result (WouldFinish inside.now octets.now) }
 {
-    let view = delivered(octets, refused)?;
-    if !is_text(alphabet_of(view.dcs), &view.user.body()) {
-        return Err(Failure::NotThere);
-    }
+    let view = told(octets, refused)?;
     let origin = view.origin.to_value(alloc)?;
     let place = view.user.concat();
     Ok(bit(inside.joiner.would_finish(&origin, view.stamp, place)))
@@ -298,6 +331,10 @@ pub extern "C" fn sms_joiner_would_finish(
     ensures refused { RefusesUnit result octets.now refused.new }
     ensures no_text { LacksText result octets.now }
     ensures not_there { IsSome handle.old.kept.held → HasNoText octets.now → result ≡ 8 }
+    ensures unread { IsSome handle.old.kept.held → (result ≡ 1) ↔ IsUnread octets.now }
+    ensures untold { (result ≡ 1 → ⊥) → refused.new ≡ refused.old }
+    ensures answered { IsSome handle.old.kept.held
+        → (result ≡ 0) ⊎ (result ≡ 1) ⊎ (result ≡ 8) }
     ensures finishes { result ≡ 0 → IfSome handle.old.kept.held (λ inside.
         WouldFinish inside octets.now answer.new) }
 {
@@ -324,6 +361,9 @@ pub extern "C" fn sms_joiner_age(alloc: Global, handle: &mut Handle, seconds: u6
         × IfSome handle.new.kept.held (λ after.
         IsSame after.joiner.holds (aged seconds before.joiner.holds)
         × SameLimits after.joiner before.joiner)) }
+    ensures text { IfSome handle.old.kept.held (λ before.
+        IfSome handle.new.kept.held (λ after.
+        string_bytes after.text ≡ string_bytes before.text)) }
 {
     let Some(mut inside) = mem::replace(handle, Handle::closed(alloc)).into_box() else {
         return Failure::Closed.status();

@@ -122,6 +122,7 @@ fn cp_seen(view: &CpView, used: usize) -> CpSeen
 #[unsafe(no_mangle)]
 pub extern "C" fn sms_cp_read(octets: &[u8], out: &mut CpSeen, refused: &mut Refused) -> u32
     ensures status { result < 2 }
+    ensures untold { result ≡ 0 → refused.new ≡ refused.old }
     ensures read { result ≡ 0 → (value : CpValue)
         × Reads cp_message value octets.now out.new.used × ShowsCp value octets.now out.new }
     ensures refused { result ≡ 1 → (fault : TheFault RelayFault)
@@ -257,6 +258,7 @@ fn rp_seen(octets: &[u8], view: &RpView, used: usize) -> RpSeen
 #[unsafe(no_mangle)]
 pub extern "C" fn sms_rp_read(octets: &[u8], out: &mut RpSeen, refused: &mut Refused) -> u32
     ensures status { result < 2 }
+    ensures untold { result ≡ 0 → refused.new ≡ refused.old }
     ensures read { result ≡ 0 → (value : RpValue)
         × Reads rp_message value octets.now out.new.used × ShowsRp value octets.now out.new }
     ensures refused { result ≡ 1 → (fault : TheFault RelayFault)

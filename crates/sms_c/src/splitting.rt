@@ -1,13 +1,15 @@
 //! Texts split: the user data of all segments.
 
-ghost use Rattle.std.specs.Prelude.{◌≡◌, ◌<◌, All, Err, IfOk, IfErr, OnErr};
+ghost use Rattle.std.specs.Prelude.{◌≡◌, ◌≢◌, ◌<◌, ◌↔◌, All, Err, IfOk, IfErr, OnErr};
+ghost use Rattle.std.specs.Str.{IsUtf8};
 ghost use Rattle.sms_tpdu.specs.declared.user_data.concat.Width.TheVariants.{Eight};
 ghost use Rattle.sms_join.specs.Segments.User.{IsSendable};
 ghost use Rattle.sms_c.specs.Splitting.{first_scheme, AreUsers, OfSplit, BothArePut, OneLacksRoom};
-ghost use Rattle.sms_c.specs.Status.{IsNotRoom};
+ghost use Rattle.sms_c.specs.Status.{status_in, IsNotRoom};
+ghost use Rattle.sms_c.specs.WritingFaults.{FitsReference, TakesTooMany};
 ghost use Rattle.sms_c.specs.declared.status.Failure.TheVariants.{NoRoom};
 
-use crate::out::hand_out;
+use crate::out::{hand_out, text_of};
 use crate::parts::Span;
 use crate::status::{Failure, status_of};
 use crate::writing::{Reference, segments_of, width_of};
@@ -85,6 +87,11 @@ fn put_split(
     count: &mut usize,
     dcs: &mut u8,
 ) -> Result<(), Failure>
+    ensures range { (status_in result ≡ 7) ↔ (FitsReference reference → ⊥) }
+    ensures not_utf8 { (status_in result ≡ 4)
+        ↔ (FitsReference reference × (IsUtf8 text.now → ⊥)) }
+    ensures too_long { status_in result ≡ 6 → TakesTooMany reference text.now }
+    ensures answered { (status_in result < 8) × (status_in result ≢ 1) × (status_in result ≢ 5) }
     ensures put { IfOk result (λ _. OfSplit reference text.now count.new dcs.new
         (BothArePut out.old out.new needed.new spans.old spans.new)) }
     ensures no_room { result ≡ Err NoRoom → OfSplit reference text.now count.new dcs.new
@@ -95,7 +102,8 @@ fn put_split(
         → (count.new ≡ count.old) × (dcs.new ≡ dcs.old)) }
 {
     let width = width_of(reference)?;
-    let segments = segments_of(alloc, text, width)?;
+    let text = text_of(text)?;
+    let segments = segments_of(alloc, text, reference, width)?;
     let (octets, told) = users_of(alloc, &segments, width, reference.reference)?;
     *count = segments.len();
     *dcs = coding_scheme(&segments);
@@ -114,6 +122,11 @@ pub extern "C" fn sms_split(
     count: &mut usize,
     dcs: &mut u8,
 ) -> u32
+    ensures range { (result ≡ 7) ↔ (FitsReference reference.now → ⊥) }
+    ensures not_utf8 { (result ≡ 4)
+        ↔ (FitsReference reference.now × (IsUtf8 text.now → ⊥)) }
+    ensures too_long { result ≡ 6 → TakesTooMany reference.now text.now }
+    ensures answered { (result < 8) × (result ≢ 1) × (result ≢ 5) }
     ensures put { result ≡ 0 → OfSplit reference.now text.now count.new dcs.new
         (BothArePut out.old out.new needed.new spans.old spans.new) }
     ensures no_room { result ≡ 3 → OfSplit reference.now text.now count.new dcs.new

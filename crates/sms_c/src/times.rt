@@ -1,6 +1,6 @@
 //! Stamps and validity periods.
 
-ghost use Rattle.std.specs.Prelude.{◌≡◌, ◌<◌, ◌≤◌, ◌^◌, ◌↔◌, IfSome};
+ghost use Rattle.std.specs.Prelude.{◌≡◌, ◌<◌, ◌≤◌, ◌^◌, ◌↔◌, IfSome, MatchOption};
 ghost use Rattle.sms_field.specs.Time.StampDate.{date_in, IsDate};
 ghost use Rattle.sms_field.specs.Time.Stamping.{HasStamp, IsStampAt};
 ghost use Rattle.sms_field.specs.Time.Computed.{moment_of};
@@ -65,6 +65,7 @@ impl ValidityOctets {
     pub fn validity(self) -> Option<Validity>
         ensures is { result ≡ seen.validity_of self }
         ensures in_range { IfSome result IsInRange }
+        ensures format { MatchOption result (4 ≤ self.format) (λ _. self.format < 4) }
     {
         match self.format {
             0 => Some(Validity::Absent),

@@ -1,22 +1,24 @@
 //! Packets written around units.
 
-ghost use Rattle.std.specs.Prelude.{◌≡◌, Some, None, Err, IfOk, IfErr, OnErr};
+ghost use Rattle.std.specs.Prelude.{◌≡◌, ◌≤◌, length, Some, None, Err, IfOk, IfErr, MatchResult, OnErr};
 ghost use Rattle.sms_relay.specs.Cp.Value.{IsCpBody};
 ghost use Rattle.sms_relay.specs.Rp.{SpellsRp};
 ghost use Rattle.sms_relay.specs.Rp.UserData.{IsOptionalUserData, IsUserData};
 ghost use Rattle.sms_relay.specs.declared.cp.CpBody.TheVariants as cp;
 ghost use Rattle.sms_c.specs.HandedOut.{ArePut, LackRoom};
 ghost use Rattle.sms_c.specs.SeenRelay as seen;
-ghost use Rattle.sms_c.specs.Status.{IsNotRoom};
+ghost use Rattle.sms_c.specs.Fitting.{IsAnswered};
+ghost use Rattle.sms_c.specs.Status.{IsNotRoom, status_in};
 ghost use Rattle.sms_c.specs.Wrapping.{unit_in, IsCentre, OfCp, OfRelay, OfData, OfAnswer};
-ghost use Rattle.sms_c.specs.declared.status.Failure.TheVariants.{NoRoom};
+ghost use Rattle.sms_c.specs.WrappingFaults.{ack_fault, centre_fault, data_fault, envelope_fault, error_fault, transaction_fault, unit_fault, IsTold};
+ghost use Rattle.sms_c.specs.declared.status.Failure.TheVariants.{Memory, NoRoom};
 
 use crate::out::{hand_out, text_of};
 use crate::status::{Failure, status_of};
 use sms_field::RpAddress;
-use sms_relay::{CP_USER_DATA_MAX, CpBody, CpMessage, RpBody, RpMessage, Side, USER_DATA_MAX};
+use sms_relay::{CpBody, CpMessage, RpBody, RpMessage, Side, USER_DATA_MAX};
 use sms_tpdu::{Octets, Unit};
-use std::alloc::Global;
+use std::alloc::{AllocError, Global};
 
 /// The transaction of a packet, and the reference of its message.
 #[repr(C)]
@@ -32,12 +34,25 @@ pub struct Envelope {
     pub reference: u8,
 }
 
-/// The side of a number.
-fn side_of(side: u8) -> Result<Side, Failure>
-    ensures side { IfOk result (λ found. side ≡ seen.side_number found) }
-    ensures room { IfErr result IsNotRoom }
+/// Looks at the transaction of a packet.
+fn check_transaction(envelope: Envelope) -> Result<(), Failure>
+    ensures { MatchResult result (λ _. transaction_fault envelope ≡ None)
+        (λ why. transaction_fault envelope ≡ Some why) }
 {
-    match side {
+    if envelope.value > 6 || envelope.flag > 1 {
+        return Err(Failure::OutOfRange);
+    }
+    Ok(())
+}
+
+/// The side of a packet, whose transaction is looked at before.
+fn side_of(envelope: Envelope) -> Result<Side, Failure>
+    ensures fault { MatchResult result (λ _. envelope_fault envelope ≡ None)
+        (λ why. envelope_fault envelope ≡ Some why) }
+    ensures side { IfOk result (λ found. envelope.side ≡ seen.side_number found) }
+{
+    check_transaction(envelope)?;
+    match envelope.side {
         0 => Ok(Side::FromPhone),
         1 => Ok(Side::ToPhone),
         _ => Err(Failure::OutOfRange),
@@ -53,6 +68,7 @@ fn put_packet(
     needed: &mut usize,
 ) -> Result<(), Failure>
     requires { IsCpBody body }
+    ensures told { IsTold (status_in result) (transaction_fault envelope) }
     ensures put { IfOk result (λ _. OfCp envelope body
         (ArePut out.old out.new needed.new)) }
     ensures no_room { result ≡ Err NoRoom → OfCp envelope body
@@ -60,9 +76,7 @@ fn put_packet(
     ensures none { OnErr result (out.new ≡ out.old) }
     ensures needed { IfErr result (λ why. IsNotRoom why → needed.new ≡ needed.old) }
 {
-    if envelope.value > 6 || envelope.flag > 1 {
-        return Err(Failure::OutOfRange);
-    }
+    check_transaction(envelope)?;
     let message = CpMessage {
         flag: envelope.flag == 1,
         value: envelope.value,
@@ -73,15 +87,13 @@ fn put_packet(
 }
 
 /// The octets of a message of the relay, as user data.
+#[tactic(auto, using(crate::proofs::Packets::message_few))]
 fn relayed(alloc: Global, message: RpMessage) -> Result<Octets, Failure>
     ensures spelled { IfOk result (SpellsRp message) }
     ensures fits { IfOk result (λ octets. IsCpBody (cp.Transfer octets)) }
-    ensures room { IfErr result IsNotRoom }
+    ensures memory { IfErr result (λ why. why ≡ Memory) }
 {
     let octets = message.write(alloc)?;
-    if octets.len() > CP_USER_DATA_MAX {
-        return Err(Failure::TooLong);
-    }
     Ok(Octets::from_slice(alloc, &octets)?)
 }
 
@@ -93,6 +105,8 @@ fn put_message(
     out: &mut [u8],
     needed: &mut usize,
 ) -> Result<(), Failure>
+    requires { transaction_fault envelope ≡ None }
+    ensures answered { IsAnswered (status_in result) }
     ensures put { IfOk result (λ _. OfRelay envelope message
         (ArePut out.old out.new needed.new)) }
     ensures no_room { result ≡ Err NoRoom → OfRelay envelope message
@@ -106,8 +120,9 @@ fn put_message(
 
 /// The address of a service centre that a text spells; none of no text.
 fn centre_of(alloc: Global, text: &[u8]) -> Result<Option<RpAddress>, Failure>
+    ensures fault { MatchResult result (λ _. centre_fault text.now ≡ None)
+        (λ why. centre_fault text.now ≡ Some why) }
     ensures centre { IfOk result (IsCentre text.now) }
-    ensures room { IfErr result IsNotRoom }
 {
     if text.is_empty() {
         return Ok(None);
@@ -116,28 +131,86 @@ fn centre_of(alloc: Global, text: &[u8]) -> Result<Option<RpAddress>, Failure>
     Ok(Some(RpAddress::from_text(alloc, text)?))
 }
 
-/// The octets of a unit, where they are not too many.
-fn unit_of(alloc: Global, unit: &[u8]) -> Result<Octets, Failure>
-    ensures unit { IfOk result (λ octets. octets ≡ unit.now) }
-    ensures fits { IfOk result IsUserData }
-    ensures room { IfErr result IsNotRoom }
+/// Looks at how many octets a unit has.
+fn check_unit(unit: &[u8]) -> Result<(), Failure>
+    ensures { MatchResult result
+        (λ _. (unit_fault unit.now ≡ None) × (length unit.now ≤ 233))
+        (λ why. unit_fault unit.now ≡ Some why) }
 {
     if unit.len() > usize::from(USER_DATA_MAX) {
         return Err(Failure::TooLong);
     }
-    Ok(Octets::from_slice(alloc, unit)?)
+    Ok(())
 }
 
-/// The octets of a unit, where there is one and they are not too many.
-fn some_unit(alloc: Global, unit: &[u8]) -> Result<Option<Octets>, Failure>
+/// The octets of a unit.
+fn unit_of(alloc: Global, unit: &[u8]) -> Result<Octets, AllocError>
+    requires { length unit.now ≤ 233 }
+    ensures unit { IfOk result (λ octets. octets ≡ unit.now) }
+    ensures fits { IfOk result IsUserData }
+{
+    Octets::from_slice(alloc, unit)
+}
+
+/// The octets of a unit, where there is one.
+fn some_unit(alloc: Global, unit: &[u8]) -> Result<Option<Octets>, AllocError>
+    requires { length unit.now ≤ 233 }
     ensures unit { IfOk result (λ octets. octets ≡ unit_in unit.now) }
     ensures fits { IfOk result IsOptionalUserData }
-    ensures room { IfErr result IsNotRoom }
 {
     if unit.is_empty() {
         return Ok(None);
     }
     Ok(Some(unit_of(alloc, unit)?))
+}
+
+/// The side and the address of an RP-DATA, where it has no fault.
+fn data_of(
+    alloc: Global,
+    envelope: Envelope,
+    address: &[u8],
+    unit: &[u8],
+) -> Result<(Side, Option<RpAddress>), Failure>
+    ensures fault { MatchResult result
+        (λ _. data_fault envelope address.now unit.now ≡ None)
+        (λ why. data_fault envelope address.now unit.now ≡ Some why) }
+    ensures side { IfOk result (λ of. envelope.side ≡ seen.side_number of.0) }
+    ensures centre { IfOk result (λ of. IsCentre address.now of.1) }
+    ensures transaction { IfOk result (λ _. transaction_fault envelope ≡ None) }
+    ensures fits { IfOk result (λ _. length unit.now ≤ 233) }
+{
+    let side = side_of(envelope)?;
+    let centre = centre_of(alloc, address)?;
+    check_unit(unit)?;
+    Ok((side, centre))
+}
+
+/// The side of an RP-ACK, where it has no fault.
+fn ack_of(envelope: Envelope, unit: &[u8]) -> Result<Side, Failure>
+    ensures fault { MatchResult result (λ _. ack_fault envelope unit.now ≡ None)
+        (λ why. ack_fault envelope unit.now ≡ Some why) }
+    ensures side { IfOk result (λ side. envelope.side ≡ seen.side_number side) }
+    ensures transaction { IfOk result (λ _. transaction_fault envelope ≡ None) }
+    ensures fits { IfOk result (λ _. length unit.now ≤ 233) }
+{
+    let side = side_of(envelope)?;
+    check_unit(unit)?;
+    Ok(side)
+}
+
+/// The side of an RP-ERROR, where it has no fault.
+fn error_of(envelope: Envelope, cause: u8, unit: &[u8]) -> Result<Side, Failure>
+    ensures fault { MatchResult result (λ _. error_fault envelope cause unit.now ≡ None)
+        (λ why. error_fault envelope cause unit.now ≡ Some why) }
+    ensures side { IfOk result (λ side. envelope.side ≡ seen.side_number side) }
+    ensures transaction { IfOk result (λ _. transaction_fault envelope ≡ None) }
+    ensures cause { IfOk result (λ _. cause ≤ 127) }
+    ensures fits { IfOk result (λ _. length unit.now ≤ 233) }
+{
+    if cause > 127 {
+        return Err(Failure::OutOfRange);
+    }
+    ack_of(envelope, unit)
 }
 
 /// Puts out the packet of an RP-DATA.
@@ -149,6 +222,7 @@ fn put_data(
     out: &mut [u8],
     needed: &mut usize,
 ) -> Result<(), Failure>
+    ensures told { IsTold (status_in result) (data_fault envelope address.now unit.now) }
     ensures put { IfOk result (λ _. OfData envelope address.now unit.now
         (ArePut out.old out.new needed.new)) }
     ensures no_room { result ≡ Err NoRoom → OfData envelope address.now unit.now
@@ -156,9 +230,8 @@ fn put_data(
     ensures none { OnErr result (out.new ≡ out.old) }
     ensures needed { IfErr result (λ why. IsNotRoom why → needed.new ≡ needed.old) }
 {
-    let side = side_of(envelope.side)?;
+    let (side, address) = data_of(alloc, envelope, address, unit)?;
     let user = unit_of(alloc, unit)?;
-    let address = centre_of(alloc, address)?;
     let message = RpMessage {
         side,
         reference: envelope.reference,
@@ -177,6 +250,7 @@ pub extern "C" fn sms_wrap_data(
     out: &mut [u8],
     needed: &mut usize,
 ) -> u32
+    ensures told { IsTold result (data_fault envelope.now address.now unit.now) }
     ensures put { result ≡ 0 → OfData envelope.now address.now unit.now
         (ArePut out.old out.new needed.new) }
     ensures no_room { result ≡ 3 → OfData envelope.now address.now unit.now
@@ -196,6 +270,7 @@ fn put_ack(
     out: &mut [u8],
     needed: &mut usize,
 ) -> Result<(), Failure>
+    ensures told { IsTold (status_in result) (ack_fault envelope unit.now) }
     ensures put { IfOk result (λ _. OfAnswer envelope None unit.now
         (ArePut out.old out.new needed.new)) }
     ensures no_room { result ≡ Err NoRoom → OfAnswer envelope None unit.now
@@ -203,7 +278,7 @@ fn put_ack(
     ensures none { OnErr result (out.new ≡ out.old) }
     ensures needed { IfErr result (λ why. IsNotRoom why → needed.new ≡ needed.old) }
 {
-    let side = side_of(envelope.side)?;
+    let side = ack_of(envelope, unit)?;
     let user = some_unit(alloc, unit)?;
     let message = RpMessage {
         side,
@@ -222,6 +297,7 @@ pub extern "C" fn sms_wrap_ack(
     out: &mut [u8],
     needed: &mut usize,
 ) -> u32
+    ensures told { IsTold result (ack_fault envelope.now unit.now) }
     ensures put { result ≡ 0 → OfAnswer envelope.now None unit.now
         (ArePut out.old out.new needed.new) }
     ensures no_room { result ≡ 3 → OfAnswer envelope.now None unit.now
@@ -242,6 +318,7 @@ fn put_error(
     out: &mut [u8],
     needed: &mut usize,
 ) -> Result<(), Failure>
+    ensures told { IsTold (status_in result) (error_fault envelope cause unit.now) }
     ensures put { IfOk result (λ _. OfAnswer envelope (Some cause) unit.now
         (ArePut out.old out.new needed.new)) }
     ensures no_room { result ≡ Err NoRoom → OfAnswer envelope (Some cause) unit.now
@@ -249,10 +326,7 @@ fn put_error(
     ensures none { OnErr result (out.new ≡ out.old) }
     ensures needed { IfErr result (λ why. IsNotRoom why → needed.new ≡ needed.old) }
 {
-    if cause > 127 {
-        return Err(Failure::OutOfRange);
-    }
-    let side = side_of(envelope.side)?;
+    let side = error_of(envelope, cause, unit)?;
     let user = some_unit(alloc, unit)?;
     let message = RpMessage {
         side,
@@ -276,6 +350,7 @@ pub extern "C" fn sms_wrap_error(
     out: &mut [u8],
     needed: &mut usize,
 ) -> u32
+    ensures told { IsTold result (error_fault envelope.now cause unit.now) }
     ensures put { result ≡ 0 → OfAnswer envelope.now (Some cause) unit.now
         (ArePut out.old out.new needed.new) }
     ensures no_room { result ≡ 3 → OfAnswer envelope.now (Some cause) unit.now
@@ -295,6 +370,7 @@ pub extern "C" fn sms_cp_ack(
     out: &mut [u8],
     needed: &mut usize,
 ) -> u32
+    ensures told { IsTold result (transaction_fault envelope.now) }
     ensures put { result ≡ 0 → OfCp envelope.now cp.Ack
         (ArePut out.old out.new needed.new) }
     ensures no_room { result ≡ 3 → OfCp envelope.now cp.Ack
@@ -315,6 +391,7 @@ pub extern "C" fn sms_cp_error(
     out: &mut [u8],
     needed: &mut usize,
 ) -> u32
+    ensures told { IsTold result (transaction_fault envelope.now) }
     ensures put { result ≡ 0 → OfCp envelope.now (cp.Fail cause)
         (ArePut out.old out.new needed.new) }
     ensures no_room { result ≡ 3 → OfCp envelope.now (cp.Fail cause)

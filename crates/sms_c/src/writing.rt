@@ -1,7 +1,7 @@
 //! Texts written as user data and as units.
 
-ghost use Rattle.std.specs.Prelude.{◌≡◌, ◌<◌, ◌≤◌, false, All, Err, IfOk, IfErr, OnErr};
-ghost use Rattle.std.specs.Str.{chars};
+ghost use Rattle.std.specs.Prelude.{◌≡◌, ◌≢◌, ◌<◌, ◌≤◌, ◌⊎◌, ◌↔◌, false, All, Ok, Err, IfOk, IfErr, OnErr};
+ghost use Rattle.std.specs.Str.{chars, IsUtf8};
 ghost use Rattle.sms_field.specs.Address.Text.{address_of_text};
 ghost use Rattle.sms_tpdu.specs.Deliver.{SpellsDeliver};
 ghost use Rattle.sms_tpdu.specs.Submit.{SpellsSubmit};
@@ -13,9 +13,10 @@ ghost use Rattle.sms_c.specs.Class.{are_allowed};
 ghost use Rattle.sms_c.specs.Parts.{bits_of};
 ghost use Rattle.sms_c.specs.Writing as seen;
 ghost use Rattle.sms_c.specs.HandedOut.{ArePut, LackRoom};
-ghost use Rattle.sms_c.specs.Status.{IsNotRoom};
+ghost use Rattle.sms_c.specs.Status.{status_in, IsNotRoom};
+ghost use Rattle.sms_c.specs.WritingFaults.{AreTexts, EndsBefore, FitsDeliver, FitsReference, FitsSubmit, SaysNoAddress, TakesTooMany};
 ghost use Rattle.sms_c.specs.Writing.{OfDeliver, OfSubmit};
-ghost use Rattle.sms_c.specs.declared.status.Failure.TheVariants.{NoRoom, OutOfRange};
+ghost use Rattle.sms_c.specs.declared.status.Failure.TheVariants.{BadAddress, Memory, NoRoom, OutOfRange, TooLong};
 
 use crate::class::{SPARE, are_allowed, scheme_of};
 use crate::out::{hand_out, text_of};
@@ -40,7 +41,8 @@ pub struct Reference {
 pub fn width_of(reference: Reference) -> Result<Width, Failure>
     ensures width { IfOk result (λ width. reference.width ≡ bits_of width) }
     ensures in_range { IfOk result (λ width. width ≡ Eight → reference.reference < 256) }
-    ensures room { IfErr result IsNotRoom }
+    ensures fits { IfOk result (λ _. FitsReference reference) }
+    ensures unfit { IfErr result (λ why. (why ≡ OutOfRange) × (FitsReference reference → ⊥)) }
 {
     match reference.width {
         8 if reference.reference < 256 => Ok(Width::Eight),
@@ -92,21 +94,27 @@ pub fn is_set(octet: u8) -> bool
 }
 
 /// The address that a text spells.
-fn address_of(alloc: Global, text: &[u8]) -> Result<Address, Failure>
+fn address_of(alloc: Global, text: &str) -> Result<Address, Failure>
     ensures address { IfOk result (λ address. address_of_text (chars text.now) ≡ Ok address) }
-    ensures room { IfErr result IsNotRoom }
+    ensures none { IfErr result (λ why. (why ≡ Memory)
+        ⊎ (why ≡ BadAddress) × SaysNoAddress text.now) }
 {
-    let text = text_of(text)?;
     Ok(Address::from_text(alloc, text)?)
 }
 
-/// The segments of a text.
-pub fn segments_of(alloc: Global, text: &[u8], width: Width) -> Result<Segments, Failure>
+/// The segments of a text, by a reference of this width.
+pub fn segments_of(
+    alloc: Global,
+    text: &str,
+    reference: Reference,
+    width: Width,
+) -> Result<Segments, Failure>
+    requires { reference.width ≡ bits_of width }
     ensures segments { IfOk result (AreSegments width (chars text.now)) }
     ensures sendable { IfOk result (All (IsSendable width)) }
-    ensures room { IfErr result IsNotRoom }
+    ensures none { IfErr result (λ why. (why ≡ Memory)
+        ⊎ (why ≡ TooLong) × TakesTooMany reference text.now) }
 {
-    let text = text_of(text)?;
     Ok(cut_text(alloc, text, width)?)
 }
 
@@ -150,14 +158,24 @@ fn put_submit(
     needed: &mut usize,
     count: &mut usize,
 ) -> Result<(), Failure>
+    ensures range { (status_in result ≡ 7) ↔ (FitsSubmit fields → ⊥) }
+    ensures not_utf8 { (status_in result ≡ 4)
+        ↔ (FitsSubmit fields × (AreTexts target.now text.now → ⊥)) }
+    ensures bad_address { status_in result ≡ 5
+        → FitsSubmit fields × AreTexts target.now text.now × SaysNoAddress target.now }
+    ensures address { FitsSubmit fields → AreTexts target.now text.now
+        → SaysNoAddress target.now → (status_in result ≡ 5) ⊎ (status_in result ≡ 2) }
+    ensures too_long { status_in result ≡ 6 → TakesTooMany fields.segments text.now }
+    ensures not_there { status_in result ≡ 8
+        → EndsBefore fields.segments text.now index count.new }
+    ensures answered { (status_in result < 9) × (status_in result ≢ 1) }
+    ensures uncounted { 3 < status_in result → status_in result < 8 → count.new ≡ count.old }
     ensures put { IfOk result (λ _. OfSubmit fields target.now text.now index count.new
         (ArePut out.old out.new needed.new)) }
     ensures no_room { result ≡ Err NoRoom → OfSubmit fields target.now text.now index count.new
         (LackRoom out.old out.new needed.new) }
     ensures none { OnErr result (out.new ≡ out.old) }
     ensures needed { IfErr result (λ why. IsNotRoom why → needed.new ≡ needed.old) }
-    ensures allowed { are_allowed fields.message_class fields.spare ≡ false
-        → result ≡ Err OutOfRange }
 {
     if !are_allowed(fields.message_class, &fields.spare) {
         return Err(Failure::OutOfRange);
@@ -166,8 +184,10 @@ fn put_submit(
     let Some(validity) = fields.validity.validity() else {
         return Err(Failure::OutOfRange);
     };
+    let target = text_of(target)?;
+    let text = text_of(text)?;
     let target = address_of(alloc, target)?;
-    let segments = segments_of(alloc, text, width)?;
+    let segments = segments_of(alloc, text, fields.segments, width)?;
     *count = segments.len();
     let Some(segment) = segments.get(index) else {
         return Err(Failure::NotThere);
@@ -188,14 +208,24 @@ pub extern "C" fn sms_submit_write(
     needed: &mut usize,
     count: &mut usize,
 ) -> u32
+    ensures range { (result ≡ 7) ↔ (FitsSubmit fields.now → ⊥) }
+    ensures not_utf8 { (result ≡ 4)
+        ↔ (FitsSubmit fields.now × (AreTexts target.now text.now → ⊥)) }
+    ensures bad_address { result ≡ 5
+        → FitsSubmit fields.now × AreTexts target.now text.now × SaysNoAddress target.now }
+    ensures address { FitsSubmit fields.now → AreTexts target.now text.now
+        → SaysNoAddress target.now → (result ≡ 5) ⊎ (result ≡ 2) }
+    ensures too_long { result ≡ 6 → TakesTooMany fields.now.segments text.now }
+    ensures not_there { result ≡ 8
+        → EndsBefore fields.now.segments text.now index count.new }
+    ensures answered { (result < 9) × (result ≢ 1) }
+    ensures uncounted { 3 < result → result < 8 → count.new ≡ 0 }
     ensures put { result ≡ 0 → OfSubmit fields.now target.now text.now index count.new
         (ArePut out.old out.new needed.new) }
     ensures no_room { result ≡ 3 → OfSubmit fields.now target.now text.now index count.new
         (LackRoom out.old out.new needed.new) }
     ensures none { (result ≡ 0 → ⊥) → out.new ≡ out.old }
     ensures needed { (result ≡ 0 → ⊥) → (result ≡ 3 → ⊥) → needed.new ≡ 0 }
-    ensures allowed { are_allowed fields.now.message_class fields.now.spare ≡ false
-        → result ≡ 7 }
 {
     *needed = 0;
     *count = 0;
@@ -242,21 +272,33 @@ fn put_deliver(
     needed: &mut usize,
     count: &mut usize,
 ) -> Result<(), Failure>
+    ensures range { (status_in result ≡ 7) ↔ (FitsDeliver fields → ⊥) }
+    ensures not_utf8 { (status_in result ≡ 4)
+        ↔ (FitsDeliver fields × (AreTexts origin.now text.now → ⊥)) }
+    ensures bad_address { status_in result ≡ 5
+        → FitsDeliver fields × AreTexts origin.now text.now × SaysNoAddress origin.now }
+    ensures address { FitsDeliver fields → AreTexts origin.now text.now
+        → SaysNoAddress origin.now → (status_in result ≡ 5) ⊎ (status_in result ≡ 2) }
+    ensures too_long { status_in result ≡ 6 → TakesTooMany fields.segments text.now }
+    ensures not_there { status_in result ≡ 8
+        → EndsBefore fields.segments text.now index count.new }
+    ensures answered { (status_in result < 9) × (status_in result ≢ 1) }
+    ensures uncounted { 3 < status_in result → status_in result < 8 → count.new ≡ count.old }
     ensures put { IfOk result (λ _. OfDeliver fields origin.now text.now index count.new
         (ArePut out.old out.new needed.new)) }
     ensures no_room { result ≡ Err NoRoom → OfDeliver fields origin.now text.now index count.new
         (LackRoom out.old out.new needed.new) }
     ensures none { OnErr result (out.new ≡ out.old) }
     ensures needed { IfErr result (λ why. IsNotRoom why → needed.new ≡ needed.old) }
-    ensures allowed { are_allowed fields.message_class fields.spare ≡ false
-        → result ≡ Err OutOfRange }
 {
     if !are_allowed(fields.message_class, &fields.spare) {
         return Err(Failure::OutOfRange);
     }
     let width = width_of(fields.segments)?;
+    let origin = text_of(origin)?;
+    let text = text_of(text)?;
     let origin = address_of(alloc, origin)?;
-    let segments = segments_of(alloc, text, width)?;
+    let segments = segments_of(alloc, text, fields.segments, width)?;
     *count = segments.len();
     let Some(segment) = segments.get(index) else {
         return Err(Failure::NotThere);
@@ -277,14 +319,24 @@ pub extern "C" fn sms_deliver_write(
     needed: &mut usize,
     count: &mut usize,
 ) -> u32
+    ensures range { (result ≡ 7) ↔ (FitsDeliver fields.now → ⊥) }
+    ensures not_utf8 { (result ≡ 4)
+        ↔ (FitsDeliver fields.now × (AreTexts origin.now text.now → ⊥)) }
+    ensures bad_address { result ≡ 5
+        → FitsDeliver fields.now × AreTexts origin.now text.now × SaysNoAddress origin.now }
+    ensures address { FitsDeliver fields.now → AreTexts origin.now text.now
+        → SaysNoAddress origin.now → (result ≡ 5) ⊎ (result ≡ 2) }
+    ensures too_long { result ≡ 6 → TakesTooMany fields.now.segments text.now }
+    ensures not_there { result ≡ 8
+        → EndsBefore fields.now.segments text.now index count.new }
+    ensures answered { (result < 9) × (result ≢ 1) }
+    ensures uncounted { 3 < result → result < 8 → count.new ≡ 0 }
     ensures put { result ≡ 0 → OfDeliver fields.now origin.now text.now index count.new
         (ArePut out.old out.new needed.new) }
     ensures no_room { result ≡ 3 → OfDeliver fields.now origin.now text.now index count.new
         (LackRoom out.old out.new needed.new) }
     ensures none { (result ≡ 0 → ⊥) → out.new ≡ out.old }
     ensures needed { (result ≡ 0 → ⊥) → (result ≡ 3 → ⊥) → needed.new ≡ 0 }
-    ensures allowed { are_allowed fields.now.message_class fields.now.spare ≡ false
-        → result ≡ 7 }
 {
     *needed = 0;
     *count = 0;

@@ -69,6 +69,7 @@ pub extern "C" fn sms_command_read(
     refused: &mut Refused,
 ) -> u32
     ensures status { result < 2 }
+    ensures untold { result ≡ 0 → refused.new ≡ refused.old }
     ensures read { result ≡ 0 → (value : CommandValue)
         × Reads command value octets.now out.new.used × ShowsCommand value octets.now out.new }
     ensures refused { result ≡ 1 → (fault : TheFault UnitFault)

@@ -159,6 +159,7 @@ pub extern "C" fn sms_deliver_ack_read(
     refused: &mut Refused,
 ) -> u32
     ensures status { result < 2 }
+    ensures untold { result ≡ 0 → refused.new ≡ refused.old }
     ensures read { result ≡ 0 → (value : DeliverAckValue)
         × Reads deliver_ack value octets.now out.new.used
         × ShowsDeliverAck value octets.now out.new }
@@ -183,6 +184,7 @@ pub extern "C" fn sms_deliver_error_read(
     refused: &mut Refused,
 ) -> u32
     ensures status { result < 2 }
+    ensures untold { result ≡ 0 → refused.new ≡ refused.old }
     ensures read { result ≡ 0 → (value : DeliverErrorValue)
         × Reads deliver_error value octets.now out.new.used
         × ShowsDeliverError value octets.now out.new }
@@ -207,6 +209,7 @@ pub extern "C" fn sms_submit_ack_read(
     refused: &mut Refused,
 ) -> u32
     ensures status { result < 2 }
+    ensures untold { result ≡ 0 → refused.new ≡ refused.old }
     ensures read { result ≡ 0 → (value : SubmitAckValue)
         × Reads submit_ack value octets.now out.new.used
         × ShowsSubmitAck value octets.now out.new }
@@ -231,6 +234,7 @@ pub extern "C" fn sms_submit_error_read(
     refused: &mut Refused,
 ) -> u32
     ensures status { result < 2 }
+    ensures untold { result ≡ 0 → refused.new ≡ refused.old }
     ensures read { result ≡ 0 → (value : SubmitErrorValue)
         × Reads submit_error value octets.now out.new.used
         × ShowsSubmitError value octets.now out.new }

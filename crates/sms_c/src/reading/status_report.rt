@@ -95,6 +95,7 @@ pub extern "C" fn sms_status_report_read(
     refused: &mut Refused,
 ) -> u32
     ensures status { result < 2 }
+    ensures untold { result ≡ 0 → refused.new ≡ refused.old }
     ensures read { result ≡ 0 → (value : StatusReportValue)
         × Reads status_report value octets.now out.new.used
         × ShowsStatusReport value octets.now out.new }
