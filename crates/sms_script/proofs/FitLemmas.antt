@@ -128,6 +128,6 @@ words_fit known line st e =
     demanded (Fits known) (not (is_setting found.0 && known.is_running)) SettingAfterEvent _ (λ u m n. said_fits known found.0 found.1 u n) t l) st e
 
 -- what was answered for words fits what is known
-pub answer_fits : (known : KnownValue) (line : List (List ℕ)) (answer : Result Statement MeaningFault) → Gives (λ st. st) answer (said_by_words known line) → IfOk answer (λ st. Fits known st)
-answer_fits known line (Ok st) e = words_fit known line st e
-answer_fits known line (Err fault) e = tt
+pub answer_fits : (may : Result Statement ScriptFault → Type 0) (known : KnownValue) (line : List (List ℕ)) (answer : Result Statement MeaningFault) → Gives may (λ st. st) answer (said_by_words known line) → IfOk answer (λ st. Fits known st)
+answer_fits may known line (Ok st) e = words_fit known line st e
+answer_fits may known line (Err fault) e = tt

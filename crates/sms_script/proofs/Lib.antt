@@ -7,6 +7,7 @@ pub mod WordLemmas
 pub mod TestLemmas
 pub mod KnownLemmas
 pub mod FitLemmas
+pub mod MemoryLemmas
 pub mod EscapeLemmas
 pub mod HexLemmas
 pub mod PacketLemmas

@@ -18,6 +18,7 @@ use Rattle.sms_script.specs.Inside.Standing.{put_count, Follows, Stands, at, Bre
 use Rattle.sms_script.specs.declared.fault.PlayFault.{PlayFault}
 use Rattle.sms_script.specs.declared.fault.PlayFault.TheVariants as faults
 use Rattle.sms_script.specs.Meaning.{meaning}
+use Rattle.sms_script.specs.Meaning.Memory.{TypesToName, TakesMemory, MayRunOut}
 use Rattle.sms_script.specs.declared.meaning.event.Event.{Event}
 use Rattle.sms_script.specs.declared.fault.ScriptFault.{ScriptFault}
 use Rattle.sms_script.specs.declared.meaning.statement.Statement.{Statement}
@@ -204,7 +205,7 @@ event_goes_on {N} net ls line s w x events n before now last event u v result fa
     by_result (Ok done) puts f (inl is_v) = subst (λ y. Stands net (ls ++ line ∷ []) z y n before last) (sym is_v) (stands (puts_all now last text puts))
     by_result (Ok done) puts f (inr never) = absurd (never refl)
     by_result (Err faults.Write) puts f i = breaks puts
-    by_result (Err faults.Memory) puts f i = stands_kept net ls s w events before now last puts h
+    by_result (Err faults.Memory) puts f i = (stands_kept net ls s w events before now last puts h, subst (TakesMemory (TypesToName line)) (sym m) tt)
     by_result (Err faults.Read) puts f i = absurd f
     by_result (Err (faults.Script a b)) puts f i = absurd f
 
@@ -218,12 +219,16 @@ event_is statements.Wide event e = cc
 event_is statements.Reject event e = cc
 event_is (statements.Phone phone) event e = cc
 
+-- memory may run out for a line with an event
+pub event_may : (s z : SettingsValue) (line : List ℕ) (event : Event) → TakesLine s z line (Ok (Some event)) → MayRunOut s.known line
+event_may s z line event t = subst (TakesMemory (TypesToName line)) (sym (t.1 ∙ ap Ok (event_is t.0 event (sym t.3)))) tt
+
 -- a line that was not taken
 pub take_fails : {N : Type 0} (net : Conduct N) (ls : List (List ℕ)) (line : List ℕ) (s z : SettingsValue) (w x : Option N) (events k : ℕ) (before now : Option (List ℕ)) (fault : PlayFault)
     → s.lines < lines_limit → length line ≤ line_limit → Stands net ls s w events before now → TakesLine s z line (Err fault)
     → GoesOn net ls line (at s w events now) (at z x k now) before (Err fault)
 take_fails net ls line s z w x events k before now (faults.Script n why) few short h t = (line_fault ls line s n why h.1.fault h.1.settings (meaning_within s line few short ∙ t.0) t.1, h)
-take_fails net ls line s z w x events k before now faults.Memory few short h t = h
+take_fails net ls line s z w x events k before now faults.Memory few short h t = (h, t.1)
 take_fails net ls line s z w x events k before now faults.Read few short h t = absurd t
 take_fails net ls line s z w x events k before now faults.Write few short h t = absurd t
 

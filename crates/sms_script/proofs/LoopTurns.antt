@@ -1,5 +1,5 @@
 -- The lines of a source played in turn.
-use Rattle.std.proofs.Common.{◌≡◌, ◌≢◌, ℕ, ◌+◌, ◌<◌, List, [], ◌∷◌, ◌++◌, length, Option, Some, None, Result, Ok, Err, refl, sym, ap, ◌∙◌, subst, append-nil, arith, inl, inr, ◌⊎◌}
+use Rattle.std.proofs.Common.{◌≡◌, ◌≢◌, ℕ, ◌+◌, ◌<◌, List, [], ◌∷◌, ◌++◌, length, Option, Some, None, Result, Ok, Err, refl, sym, ap, ◌∙◌, subst, append-nil, arith, inl, inr}
 use Rattle.std.specs.Io.KnownBytes.{Appends, Consumes, IsAtEnd}
 use Rattle.std.proofs.lemmas.Bool.{lt-ltb, le-ltb, lt-leb}
 use Rattle.sms_script.proofs.LineLemmas.{lines-unended, line_more, whole-none, whole_more, octet_line, strip-shorter}
@@ -8,8 +8,9 @@ use Rattle.sms_script.proofs.PutLemmas.{Appends-none}
 use Rattle.sms_script.proofs.SourceLemmas.{Consumes-nil, Consumes-add}
 use Rattle.sms_script.specs.Lines.{line_feed, line_limit, lines, strip_carriage_return, HasNoLineFeed, AreWhole}
 use Rattle.sms_script.specs.Lines.Reading.{ReadsLine, ShowsLonger}
+use Rattle.sms_script.specs.Meaning.Memory.{MayRunOut}
 use Rattle.sms_script.specs.Play.{Stops}
-use Rattle.sms_script.specs.Play.Endings.{IsFedLine, IsOneLine, IsPartOfLine, IsNextLine, IsCutOff, IsUnplayed, StopsInLine}
+use Rattle.sms_script.specs.Play.Endings.{IsFedLine, IsNextLine, IsCutOff, IsUnplayed, StopsInLine}
 use Rattle.sms_script.specs.Play.Played.{Played, LinesPlayed, told, told_of}
 use Rattle.sms_script.specs.Play.Network.{Conduct}
 use Rattle.sms_script.specs.Inside.NextLine.{TakesNext, TakesWrong}
@@ -54,11 +55,6 @@ stops_in_line net whole rest s w events old new before now fault are taken unpla
   wrote = lines_wrote net (lines whole) s w events before now h;
 }
 
--- a line that was read is part of one
-part_of_one : (rest : List ℕ) (new : Option (List ℕ)) → IsOneLine rest new → IsPartOfLine rest ⊎ IsFedLine rest
-part_of_one rest new (inl fed) = inr fed
-part_of_one rest new (inr last) = inl (record { no_feed = last.no_feed; few = (let k = last.short in omega (arith, k)) })
-
 -- a line in which playing ends
 pub goes_on_fails : {N : Type 0} (net : Conduct N) (line read last : List ℕ) (from to : At N) (old new before : Option (List ℕ)) (fault : PlayFault)
     → AreWhole read → IsNextLine read last new → lines (read ++ last) ≡ lines read ++ line ∷ [] → Consumes old new (read ++ last)
@@ -67,7 +63,14 @@ goes_on_fails net line read last from to old new before (faults.Script n why) ar
     stops_in_line net read last from.settings from.network from.events old new before to.written (faults.Script n why) are taken
     (subst (λ (l : List (List ℕ)). (script_of l).fault ≡ Some (n, why)) (sym is) h.0, inl one) h.1
 goes_on_fails net line read last from to old new before faults.Memory are one is taken h =
-    stops_in_line net read last from.settings from.network from.events old new before to.written faults.Memory are taken (part_of_one last new one.one) h
+    stops_in_line net read last from.settings from.network from.events old new before to.written faults.Memory are taken
+    (inr (record {
+      one = one;
+      line = line;
+      is_line = is;
+      may = subst (λ (y : SettingsValue). MayRunOut y.known line) (sym h.0.1.settings) h.1;
+    }))
+    h.0
 goes_on_fails {N} net line read last from to old new before faults.Write are one is taken h = record {
   whole = read;
   rest = last;
@@ -208,7 +211,7 @@ loop_unread net line here old mid new before (faults.Script n why) h t = by_reas
 loop_unread net line here old mid new before faults.Read h t =
     stops_in_line net h.0 t.0 here.settings here.network here.events old new before here.written faults.Read h.1 (Consumes-add old mid new h.0 t.0 h.2 t.2) (record { no_feed = t.1; few = t.3 }) h.3
 loop_unread net line here old mid new before faults.Memory h t =
-    stops_in_line net h.0 t.0 here.settings here.network here.events old new before here.written faults.Memory h.1 (Consumes-add old mid new h.0 t.0 h.2 t.2) (inl (record { no_feed = t.1; few = t.3 })) h.3
+    stops_in_line net h.0 [] here.settings here.network here.events old new before here.written faults.Memory h.1 (Consumes-add old mid new h.0 [] h.2 t) (inl refl) h.3
 loop_unread net line here old mid new before faults.Write h t = absurd t
 
 -- a line that was read is played

@@ -3,7 +3,6 @@
 -- steps before it gave none.
 use Rattle.std.specs.Prelude.{◌≡◌, Bool, true, false, Result, Ok, Err, Option, Some, None}
 use Rattle.sms_script.specs.declared.fault.ScriptFault.{ScriptFault}
-use Rattle.sms_script.specs.declared.fault.ScriptFault.TheVariants.{BadAddress, AddressTaken, TooManyPhones, BadHex}
 use Rattle.sms_script.specs.declared.fault.MeaningFault.{MeaningFault}
 use Rattle.sms_script.specs.declared.fault.MeaningFault.TheVariants.{Memory, Script}
 
@@ -34,18 +33,9 @@ abbrev pub Says : {A B : Type 0} → (A → B) → Result A ScriptFault → Resu
 Says view (Ok x) said = said ≡ Ok (view x)
 Says view (Err why) said = said ≡ Err why
 
--- Where memory runs out, words have a meaning, or one of these reasons applies: those of an
--- address, of octets, and that phones are too many. Every other one is given all the same.
-abbrev pub MayBeHidden : {B : Type 0} → Result B ScriptFault → Type 0
-MayBeHidden (Ok x) = Unit {0}
-MayBeHidden (Err BadAddress) = Unit {0}
-MayBeHidden (Err AddressTaken) = Unit {0}
-MayBeHidden (Err TooManyPhones) = Unit {0}
-MayBeHidden (Err BadHex) = Unit {0}
-MayBeHidden (Err _) = ⊥
-
--- the same, unless memory ran out
-abbrev pub Gives : {A B : Type 0} → (A → B) → Result A MeaningFault → Result B ScriptFault → Type 0
-Gives view (Ok x) said = said ≡ Ok (view x)
-Gives view (Err (Script why)) said = said ≡ Err why
-Gives view (Err Memory) said = MayBeHidden said
+-- the same, or that memory ran out, where it may
+abbrev pub Gives : {A B : Type 0} → (Result B ScriptFault → Type 0) → (A → B)
+    → Result A MeaningFault → Result B ScriptFault → Type 0
+Gives MayRunOut view (Ok x) said = said ≡ Ok (view x)
+Gives MayRunOut view (Err (Script why)) said = said ≡ Err why
+Gives MayRunOut view (Err Memory) said = MayRunOut said

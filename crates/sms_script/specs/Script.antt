@@ -5,6 +5,7 @@ use Rattle.std.specs.Prelude.{◌≡◌, ℕ, ◌+◌, List, [], ◌∷◌, ◌+
 use Rattle.sms_script.specs.Lines.{line_limit}
 use Rattle.sms_script.specs.Meaning.{meaning}
 use Rattle.sms_script.specs.Meaning.Known.{no_phones, with_phone, running}
+use Rattle.sms_script.specs.Meaning.Memory.{MayRunOut}
 use Rattle.sms_script.specs.Reasons.{◌>>◌, demand}
 use Rattle.sms_script.specs.Script.Limits.{default_limits, with_limit}
 use Rattle.sms_script.specs.Script.Settings.{SettingsValue}
@@ -93,7 +94,7 @@ abbrev pub script_of : List (List ℕ) → ScriptValue
 script_of lines = with_lines no_lines lines
 
 -- a line was taken: its event was answered; or it was not, and all is as it was, for the reason why
--- it says nothing, or for want of memory
+-- it says nothing, or for want of memory, where memory may run out for it
 abbrev pub TakesLine : SettingsValue → SettingsValue → List ℕ → Result (Option Event) PlayFault
     → Type 0
 TakesLine old new line (Ok event) =
@@ -101,5 +102,5 @@ TakesLine old new line (Ok event) =
     × (event ≡ event_of statement)
 TakesLine old new line (Err (faults.Script n why)) =
     (meaning old.known line ≡ Err why) × (n ≡ old.lines + 1) × (new ≡ old)
-TakesLine old new line (Err faults.Memory) = new ≡ old
+TakesLine old new line (Err faults.Memory) = (new ≡ old) × MayRunOut old.known line
 TakesLine old new line (Err _) = ⊥

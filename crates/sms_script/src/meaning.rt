@@ -8,6 +8,8 @@ mod statement;
 ghost use Rattle.std.specs.Prelude.{◌≡◌, IfOk};
 ghost use Rattle.sms_script.specs.Reasons.{Gives, Says};
 ghost use Rattle.sms_script.specs.Words.{left, words};
+ghost use Rattle.sms_script.specs.Meaning.Commands.{command};
+ghost use Rattle.sms_script.specs.Meaning.Memory.{ToName, IsTypedToName, IsOfName, TypesToName, TakesMemory};
 ghost use Rattle.sms_script.specs.Meaning.{phone, new_name, new_address, limit, clock, switch, new_phone, typing, event_number, one_phone, injection, said, in_utf8, is_comment, said_by_words, meaning, Fits};
 
 use crate::fault::{MeaningFault, ScriptFault};
@@ -41,43 +43,46 @@ fn phone_named(known: &Known, word: &str) -> Result<usize, ScriptFault>
 }
 
 /// A name that no phone has.
-fn new_name(alloc: Global, known: &Known, word: &str) -> Result<Text, MeaningFault>
-    ensures { Gives (λ n. n) result (new_name known.now word.now) }
+fn new_name<'a>(known: &Known, word: &'a str) -> Result<&'a str, ScriptFault>
+    ensures { Says (λ n. n.now) result (new_name known.now word.entry.now) }
 {
     if !is_name(word) {
-        return Err(MeaningFault::Script(ScriptFault::BadName));
+        return Err(ScriptFault::BadName);
     }
     if known.has_name(word) {
-        return Err(MeaningFault::Script(ScriptFault::NameTaken));
+        return Err(ScriptFault::NameTaken);
     }
-    Ok(Text::copy(alloc, word)?)
+    Ok(word)
 }
 
-/// The address of a phone, which no other phone has.
-fn new_address(alloc: Global, known: &Known, word: &str) -> Result<Address, MeaningFault>
-    ensures { Gives (λ a. a) result (new_address known.now word.now) }
+/// The address of a phone, which no other phone has. Memory runs out for a name alone, which is no
+/// phone's address.
+fn new_address(alloc: Global, known: &Known, word: &str) -> Result<Address, ScriptFault>
+    ensures { Says (λ a. a) result (new_address known.now word.now) }
 {
-    let address = address_of(alloc, word)?;
+    let Ok(address) = address_of(alloc, word) else {
+        return Err(ScriptFault::BadAddress);
+    };
     if !can_be_phone(&address) {
-        return Err(MeaningFault::Script(ScriptFault::BadAddress));
+        return Err(ScriptFault::BadAddress);
     }
     if known.has_address(&address) {
-        return Err(MeaningFault::Script(ScriptFault::AddressTaken));
+        return Err(ScriptFault::AddressTaken);
     }
     Ok(address)
 }
 
 /// What `held`, `open`, `remembered` and `store` say.
-fn limit_of(which: Limit, rest: Option<&str>) -> Result<Statement, MeaningFault>
-    ensures { Gives (λ s. s) result (limit which (left rest.entry)) }
+fn limit_of(which: Limit, rest: Option<&str>) -> Result<Statement, ScriptFault>
+    ensures { Says (λ s. s) result (limit which (left rest.entry)) }
 {
     let n = number_in(1, which.greatest(), one_word(rest)?)?;
     Ok(Statement::Limit(which, n))
 }
 
 /// What `clock` says.
-fn clock_of(rest: Option<&str>) -> Result<Statement, MeaningFault>
-    ensures { Gives (λ s. s) result (clock (left rest.entry)) }
+fn clock_of(rest: Option<&str>) -> Result<Statement, ScriptFault>
+    ensures { Says (λ s. s) result (clock (left rest.entry)) }
 {
     let n = number_in(0, LAST_SECOND, one_word(rest)?)?;
     Ok(Statement::Clock(n))
@@ -85,20 +90,22 @@ fn clock_of(rest: Option<&str>) -> Result<Statement, MeaningFault>
 
 /// What `phone` says.
 fn phone_of(alloc: Global, known: &Known, rest: Option<&str>) -> Result<Statement, MeaningFault>
-    ensures { Gives (λ s. s) result (new_phone known.now (left rest.entry)) }
+    ensures { Gives (TakesMemory ⊥) (λ s. s) result (new_phone known.now (left rest.entry)) }
 {
     let (name, address) = two_words(rest)?;
-    let name = new_name(alloc, known, name)?;
+    let name = new_name(known, name)?;
     let address = new_address(alloc, known, address)?;
     if known.addresses().len() >= PHONE_LIMIT {
         return Err(MeaningFault::Script(ScriptFault::TooManyPhones));
     }
+    let name = Text::copy(alloc, name)?;
     Ok(Statement::Phone(Phone { name, address }))
 }
 
 /// What `type` says.
 fn text_of(alloc: Global, known: &Known, rest: Option<&str>) -> Result<Statement, MeaningFault>
-    ensures { Gives (λ s. s) result (typing known.now (left rest.entry)) }
+    ensures { let words = left rest.entry in
+        Gives (TakesMemory (ToName words)) (λ s. s) result (typing known.now words) }
 {
     let (name, address, text) = two_words_and_text(rest)?;
     let phone = phone_named(known, name)?;
@@ -132,7 +139,7 @@ fn injection_of(
     up: bool,
     rest: Option<&str>,
 ) -> Result<Statement, MeaningFault>
-    ensures { Gives (λ s. s) result (injection known.now up (left rest.entry)) }
+    ensures { Gives (TakesMemory ⊥) (λ s. s) result (injection known.now up (left rest.entry)) }
 {
     let (name, word) = two_words(rest)?;
     let phone = phone_named(known, name)?;
@@ -141,8 +148,8 @@ fn injection_of(
 }
 
 /// What a setting says that is there or not.
-fn switch_of(statement: Statement, rest: Option<&str>) -> Result<Statement, MeaningFault>
-    ensures { Gives (λ s. s) result (switch statement (left rest.entry)) }
+fn switch_of(statement: Statement, rest: Option<&str>) -> Result<Statement, ScriptFault>
+    ensures { Says (λ s. s) result (switch statement (left rest.entry)) }
 {
     no_word(rest)?;
     Ok(statement)
@@ -156,17 +163,19 @@ fn statement_of(
     command: Command,
     rest: Option<&str>,
 ) -> Result<Statement, MeaningFault>
-    ensures { Gives (λ s. s) result (said known.now command (left rest.entry)) }
+    ensures { let words = left rest.entry in
+        let may = TakesMemory (IsTypedToName command words) in
+        Gives may (λ s. s) result (said known.now command words) }
 {
     match command {
-        Command::Held => limit_of(Limit::Held, rest),
-        Command::Open => limit_of(Limit::Open, rest),
-        Command::Remembered => limit_of(Limit::Remembered, rest),
-        Command::Store => limit_of(Limit::Store, rest),
-        Command::Clock => clock_of(rest),
-        Command::Brief => switch_of(Statement::Brief, rest),
-        Command::Wide => switch_of(Statement::Wide, rest),
-        Command::Reject => switch_of(Statement::Reject, rest),
+        Command::Held => Ok(limit_of(Limit::Held, rest)?),
+        Command::Open => Ok(limit_of(Limit::Open, rest)?),
+        Command::Remembered => Ok(limit_of(Limit::Remembered, rest)?),
+        Command::Store => Ok(limit_of(Limit::Store, rest)?),
+        Command::Clock => Ok(clock_of(rest)?),
+        Command::Brief => Ok(switch_of(Statement::Brief, rest)?),
+        Command::Wide => Ok(switch_of(Statement::Wide, rest)?),
+        Command::Reject => Ok(switch_of(Statement::Reject, rest)?),
         Command::Phone => phone_of(alloc, known, rest),
         Command::Compose => text_of(alloc, known, rest),
         Command::Carry => Ok(Statement::Event(Event::Carry(number_of(rest)?))),
@@ -199,7 +208,9 @@ fn is_comment(line: &[u8]) -> bool
 
 /// What a line that is no comment says.
 fn statement_in(alloc: Global, known: &Known, line: &str) -> Result<Statement, MeaningFault>
-    ensures { Gives (λ s. s) result (said_by_words known.now (words line.now)) }
+    ensures { let all = words line.now in
+        let may = TakesMemory (IsOfName (command all)) in
+        Gives may (λ s. s) result (said_by_words known.now all) }
 {
     let (command, rest) = command_of(Some(line))?;
     if command.is_setting() && known.is_running() {
@@ -211,7 +222,8 @@ fn statement_in(alloc: Global, known: &Known, line: &str) -> Result<Statement, M
 /// What a line means, after lines that told what is known. How long the line is and how many came
 /// before it are not looked at here: `play` does that.
 pub fn meaning_of(alloc: Global, known: &Known, line: &[u8]) -> Result<Statement, MeaningFault>
-    ensures means { Gives (λ s. s) result (meaning known.now line.now) }
+    ensures means { let may = TakesMemory (TypesToName line.now) in
+        Gives may (λ s. s) result (meaning known.now line.now) }
     ensures fits { IfOk result (λ s. Fits known.now s) }
 {
     let line = text_in(line)?;

@@ -2,9 +2,9 @@
 
 mod limits;
 
-ghost use Rattle.std.specs.Prelude.{◌≡◌, ◌+◌, ◌<◌, ◌^◌, IfOk, OnOk, OnErr, None, Err, length};
-ghost use Rattle.sms_script.specs.Reasons.{MayBeHidden};
+ghost use Rattle.std.specs.Prelude.{◌≡◌, ◌+◌, ◌<◌, ◌^◌, IfOk, OnOk, OnErr, None, Ok, length};
 ghost use Rattle.sms_script.specs.Meaning.{Fits, meaning};
+ghost use Rattle.sms_script.specs.Meaning.Memory.{TakesMemory};
 ghost use Rattle.sms_script.specs.Meaning.Known.{ArePhones, name_of};
 ghost use Rattle.sms_script.specs.Script.{before_all, after, event_of, TakesLine};
 ghost use Rattle.sms_script.specs.Script.Limits.{AreLimits};
@@ -115,6 +115,7 @@ impl Script {
         ensures settings { OnOk result (self.new ≡ after self.old statement) }
         ensures kept { OnErr result (self.new ≡ self.old) }
         ensures event { IfOk result (λ e. e ≡ event_of statement) }
+        ensures memory { OnErr result (TakesMemory ⊥ (Ok statement)) }
     {
         match statement {
             Statement::Nothing => {}
@@ -135,15 +136,15 @@ impl Script {
     }
 
     /// Takes the next line, without its line feed, and answers the event that it is. A line that is
-    /// at fault is not taken, nor one for which memory runs out: then all is as it was, and only
-    /// the reasons of an address, of octets and of too many phones may be hidden so.
+    /// at fault is not taken, nor one for which memory runs out: then all is as it was. Memory runs
+    /// out for a phone and for an event alone, and for a text typed to a bad name: every other
+    /// fault is told whatever memory there is.
     ///
     /// How long the line is and how many came before it are not looked at here: `play` does that.
     /// Fewer than 2^60 lines were taken before.
     pub fn take(&mut self, alloc: Global, line: &[u8]) -> Result<Option<Event>, PlayFault>
         requires { self.old.lines < 2 ^ 60 }
         ensures takes { TakesLine self.old self.new line.now result }
-        ensures hides { result ≡ Err Memory → MayBeHidden (meaning self.old.known line.now) }
     {
         match meaning_of(alloc, &self.known, line) {
             Ok(statement) => Ok(self.take_statement(statement)?),

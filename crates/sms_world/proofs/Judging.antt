@@ -7,7 +7,6 @@ use Rattle.sms_script.specs.Lines.{lines}
 use Rattle.sms_script.specs.Devices.{AppendsFront}
 use Rattle.sms_script.specs.Play.{Leaves}
 use Rattle.sms_script.specs.Play.Network.{Conduct}
-use Rattle.sms_script.specs.Play.Puts.{IsPutOf}
 use Rattle.sms_script.specs.declared.fault.PlayFault.{PlayFault}
 use Rattle.sms_script.specs.declared.fault.PlayFault.TheVariants as faults
 use Rattle.sms_script.specs.Script.{ScriptValue, script_of}
@@ -26,7 +25,7 @@ use Rattle.sms_world.specs.Machine.Step.{Run}
 use Rattle.sms_world.specs.Network.{conduct_with, ends_of}
 use Rattle.sms_world.specs.Playing.{clock_events, script_past, HappensAsRun, ToldStoresStand}
 use Rattle.sms_world.specs.Playing.Trusted.{AreVerdicts, JudgesAccepted}
-use Rattle.sms_world.specs.Playing.Order.{IsJudged, JudgesBy, Judges, TellsBy}
+use Rattle.sms_world.specs.Playing.Order.{IsJudged, JudgesBy, Judges, IsPutAtOnce, TellsBy}
 use Rattle.sms_world.specs.Told.{Told}
 use Rattle.sms_world.specs.Trusted.{TrustedValue, TrustedBy, AcceptedIsTold, AcceptedMeansAccepted}
 use Rattle.sms_world.specs.Trusted.Network.{trusted_conduct}
@@ -179,7 +178,7 @@ unwritten (Some x) = sym (append-nil x)
 
 module _ {A : Type 0} (IsSo : ScriptValue → List ℕ → A → Type 0) (words : SettingsValue → A → List ℕ)
     (old new before mid : Option (List ℕ)) (s : SettingsValue) (answer : A) (j : JudgesBy IsSo old new before mid s answer) where
-  pub tells : (now : Option (List ℕ)) (result : Result (Unit {0}) PlayFault) (front : List ℕ) → IsPutOf (words s answer) front result → Appends mid now front
+  pub tells : (now : Option (List ℕ)) (result : Result (Unit {0}) PlayFault) (front : List ℕ) → IsPutAtOnce (words s answer) front result → Appends mid now front
       → TellsBy IsSo words old new before now result
   tells now result front put more =
       record {
@@ -191,7 +190,7 @@ module _ {A : Type 0} (IsSo : ScriptValue → List ℕ → A → Type 0) (words 
         answer = answer;
         judged = j.6;
         front = front;
-        words_are = subst (λ (t : SettingsValue). IsPutOf (words t answer) front result) j.5 put;
+        words_are = subst (λ (t : SettingsValue). IsPutAtOnce (words t answer) front result) j.5 put;
         wrote = written_on before mid now j.1 front j.7 more;
       }
 
@@ -202,4 +201,4 @@ module _ {A : Type 0} (IsSo : ScriptValue → List ℕ → A → Type 0) (words 
 
   -- memory ran out for them
   pub tells_nothing : TellsBy IsSo words old new before mid (Err faults.Memory)
-  tells_nothing = tells mid (Err faults.Memory) [] ((words s answer, refl), inl refl) (unwritten mid)
+  tells_nothing = tells mid (Err faults.Memory) [] refl (unwritten mid)

@@ -8,7 +8,8 @@ use Rattle.sms_script.specs.declared.meaning.event.Event as script
 use Rattle.sms_world.specs.Told.{Told}
 use Rattle.sms_world.specs.Machine.{start}
 use Rattle.sms_world.specs.Machine.Step.{Run}
-use Rattle.sms_world.specs.Watched.{WatchedValue, ComesOf, GoesOnWatched, RunsWatched, AllGoOnWatched}
+use Rattle.sms_world.specs.Watched.{WatchedValue, ComesOf, GoesOnWatched, RunsWatched}
+use Rattle.sms_world.specs.Inside.Watching.{AllGoOnWatched}
 use Rattle.sms_world.specs.World.Value.{WorldValue}
 use Rattle.sms_world.specs.World.Steps.{event_of, Steps, told_past, Runs, GoesOn}
 

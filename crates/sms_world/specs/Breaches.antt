@@ -14,7 +14,7 @@ use Rattle.sms_world.specs.Told.{Told}
 use Rattle.sms_world.specs.Machine.{Machine, start}
 use Rattle.sms_world.specs.Machine.Event.{Event, Compose, Carry, Timeout, Push, Tick, Inject}
 use Rattle.sms_world.specs.Machine.Step.{Step, Run}
-use Rattle.sms_world.specs.Orderly.{IsOrderly, OrderlyRun}
+use Rattle.sms_world.specs.Orderly.{OrderlyRun}
 use Rattle.sms_tpdu.specs.Submit.{Submission}
 use Rattle.sms_tpdu.specs.Deliver.{Delivery}
 use Rattle.sms_message.specs.Message.{Origin}
@@ -40,13 +40,15 @@ pub record Repeats (m : Machine) (event : Event) : Type 0 where
   pub same : earlier.origin ≡ Some origin
 
 -- The event does not meet the condition. Of a repeat: the accepted one's validity has ended; or it
--- has not, and the repeat does not ask for the rejection of duplicates (TP-RD is 0).
+-- has not, and the repeat does not ask for the rejection of duplicates (TP-RD is 0). Where one event
+-- uses a key again and brings a late segment that is forgotten, the key is meant.
 abbrev pub Breaks : Disorder → Machine → Event → Type 0
 Breaks RepeatAfterTheEnd m event = (r : Repeats m event) × (r.earlier.ends ≤ m.clock)
 Breaks RepeatWithoutRejection m event =
     (r : Repeats m event) × (m.clock < r.earlier.ends) × (r.submission.reject ≡ false)
 Breaks KeyUsedAgain m event = NoKeyIsUsedAgain m event → ⊥
-Breaks LateSegmentForgotten m event = LateSegmentsAreRemembered m event → ⊥
+Breaks LateSegmentForgotten m event =
+    NoKeyIsUsedAgain m event × (LateSegmentsAreRemembered m event → ⊥)
 Breaks Injected m event = NothingIsInjected event → ⊥
 
 abbrev pub repeat_breach : Option ℕ → ℕ → Bool → Option Disorder
@@ -120,11 +122,6 @@ pub record Brings (m : Machine) (event : Event) (x : TextSegment) : Type 0 where
 abbrev pub BringsSegment : Machine → Event → Option TextSegment → Type 0
 BringsSegment m event (Some x) = Brings m event x
 BringsSegment m event None = NothingIsInjected event → ⊥
-
--- the event comes in order, or breaks this condition
-abbrev pub IsSo : Option Disorder → Machine → Event → Type 0
-IsSo None m event = IsOrderly m event
-IsSo (Some disorder) m event = Breaks disorder m event
 
 -- ---- of a whole run
 

@@ -9,3 +9,4 @@ pub mod Rows
 pub mod Tables
 pub mod TraceValue
 pub mod TraceFollowed
+pub mod Watching

@@ -83,9 +83,3 @@ abbrev pub RunsWatched : Limits → List AddressValue → List script.Event → 
     → Type 0
 RunsWatched limits phones events told w =
     (length told ≡ length events) × ComesOf limits phones (told_past events told) w
-
--- so it is where the old one comes of the first state
-abbrev pub AllGoOnWatched : List script.Event → List Told → WatchedValue → WatchedValue → Type 0
-AllGoOnWatched events told old new =
-    (limits : Limits) (phones : List AddressValue) → ComesOf limits phones [] old
-    → RunsWatched limits phones events told new

@@ -15,7 +15,7 @@ ghost use Rattle.sms_world.specs.Headline.Refused.{RefusedOnlyWhereFull};
 ghost use Rattle.sms_world.specs.Headline.Stores.{StoresStand};
 ghost use Rattle.sms_world.specs.Noted.{NotesStayRight};
 ghost use Rattle.sms_world.specs.OrderTests.{OrderIsTested};
-ghost use Rattle.sms_world.specs.OrderTold.{OrderIsTold};
+ghost use Rattle.sms_world.specs.OrderTold.{NotesTellOrder};
 ghost use Rattle.sms_world.specs.Traced.{TracesTell};
 ghost use Rattle.sms_world.specs.Understood.{IsOneAct};
 ghost use Rattle.sms_world.specs.World.Asked.{FactsAreTold};
@@ -72,7 +72,7 @@ pub fn events_are_one_act()
 
 /// Where the notes are right, their test of an event is the test of the four orderly conditions.
 pub fn order_is_told()
-    ensures { OrderIsTold }
+    ensures { NotesTellOrder }
 {
     laws_below();
 }

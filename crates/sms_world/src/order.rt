@@ -1,14 +1,15 @@
 //! Whether what has happened came in order.
 
 /// How an event came out of order: each breaks one of the four conditions under which each phone's
-/// store is exactly the texts typed to it.
+/// store is exactly the texts typed to it of which every segment was taken. Where one event breaks
+/// two of them, a key used again is told, and not the late segment.
 #[derive(Clone, Copy, Debug, PartialEq, Eq)]
 pub enum Disorder {
     /// An SMS-SUBMIT came to the centre although the validity of an accepted one of the same
     /// segment had ended: repeats are to come in time.
     RepeatAfterTheEnd,
-    /// An SMS-SUBMIT without TP-RD came to the centre although one of the same segment was
-    /// accepted: repeats are to ask for the rejection of duplicates.
+    /// An SMS-SUBMIT with TP-RD 0 came to the centre although one of the same segment was accepted
+    /// whose validity has not ended: repeats are to ask for the rejection of duplicates.
     RepeatWithoutRejection,
     /// A segment of a concatenated text came to a phone where another text with its key was open,
     /// or among the last that finished: no key is to be used again meanwhile.

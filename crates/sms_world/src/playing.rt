@@ -97,7 +97,9 @@ pub fn play_watched<S: Source, K: Sink>(
 }
 
 /// As `play`, and after the transcript comes the line that tells whether its run was orderly: that
-/// of `order_line`, of what `play_watched` answers.
+/// of `order_line`, of what `play_watched` answers. Where the script is at fault, a read fails or
+/// memory runs out, none of it comes, and nothing is told of the events before. Where a write fails
+/// within it, a front of it has come.
 pub fn play_with_order<S: Source, K: Sink>(
     alloc: Global,
     source: &mut S,

@@ -3,7 +3,8 @@
 ghost use Rattle.std.specs.Prelude.{◌≡◌, IfOk, length};
 ghost use Rattle.sms_script.specs.Meaning.Known.{ArePhones};
 ghost use Rattle.sms_script.specs.Script.Limits.{AreLimits};
-ghost use Rattle.sms_world.specs.Watched.{AllGoOnWatched, RunsWatched};
+ghost use Rattle.sms_world.specs.Inside.Watching.{AllGoOnWatched};
+ghost use Rattle.sms_world.specs.Watched.{RunsWatched};
 
 use crate::fault::WorldFault;
 use crate::watched::WatchedWorld;

@@ -1,6 +1,10 @@
 //! Whether `accepted` means accepted in what happens: runs in which it does, and runs in which it
 //! need not.
 
+mod scripts;
+mod sent;
+mod walk;
+
 use crate::found::same;
 use crate::order::{INJECTED, LOSSY, Then, event_of};
 use crate::two::address;
@@ -11,7 +15,7 @@ use std::test::Fail;
 
 /// A world with the phones +1001 and +1002, whose submissions ask for rejection, or not the first.
 #[tactic(auto, unfolding(sms_field::specs::Address::Same::same_address))]
-fn new_trusted(alloc: Global, reject: bool) -> Result<TrustedWorld, Fail> {
+pub(crate) fn new_trusted(alloc: Global, reject: bool) -> Result<TrustedWorld, Fail> {
     let mut limits = Limits::new();
     limits.reject = reject;
     let phones = [address(1), address(2)];

@@ -4,6 +4,8 @@
 #[cfg(test)]
 mod accepted;
 #[cfg(test)]
+mod brought;
+#[cfg(test)]
 mod faults;
 #[cfg(test)]
 mod found;
@@ -13,6 +15,8 @@ mod growths;
 mod hostile;
 #[cfg(test)]
 mod order;
+#[cfg(test)]
+mod random;
 #[cfg(test)]
 mod segments;
 #[cfg(test)]

@@ -177,6 +177,26 @@ fn key_comes_again(alloc: Global, world: &mut WatchedWorld) -> Result<(), AllocE
     let_happen(alloc, world, &[Then::Last])
 }
 
+/// A text of two segments comes whole, and one of one segment, so that the first is forgotten where
+/// one text is remembered. Then the first segment of a text comes that has the key of the first, 256
+/// long texts later, and at last that of the first once more.
+fn key_and_late_segment_come(alloc: Global, world: &mut WatchedWorld) -> Result<(), AllocError> {
+    let_happen(alloc, world, &ACCEPTED)?;
+    let_happen(alloc, world, &[Then::Short(0), Then::Last, Then::Last])?;
+    for _ in 0..256u16 {
+        let_happen(alloc, world, &ACCEPTED)?;
+    }
+    let first = world.world().packet_count() as u64;
+    for _ in 0..3u8 {
+        let_happen(alloc, world, &[Then::Push(1), Then::Last])?;
+    }
+    for _ in 0..511u16 {
+        let_happen(alloc, world, &[Then::Push(1)])?;
+    }
+    let again = Then::Carry(first.saturating_add(1));
+    let_happen(alloc, world, &[Then::Last, again])
+}
+
 /// What is told of a text of the first phone.
 pub(crate) fn breach(event: u64, disorder: Disorder, text: usize) -> Option<Breach> {
     Some(Breach {
@@ -249,6 +269,18 @@ fn tells_a_key_that_is_used_again(rt: HostRuntime) -> Result<(), Fail> {
     come?;
     let wanted = breach(1800, Disorder::KeyUsedAgain, 257);
     same(&rt, &"key", &order, &wanted);
+    Ok(())
+}
+
+#[test]
+fn tells_the_key_of_a_late_segment(rt: HostRuntime) -> Result<(), Fail> {
+    let mut world = new_watched(rt.alloc(), 1, false)?;
+    let come = key_and_late_segment_come(rt.alloc(), &mut world);
+    let order = world.order();
+    drop(world);
+    come?;
+    let wanted = breach(1807, Disorder::KeyUsedAgain, 1);
+    same(&rt, &"key and late segment", &order, &wanted);
     Ok(())
 }
 

@@ -37,6 +37,5 @@ TakesNext old new count line (Err (faults.Script n why)) =
     (n ≡ count + 1) × TakesWrong old new count why
 TakesNext old new count line (Err faults.Read) =
     (raw : List ℕ) × HasNoLineFeed raw × Consumes old new raw × (length raw ≤ line_limit + 1)
-TakesNext old new count line (Err faults.Memory) =
-    (raw : List ℕ) × HasNoLineFeed raw × Consumes old new raw × (length raw ≤ line_limit + 1)
+TakesNext old new count line (Err faults.Memory) = Consumes old new []
 TakesNext old new count line (Err faults.Write) = ⊥

@@ -4,6 +4,7 @@
 use Rattle.std.specs.Prelude.{◌≡◌, ℕ, ◌+◌, List, [], ◌∷◌, ◌++◌, length, true, Option, Some, None, MatchOption, Result, Ok, Err}
 use Rattle.std.specs.Io.KnownBytes.{Appends, Consumes, IsAtEnd}
 use Rattle.sms_script.specs.Lines.{lines}
+use Rattle.sms_script.specs.Meaning.Memory.{MayRunOut}
 use Rattle.sms_script.specs.Play.{Stops}
 use Rattle.sms_script.specs.Play.Network.{Conduct}
 use Rattle.sms_script.specs.Play.Played.{Played, told}
@@ -84,6 +85,7 @@ GoesOn c ls line from to before (Err (faults.Script n why)) =
     × StandsAt c ls (record from { written = to.written }) before
 GoesOn c ls line from to before (Err faults.Memory) =
     StandsAt c ls (record from { written = to.written }) before
+    × MayRunOut from.settings.known line
 GoesOn c ls line from to before (Err faults.Write) =
     BreaksOff c ls line from.network before to.written
 GoesOn c ls line from to before (Err faults.Read) = ⊥

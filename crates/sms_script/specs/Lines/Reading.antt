@@ -27,7 +27,8 @@ pub record IsShownByEnd (raw : List ℕ) (new : Option (List ℕ)) : Type 0 wher
 abbrev pub ShowsLonger : List ℕ → Option (List ℕ) → Type 0
 ShowsLonger raw new = IsShownByOctet raw ⊎ IsShownByEnd raw new
 
--- what was taken, where raw is of one line, without its line feed
+-- What was taken, where raw is of one line, without its line feed. Where memory runs out, that is
+-- nothing.
 abbrev pub TakesLine : Option (List ℕ) → Option (List ℕ) → List ℕ → List ℕ
     → Result LineEnd LineFault → Type 0
 TakesLine old new raw line (Ok LineFeed) =
@@ -38,7 +39,7 @@ TakesLine old new raw line (Ok EndOfSource) =
 TakesLine old new raw line (Err TooLong) =
     Consumes old new raw × ShowsLonger raw new × (length raw ≤ line_limit + 2)
 TakesLine old new raw line (Err Read) = Consumes old new raw × (length raw ≤ line_limit + 1)
-TakesLine old new raw line (Err Memory) = Consumes old new raw × (length raw ≤ line_limit + 1)
+TakesLine old new raw line (Err Memory) = Consumes old new []
 
 -- a source with old left was read for a line, and has new left
 abbrev pub ReadsLine : Option (List ℕ) → Option (List ℕ) → List ℕ → Result LineEnd LineFault

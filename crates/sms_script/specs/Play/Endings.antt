@@ -4,6 +4,7 @@ use Rattle.std.specs.Prelude.{◌≡◌, ℕ, ◌+◌, ◌<◌, ◌≤◌, ◌�
 use Rattle.std.specs.Io.KnownBytes.{Appends, Consumes, IsAtEnd}
 use Rattle.sms_script.specs.Lines.{lines, line_feed, line_limit, strip_carriage_return, HasNoLineFeed, AreWhole}
 use Rattle.sms_script.specs.Lines.Reading.{ShowsLonger}
+use Rattle.sms_script.specs.Meaning.Memory.{MayRunOut}
 use Rattle.sms_script.specs.Play.Network.{Conduct}
 use Rattle.sms_script.specs.Play.Played.{Played, LinesPlayed, told, told_in_the_end, told_of}
 use Rattle.sms_script.specs.Play.Puts.{IsPutOf}
@@ -48,14 +49,23 @@ IsCutOff reasons.TooManyLines rest new = (octet : ℕ) × (rest ≡ octet ∷ []
 IsCutOff reasons.LineTooLong rest new = HasNoLineFeed rest × ShowsLonger rest new
 IsCutOff _ rest new = ⊥
 
+-- After whole lines one more was read, for which memory may run out: a phone, an event, or a text
+-- typed to a bad name. No other fault is told so, nor one of an address that is a number.
+pub record IsRunOut (whole rest : List ℕ) (new : Option (List ℕ)) : Type 0 where
+  pub one : IsNextLine whole rest new
+  pub line : List ℕ
+  pub is_line : lines (whole ++ rest) ≡ lines whole ++ line ∷ []
+  pub may : MayRunOut (script_of (lines whole)).settings.known line
+
 -- What was read of the line in which playing ended, after whole lines: of a line at fault no octet
--- after the one that shows the fault, or the whole line.
+-- after the one that shows the fault, or the whole line; where memory ran out, nothing, or the
+-- whole line.
 abbrev pub IsUnplayed : PlayFault → List ℕ → List ℕ → Option (List ℕ) → Type 0
 IsUnplayed (faults.Script n why) whole rest new =
     ((script_of (lines (whole ++ rest))).fault ≡ Some (n, why))
     × (IsNextLine whole rest new ⊎ IsCutOff why rest new)
 IsUnplayed faults.Read whole rest new = IsPartOfLine rest
-IsUnplayed faults.Memory whole rest new = IsPartOfLine rest ⊎ IsFedLine rest
+IsUnplayed faults.Memory whole rest new = (rest ≡ []) ⊎ IsRunOut whole rest new
 IsUnplayed faults.Write whole rest new = ⊥
 
 -- Whole lines were read, and played; then some of one more line was read, and it was not played.

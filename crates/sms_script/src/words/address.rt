@@ -1,6 +1,8 @@
 //! Addresses in a script.
 
 ghost use Rattle.std.specs.Prelude.{◌≡◌};
+ghost use Rattle.std.specs.Str.{chars};
+ghost use Rattle.sms_field.specs.Address.Text.{IsNoNumber};
 ghost use Rattle.sms_script.specs.Reasons.{Gives};
 ghost use Rattle.sms_script.specs.Words.Addresses.{address, can_be_phone};
 
@@ -8,9 +10,9 @@ use crate::fault::{MeaningFault, ScriptFault};
 use sms_field::{Address, Symbols, TextFault};
 use std::alloc::Global;
 
-/// The address of which a word is the text.
+/// The address of which a word is the text. Memory runs out for a name alone.
 pub fn address_of(alloc: Global, word: &str) -> Result<Address, MeaningFault>
-    ensures { Gives (λ a. a) result (address word.now) }
+    ensures { Gives (λ _. IsNoNumber (chars word.now)) (λ a. a) result (address word.now) }
 {
     match Address::from_text(alloc, word) {
         Ok(address) => Ok(address),

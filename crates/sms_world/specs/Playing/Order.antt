@@ -1,5 +1,5 @@
 -- Scripts played on a watched world: what is told of the order of their runs.
-use Rattle.std.specs.Prelude.{◌≡◌, ℕ, ◌<◌, ◌⊎◌, List, ◌++◌, length, map, reverse, Option, None, Result, Ok, Err}
+use Rattle.std.specs.Prelude.{◌≡◌, ℕ, ◌<◌, ◌⊎◌, List, [], ◌++◌, length, map, reverse, Option, None, Result, Ok, Err}
 use Rattle.std.specs.Io.KnownBytes.{Appends, Consumes, IsAtEnd}
 use Rattle.sms_script.specs.Lines.{lines}
 use Rattle.sms_script.specs.Play.{Plays}
@@ -9,6 +9,7 @@ use Rattle.sms_script.specs.Script.{ScriptValue, script_of}
 use Rattle.sms_script.specs.Script.Settings.{SettingsValue}
 use Rattle.sms_script.specs.Transcript.{Happened, transcript}
 use Rattle.sms_script.specs.declared.fault.PlayFault.{PlayFault}
+use Rattle.sms_script.specs.declared.fault.PlayFault.TheVariants as faults
 use Rattle.sms_world.specs.declared.order.Breach.{Breach}
 use Rattle.sms_world.specs.Breaches.{IsTold}
 use Rattle.sms_world.specs.Headline.OfRun.{Headline}
@@ -59,6 +60,12 @@ JudgesBy IsSo old new before now s answer =
 abbrev pub Judges : (old new before now : Option (List ℕ)) → SettingsValue → Option Breach → Type 0
 Judges = JudgesBy IsJudged
 
+-- What of a text was put: all of it; where a write failed, some first octets; where memory ran out,
+-- nothing.
+abbrev pub IsPutAtOnce : List ℕ → List ℕ → Result (Unit {0}) PlayFault → Type 0
+IsPutAtOnce text front (Err faults.Memory) = front ≡ []
+IsPutAtOnce text front result = IsPutOf text front result
+
 -- So it is; and after the transcript the words that tell it were put, of which this result says how
 -- much.
 pub record TellsBy {A : Type 0} (IsSo : ScriptValue → List ℕ → A → Type 0)
@@ -72,7 +79,7 @@ pub record TellsBy {A : Type 0} (IsSo : ScriptValue → List ℕ → A → Type 
   pub answer : A
   pub judged : IsSo (script_of (lines read)) text answer
   pub front : List ℕ
-  pub words_are : IsPutOf (words (script_of (lines read)).settings answer) front result
+  pub words_are : IsPutAtOnce (words (script_of (lines read)).settings answer) front result
   pub wrote : Appends before now (text ++ front)
 
 -- All was played, and that was told of its run; or else playing ended as it does on a world that is

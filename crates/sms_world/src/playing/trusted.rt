@@ -69,6 +69,8 @@ pub fn play_trusted<S: Source, K: Sink>(
 
 /// As `play`, and after the transcript come the lines that tell what `play_trusted` answers:
 /// whether its run was orderly, where that is asked for, and whether `accepted` means accepted.
+/// Where the script is at fault, a read fails or memory runs out, none of them comes, and nothing
+/// is told of the events before. Where a write fails within them, a front of them has come.
 pub fn play_with_accepted<S: Source, K: Sink>(
     alloc: Global,
     tells_order: bool,

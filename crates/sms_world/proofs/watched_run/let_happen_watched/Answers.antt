@@ -1,7 +1,7 @@
 use Rattle.std.proofs.Common.{◌+◌, length, ap, subst, ◌∙◌, refl, arith}
 use Rattle.std.proofs.lemmas.List.{length_push, take_all}
 use Rattle.std.proofs.lemmas.Option.{slice_get_read}
-use Rattle.sms_world.specs.Watched.{AllGoOnWatched}
+use Rattle.sms_world.specs.Inside.Watching.{AllGoOnWatched}
 use Rattle.sms_world.proofs.OneAfterAnother.{watched_on, watched_at_first}
 use Rattle.sms_world.proofs.watched_run.let_happen_watched.Goals as goal
 

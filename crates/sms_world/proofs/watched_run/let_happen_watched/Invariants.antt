@@ -1,6 +1,6 @@
 use Rattle.std.proofs.Common.{◌≡◌, length, take}
 use Rattle.std.specs.Vec.{vec_len, vec_capacity}
-use Rattle.sms_world.specs.Watched.{AllGoOnWatched}
+use Rattle.sms_world.specs.Inside.Watching.{AllGoOnWatched}
 use Rattle.sms_world.proofs.watched_run.let_happen_watched.Given as goal
 
 abbrev pub invariant-loop-event : goal.invariant-loop-event

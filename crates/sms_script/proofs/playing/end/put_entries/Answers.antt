@@ -1,6 +1,5 @@
-use Rattle.std.proofs.Common.{◌+◌, ◌<◌, ◌≤◌, sym, drop, flat_map, arith, List, ℕ, length, subst}
+use Rattle.std.proofs.Common.{◌+◌, ◌≤◌, sym, drop, flat_map, arith, List, ℕ, length, subst}
 use Rattle.std.proofs.lemmas.Result.{err_from_is_err_and}
-use Rattle.sms_script.proofs.PacketLemmas.{not_none}
 use Rattle.sms_script.proofs.PutLemmas.{Left, left_start, left_more, entry_line_ends, left_fault, left_end, entries_left, no_entries_left}
 use Rattle.sms_script.specs.Play.Runs.{store_at}
 use Rattle.sms_script.specs.Transcript.Lines.{EntryValue, entry_line}

@@ -1,6 +1,5 @@
-use Rattle.std.proofs.Common.{◌≡◌, ◌+◌, ◌-◌, ◌<◌, ◌≤◌, sym, drop, arith, List, ℕ, length, subst}
+use Rattle.std.proofs.Common.{◌≡◌, ◌+◌, ◌-◌, ◌≤◌, sym, drop, arith, List, ℕ, length, subst}
 use Rattle.std.proofs.lemmas.Result.{err_from_is_err_and}
-use Rattle.sms_script.proofs.PacketLemmas.{not_none}
 use Rattle.sms_script.proofs.PutLemmas.{Left, left_start, left_more, sent_line_ends, left_fault, left_end, statuses_left, no_statuses_left}
 use Rattle.sms_script.specs.Play.Runs.{statuses_at}
 use Rattle.sms_script.specs.Transcript.{sent_lines}

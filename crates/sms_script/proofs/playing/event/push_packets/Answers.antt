@@ -1,5 +1,5 @@
-use Rattle.std.proofs.Common.{◌≡◌, ◌+◌, ◌-◌, ◌<◌, ◌≤◌, length, refl, sym, arith, List}
-use Rattle.sms_script.proofs.PacketLemmas.{packet_lines-more, packet_lines-end, not_none}
+use Rattle.std.proofs.Common.{◌≡◌, ◌+◌, ◌-◌, ◌≤◌, length, refl, sym, arith, List}
+use Rattle.sms_script.proofs.PacketLemmas.{packet_lines-more, packet_lines-end}
 use Rattle.sms_script.specs.Transcript.Lines.{PacketValue}
 use Rattle.sms_script.specs.Transcript.Shown.{shown}
 use Rattle.sms_script.proofs.playing.event.push_packets.Goals as goal

@@ -1,6 +1,6 @@
 use Rattle.std.proofs.Common.{◌≡◌, ◌∙◌, ◌+◌, ap, sym, subst, refl, Some, Err, inl, Result}
 use Rattle.std.proofs.lemmas.Result.{err_from_is_err_and}
-use Rattle.sms_script.proofs.LineTurns.{event_answered}
+use Rattle.sms_script.proofs.LineTurns.{event_answered, event_may}
 use Rattle.sms_script.specs.Inside.Standing.{at, GoesOn, OpensAt}
 use Rattle.sms_script.specs.declared.fault.PlayFault.{PlayFault}
 use Rattle.sms_script.proofs.playing.line.play_event.Goals as goal
@@ -10,7 +10,7 @@ returns-in_err-start-clause-advances g c from line takes few short ls before h =
     let p = err_from_is_err_and c.from_residual.result c.from_residual.ensures.1 in
     subst (λ (r : Result (Unit {0}) PlayFault). GoesOn g.N.Network.conduct ls line (at from c.args.network.now c.args.events.now (g.K.Sink.contents c.args.sink.now)) (at c.args.script.now c.start.new.network c.args.events.now (g.K.Sink.contents c.args.sink.now)) before r)
     (sym (p.1 ∙ ap Err p.2 ∙ ap Err c.in_err-start.ensures.memory))
-    h
+    (h, event_may from c.args.script.now line c.args.event.now takes)
 
 pub returns-clause-advances : goal.returns-clause-advances
 returns-clause-advances g c from line takes few short ls before h =
