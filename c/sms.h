@@ -40,7 +40,7 @@ extern "C" {
 
 /* Enough octets for any text of one unit, any unit that is written, any packet, any text of an address. */
 #define SMS_TEXT_MAX 480
-#define SMS_UNIT_MAX 184
+#define SMS_UNIT_MAX 192
 #define SMS_PACKET_MAX 258
 #define SMS_ADDRESS_TEXT_MAX 33
 
