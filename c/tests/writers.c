@@ -285,6 +285,17 @@ static void status_reports(void)
     CHECK(are("6A2A0B917238880900F19930925161958099309251610580300409" "0500032A0101D069"));
     CHECK(sms_status_report_write(&fields, to, 12, headed, 8, out, 34, &needed) == SMS_NO_ROOM && needed == 35);
 
+    /* the longest: 20 digits, and 159 octets of data */
+    fields.has_header = 0;
+    fields.has_pid = fields.has_dcs = 1;
+    fields.dcs = 0xF5;
+    fields.length = 159;
+    CHECK(sms_status_report_write(&fields, octets_of("+12345678901234567890"), 21, out + 200, 159, out, 192, &needed) == SMS_OK);
+    CHECK(needed == SMS_UNIT_MAX);
+    fields.has_header = 1;
+    fields.has_pid = fields.has_dcs = 0;
+    fields.length = 9;
+
     CHECK(sms_status_report_write(&fields, to, 12, headed, 7, out, sizeof out, &needed) == SMS_OUT_OF_RANGE && needed == 0);
     CHECK(sms_status_report_write(&fields, octets_of("+x"), 2, headed, 8, out, sizeof out, &needed) == SMS_BAD_ADDRESS);
     CHECK(sms_status_report_write(&fields, octets_of("\xFF"), 1, headed, 8, out, sizeof out, &needed) == SMS_NOT_UTF8);
