@@ -367,8 +367,8 @@ typedef struct sms_deliver_fields {
  * digits, or a name of at most 11 septets. SMS_OUT_OF_RANGE: the message class, a spare octet, the reference or
  * its width, or no format of TP-VP. SMS_NOT_UTF8: the address or the text. SMS_BAD_ADDRESS. SMS_TOO_LONG: more
  * than 255 segments. SMS_NOT_THERE: the index is not below their number. SMS_NO_ROOM, SMS_OK. From
- * SMS_BAD_ADDRESS on SMS_NO_MEMORY may come in place of each. *segments is how many segments there are under SMS_OK,
- * SMS_NO_ROOM and SMS_NOT_THERE, not told under SMS_NO_MEMORY, and else 0. */
+ * SMS_BAD_ADDRESS on SMS_NO_MEMORY may come in place of each. *segments is how many segments there are under
+ * SMS_OK, SMS_NO_ROOM and SMS_NOT_THERE, 0 or that under SMS_NO_MEMORY, and else 0. */
 SMS_STATUS sms_submit_write(const sms_submit_fields *fields, const uint8_t *target, size_t target_count,
                             const uint8_t *text, size_t text_count, size_t index,
                             uint8_t *out, size_t room, size_t *needed, size_t *segments);

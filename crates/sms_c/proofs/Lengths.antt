@@ -20,10 +20,10 @@ use Rattle.sms_relay.specs.declared.cp.CpBody.TheVariants.{Transfer, Ack, Fail}
 use Rattle.sms_text.specs.Bits.{octet_bits, septets_of, unpacked}
 use Rattle.sms_text.specs.Octets.{IsOctets}
 use Rattle.sms_tpdu.specs.Deliver.{SpellsDeliver}
-use Rattle.sms_tpdu.specs.Inside.SizeLaws.{deliver_within, submit_within}
+use Rattle.sms_tpdu.specs.Inside.SizeLaws.{deliver_within, submit_within, deliver_ack_within, deliver_error_within, submit_ack_within, submit_error_within, status_report_within}
 use Rattle.sms_tpdu.specs.Sizes.{IsWithin}
 use Rattle.sms_tpdu.specs.Submit.{SpellsSubmit}
-use Rattle.sms_c.specs.Lengths.{AddressTextsFit, IsShortText, PacketsFit, TextsFit, UnitsFit}
+use Rattle.sms_c.specs.Lengths.{AddressTextsFit, IsShortText, PacketsFit, TextsFit, UnitsFit, ReportsFit}
 use Rattle.sms_c.specs.Parts.{octets_at, user_chars}
 use Rattle.sms_c.specs.declared.parts.UserSeen.{UserSeen}
 use Rattle.sms_text.specs.Tables.{main, extension, escape, space, character_of}
@@ -169,6 +169,15 @@ address_texts_fit address is = short_text 33 (address_text address) (symbols_few
 
 pub units_fit : UnitsFit
 units_fit = (λ value octets is. omega (arith, submit_within value octets is), λ value octets is. omega (arith, deliver_within value octets is))
+
+pub reports_fit : ReportsFit
+reports_fit = (
+  λ value octets is. omega (arith, deliver_ack_within value octets is),
+  λ value octets is. omega (arith, deliver_error_within value octets is),
+  λ value octets is. omega (arith, submit_ack_within value octets is),
+  λ value octets is. omega (arith, submit_error_within value octets is),
+  λ value octets is. omega (arith, status_report_within value octets is),
+)
 
 packet_few : (body : CpBody) → IsCpBody body → length (cp_body_octets body) ≤ 256
 packet_few (Transfer octets) is = omega (arith, is.0)

@@ -5,7 +5,9 @@ use Rattle.sms_field.specs.Address.Text.{address_text}
 use Rattle.sms_field.specs.Address.Value.{AddressValue, HasSpelling}
 use Rattle.sms_text.specs.Octets.{IsOctets}
 use Rattle.sms_tpdu.specs.Deliver.{SpellsDeliver}
+use Rattle.sms_tpdu.specs.Report.{SpellsDeliverAck, SpellsDeliverError, SpellsSubmitAck, SpellsSubmitError}
 use Rattle.sms_tpdu.specs.Sizes.{IsWithin}
+use Rattle.sms_tpdu.specs.StatusReport.{SpellsStatusReport}
 use Rattle.sms_tpdu.specs.Submit.{SpellsSubmit}
 use Rattle.sms_relay.specs.Cp.{SpellsCp}
 use Rattle.sms_c.specs.Parts.{user_chars}
@@ -23,9 +25,16 @@ TextsFit =
     → user.count ≤ 160 → user.body.length ≤ 140 → IsOctets octets
     → IsShortText 480 (user_chars octets user)
 
--- SMS_UNIT_MAX, for a unit that is written
+-- SMS_UNIT_MAX, for a message that is written
 abbrev pub UnitsFit : Type 0
-UnitsFit = IsWithin 184 SpellsSubmit × IsWithin 184 SpellsDeliver
+UnitsFit = IsWithin 192 SpellsSubmit × IsWithin 192 SpellsDeliver
+
+-- and for a report
+abbrev pub ReportsFit : Type 0
+ReportsFit =
+    IsWithin 192 SpellsDeliverAck × IsWithin 192 SpellsDeliverError
+    × IsWithin 192 SpellsSubmitAck × IsWithin 192 SpellsSubmitError
+    × IsWithin 192 SpellsStatusReport
 
 -- SMS_PACKET_MAX, for a message of the connection
 abbrev pub PacketsFit : Type 0

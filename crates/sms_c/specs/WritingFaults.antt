@@ -45,12 +45,15 @@ pub record TakesTooMany (reference : Reference) (text : List ℕ) : Type 0 where
   pub cut : IsCut width (chars text) pieces
   pub many : 255 < length pieces
 
--- it is cut into so many segments, at most 255, and the index is not below that
-pub record EndsBefore (reference : Reference) (text : List ℕ) (index count : ℕ) : Type 0 where
+-- it is cut into so many segments, at most 255
+pub record IsCutInto (reference : Reference) (text : List ℕ) (count : ℕ) : Type 0 where
   pub width : Width
   pub width_is : reference.width ≡ bits_of width
   pub segments : List Segment
   pub cut : AreSegments width (chars text) segments
   pub counted : count ≡ length segments
   pub few : count ≤ 255
-  pub before : count ≤ index
+
+-- and the index is not below that
+abbrev pub EndsBefore : Reference → List ℕ → ℕ → ℕ → Type 0
+EndsBefore reference text index count = IsCutInto reference text count × (count ≤ index)

@@ -14,7 +14,7 @@ ghost use Rattle.sms_c.specs.Parts.{bits_of};
 ghost use Rattle.sms_c.specs.Writing as seen;
 ghost use Rattle.sms_c.specs.HandedOut.{ArePut, LackRoom};
 ghost use Rattle.sms_c.specs.Status.{status_in, IsNotRoom};
-ghost use Rattle.sms_c.specs.WritingFaults.{AreTexts, EndsBefore, FitsDeliver, FitsReference, FitsSubmit, SaysNoAddress, TakesTooMany};
+ghost use Rattle.sms_c.specs.WritingFaults.{AreTexts, EndsBefore, FitsDeliver, FitsReference, FitsSubmit, IsCutInto, SaysNoAddress, TakesTooMany};
 ghost use Rattle.sms_c.specs.Writing.{OfDeliver, OfSubmit};
 ghost use Rattle.sms_c.specs.declared.status.Failure.TheVariants.{BadAddress, Memory, NoRoom, OutOfRange, TooLong};
 
@@ -170,6 +170,8 @@ fn put_submit(
         → EndsBefore fields.segments text.now index count.new }
     ensures answered { (status_in result < 9) × (status_in result ≢ 1) }
     ensures uncounted { 3 < status_in result → status_in result < 8 → count.new ≡ count.old }
+    ensures counted { status_in result ≡ 2 → (count.new ≡ count.old)
+        ⊎ IsCutInto fields.segments text.now count.new }
     ensures put { IfOk result (λ _. OfSubmit fields target.now text.now index count.new
         (ArePut out.old out.new needed.new)) }
     ensures no_room { result ≡ Err NoRoom → OfSubmit fields target.now text.now index count.new
@@ -220,6 +222,8 @@ pub extern "C" fn sms_submit_write(
         → EndsBefore fields.now.segments text.now index count.new }
     ensures answered { (result < 9) × (result ≢ 1) }
     ensures uncounted { 3 < result → result < 8 → count.new ≡ 0 }
+    ensures counted { result ≡ 2 → (count.new ≡ 0)
+        ⊎ IsCutInto fields.now.segments text.now count.new }
     ensures put { result ≡ 0 → OfSubmit fields.now target.now text.now index count.new
         (ArePut out.old out.new needed.new) }
     ensures no_room { result ≡ 3 → OfSubmit fields.now target.now text.now index count.new
@@ -284,6 +288,8 @@ fn put_deliver(
         → EndsBefore fields.segments text.now index count.new }
     ensures answered { (status_in result < 9) × (status_in result ≢ 1) }
     ensures uncounted { 3 < status_in result → status_in result < 8 → count.new ≡ count.old }
+    ensures counted { status_in result ≡ 2 → (count.new ≡ count.old)
+        ⊎ IsCutInto fields.segments text.now count.new }
     ensures put { IfOk result (λ _. OfDeliver fields origin.now text.now index count.new
         (ArePut out.old out.new needed.new)) }
     ensures no_room { result ≡ Err NoRoom → OfDeliver fields origin.now text.now index count.new
@@ -331,6 +337,8 @@ pub extern "C" fn sms_deliver_write(
         → EndsBefore fields.now.segments text.now index count.new }
     ensures answered { (result < 9) × (result ≢ 1) }
     ensures uncounted { 3 < result → result < 8 → count.new ≡ 0 }
+    ensures counted { result ≡ 2 → (count.new ≡ 0)
+        ⊎ IsCutInto fields.now.segments text.now count.new }
     ensures put { result ≡ 0 → OfDeliver fields.now origin.now text.now index count.new
         (ArePut out.old out.new needed.new) }
     ensures no_room { result ≡ 3 → OfDeliver fields.now origin.now text.now index count.new
