@@ -279,7 +279,8 @@ fn has_septets(octets: &[u8], fill: u8, count: u8) -> bool
 fn text_of_count(alloc: Global, octets: &[u8], fill: u8, count: u8) -> Result<String, Failure>
     ensures text { IfOk result (λ text. chars (string_bytes text)
         ≡ text_of_septets (unpacked fill count octets.now)) }
-    ensures range { (status_in result ≡ 7) ↔ (HasSeptets (length octets.now) fill count → ⊥) }
+    ensures range { (status_in result ≡ 7)
+        ↔ (HasSeptets (length octets.now) fill count → ⊥) }
     ensures other { IfErr result (λ why. (number_of why ≡ 7) ⊎ (number_of why ≡ 2)) }
 {
     if !has_septets(octets, fill, count) {

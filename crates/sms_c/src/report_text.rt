@@ -175,7 +175,8 @@ pub extern "C" fn sms_status_report_text(
     out: &mut [u8],
     needed: &mut usize,
 ) -> u32
-    ensures put { result ≡ 0 → OfTextIn (data_text octets.now (data_of_status_report report.now))
+    ensures put { result ≡ 0
+        → OfTextIn (data_text octets.now (data_of_status_report report.now))
         (ArePut out.old out.new needed.new) }
     ensures no_room { result ≡ 3
         → OfTextIn (data_text octets.now (data_of_status_report report.now))

@@ -91,7 +91,8 @@ fn put_split(
     ensures not_utf8 { (status_in result ≡ 4)
         ↔ (FitsReference reference × (IsUtf8 text.now → ⊥)) }
     ensures too_long { status_in result ≡ 6 → TakesTooMany reference text.now }
-    ensures answered { (status_in result < 8) × (status_in result ≢ 1) × (status_in result ≢ 5) }
+    ensures answered { (status_in result < 8)
+        × (status_in result ≢ 1) × (status_in result ≢ 5) }
     ensures put { IfOk result (λ _. OfSplit reference text.now count.new dcs.new
         (BothArePut out.old out.new needed.new spans.old spans.new)) }
     ensures no_room { result ≡ Err NoRoom → OfSplit reference text.now count.new dcs.new

@@ -42,7 +42,8 @@ pub fn width_of(reference: Reference) -> Result<Width, Failure>
     ensures width { IfOk result (λ width. reference.width ≡ bits_of width) }
     ensures in_range { IfOk result (λ width. width ≡ Eight → reference.reference < 256) }
     ensures fits { IfOk result (λ _. FitsReference reference) }
-    ensures unfit { IfErr result (λ why. (why ≡ OutOfRange) × (FitsReference reference → ⊥)) }
+    ensures unfit { IfErr result (λ why.
+        (why ≡ OutOfRange) × (FitsReference reference → ⊥)) }
 {
     match reference.width {
         8 if reference.reference < 256 => Ok(Width::Eight),

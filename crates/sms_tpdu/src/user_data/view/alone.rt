@@ -54,7 +54,8 @@ fn count_by(
     told: Length,
     octets: usize,
 ) -> Result<u8, UnitFault>
-    ensures { result ≡ alone.count_for with_header alphabet (alone.length_by told alphabet octets) }
+    ensures { result ≡ alone.count_for with_header alphabet
+        (alone.length_by told alphabet octets) }
 {
     match told {
         Length::Told(count) => count_for(with_header, alphabet, usize::from(count)),
