@@ -1,5 +1,5 @@
 -- How long texts are in UTF-8.
-use Rattle.std.proofs.Common.{◌≡◌, ◌≤◌, ◌<◌, ◌+◌, ◌*◌, ℕ, zero, suc, Bool, true, false, cond, ltb, List, [], ◌∷◌, ◌++◌, length, map, take, drop, get_or, Option, Some, None, refl, sym, ap, subst, ◌∙◌, arith, length-append}
+use Rattle.std.proofs.Common.{◌≡◌, ◌≤◌, ◌<◌, ◌+◌, ◌*◌, ℕ, zero, suc, Bool, true, false, cond, List, [], ◌∷◌, ◌++◌, length, map, take, drop, get_or, Some, None, refl, sym, ap, subst, ◌∙◌, arith, length-append}
 use Rattle.std.proofs.Math.Utf8.{encode, encodes}
 use Rattle.std.proofs.lemmas.Bool.{ltb-true}
 use Rattle.std.proofs.lemmas.List.{length-take}
@@ -7,22 +7,18 @@ use Rattle.std.proofs.lemmas.Str.{encodes-chars, len_utf8_ascii, len_utf8_bounds
 use Rattle.std.specs.Char.{len_utf8}
 use Rattle.std.specs.Char.Utf16.{is_high_surrogate, is_low_surrogate, lone_unit_char, surrogate_pair_char, utf16_chars, utf16_lossy_chars}
 use Rattle.std.specs.Prelude.{◌==◌, ◌&&◌, nat_le, nat_lt, unwrap_or}
-use Rattle.std.specs.Str.{chars, IsUtf8}
 use Rattle.sms_field.specs.Address.DigitText.{digit_characters, character_of_digit, text_of_digits}
-use Rattle.sms_field.specs.Address.Text.{address_text, prefix, symbols_text}
-use Rattle.sms_field.specs.Address.Value.{AddressValue, AreSymbolsOf, HasSpelling}
+use Rattle.sms_field.specs.Address.Text.{address_text, symbols_text}
+use Rattle.sms_field.specs.Address.Value.{AreSymbolsOf}
 use Rattle.sms_field.specs.declared.symbols.Symbols.{Symbols}
 use Rattle.sms_field.specs.declared.symbols.Symbols.TheVariants.{Digits, Name}
-use Rattle.sms_relay.specs.Cp.Value.{CpValue, IsCpBody}
-use Rattle.sms_relay.specs.Cp.{SpellsCp, cp_body_octets}
+use Rattle.sms_relay.specs.Cp.Value.{IsCpBody}
+use Rattle.sms_relay.specs.Cp.{cp_body_octets}
 use Rattle.sms_relay.specs.declared.cp.CpBody.{CpBody}
 use Rattle.sms_relay.specs.declared.cp.CpBody.TheVariants.{Transfer, Ack, Fail}
 use Rattle.sms_text.specs.Bits.{octet_bits, septets_of, unpacked}
 use Rattle.sms_text.specs.Octets.{IsOctets}
-use Rattle.sms_tpdu.specs.Deliver.{SpellsDeliver}
 use Rattle.sms_tpdu.specs.Inside.SizeLaws.{deliver_within, submit_within, deliver_ack_within, deliver_error_within, submit_ack_within, submit_error_within, status_report_within}
-use Rattle.sms_tpdu.specs.Sizes.{IsWithin}
-use Rattle.sms_tpdu.specs.Submit.{SpellsSubmit}
 use Rattle.sms_c.specs.Lengths.{AddressTextsFit, IsShortText, PacketsFit, TextsFit, UnitsFit, ReportsFit}
 use Rattle.sms_c.specs.Parts.{octets_at, user_chars}
 use Rattle.sms_c.specs.declared.parts.UserSeen.{UserSeen}

@@ -1,5 +1,5 @@
 -- Messages of the relay are short enough for a packet.
-use Rattle.std.proofs.Common.{◌≡◌, ℕ, ◌+◌, ◌≤◌, List, [], ◌∷◌, ◌++◌, length, Some, None, arith, length-append}
+use Rattle.std.proofs.Common.{ℕ, ◌≤◌, List, ◌∷◌, length, Some, None, arith, length-append}
 use Rattle.sms_field.specs.Inside.AddressLengthLaws.{relay_address_few}
 use Rattle.sms_field.specs.RelayAddress.{optional_address_octets}
 use Rattle.sms_relay.specs.Rp.Cause.{cause_octets}

@@ -2,12 +2,18 @@
 use Rattle.std.proofs.Common.{◌≡◌, ◌⊎◌, ◌↔◌, ℕ, Bool, true, false, List, refl, sym, ap, subst, ◌∙◌, Global, arith}
 use Rattle.std.proofs.lemmas.Str.{IsUtf8-string_bytes, IsUtf8-from_is_utf8}
 use Rattle.std.specs.Str.{chars, is_utf8, IsUtf8}
-use Rattle.std.specs.Prelude.{String}
+use Rattle.std.specs.Prelude.{String, Some, Result, Ok, Err}
 use Rattle.std.specs.String.{string_bytes}
 use Rattle.sms_field.specs.Address.{address}
 use Rattle.sms_field.specs.Address.Text.{address_text}
 use Rattle.sms_field.specs.Address.Value.{AddressValue}
 use Rattle.sms_field.specs.Reading.{Reads}
+use Rattle.sms_field.specs.RelayAddress.Text.{relay_address_text}
+use Rattle.sms_field.specs.RelayAddress.Value.{RelayAddressValue}
+use Rattle.sms_c.specs.Answered.{OfTextIn}
+use Rattle.sms_c.specs.CentreText.{IsCentreAt, OfCentre}
+use Rattle.sms_c.specs.declared.relay.RpSeen.{RpSeen}
+use Rattle.sms_c.specs.declared.status.Failure.{Failure}
 use Rattle.sms_c.specs.Fitting.{EndsWithin, HoldNoAddress, IsAtNoAddress}
 use Rattle.sms_c.specs.HandedOut.{OfText}
 use Rattle.sms_c.specs.Parts.{octets_at, OfAddress}
@@ -41,3 +47,11 @@ refused_there s t octets inner span e same within law =
 pub not_refused : (s : ℕ) (octets inner : List ℕ) (span : Span) → (s ≡ 0) ⊎ (s ≡ 3) → inner ≡ octets_at octets span → (value : AddressValue) (used : ℕ) → Reads address value inner used → (s ≡ 1) ↔ IsAtNoAddress octets span
 not_refused s octets inner span other same value used read =
     (λ one. absurd (omega (arith, one, other)), λ is. absurd (is.1.none value used (subst (λ (l : List ℕ). Reads address value l used) same read)))
+
+pub of_centre : (octets : List ℕ) (rp : RpSeen) (Out : List ℕ → Type 0) (text : String Global) (bytes : List ℕ) → bytes ≡ string_bytes text → ((address : RelayAddressValue) × (used : ℕ) × IsCentreAt octets rp (Some address) used × (chars (string_bytes text) ≡ relay_address_text address)) → Out bytes → OfCentre octets rp Out
+of_centre octets rp Out text bytes e read out =
+    record { address = read.0; used = read.1; read = read.2; told = of_text (relay_address_text read.0) Out text bytes e read.3 out }
+
+pub of_text_in : (known : Result (List ℕ) Failure) (Out : List ℕ → Type 0) (text : String Global) (bytes : List ℕ) → bytes ≡ string_bytes text → known ≡ Ok (chars (string_bytes text)) → Out bytes → OfTextIn known Out
+of_text_in (Ok told) Out text bytes e is out = of_text told Out text bytes e (let same : chars (string_bytes text) ≡ told = cc in same) out
+of_text_in (Err why) Out text bytes e is out = absurd cc

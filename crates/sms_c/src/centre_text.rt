@@ -12,8 +12,8 @@ ghost use Rattle.sms_c.specs.Status.{IsNotRoom};
 ghost use Rattle.sms_c.specs.Writing.{is_set};
 ghost use Rattle.sms_c.specs.declared.status.Failure.TheVariants.{NoRoom, NotThere, OutOfRange, Refused};
 
+use crate::handed_out::hand_out;
 use crate::lying::part_of;
-use crate::out::hand_out;
 use crate::relay::RpSeen;
 use crate::status::{Failure, status_of};
 use crate::writing::is_set;

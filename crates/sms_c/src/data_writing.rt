@@ -12,7 +12,7 @@ ghost use Rattle.sms_c.specs.declared.status.Failure.TheVariants.{NoRoom};
 use crate::address_given::address_given;
 use crate::class::are_spare;
 use crate::data_given::data_given;
-use crate::out::hand_out;
+use crate::handed_out::hand_out;
 use crate::status::{Failure, status_of};
 use crate::writing::{DeliverFields, SubmitFields, is_set};
 use sms_field::Stamp;

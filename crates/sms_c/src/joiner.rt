@@ -21,10 +21,10 @@ pub mod inside;
 pub mod kept;
 pub mod parts;
 
+use crate::handed_out::hand_out;
 use crate::joiner::inside::Inside;
 use crate::joiner::kept::Kept;
 use crate::joiner::parts::Parts;
-use crate::out::hand_out;
 use crate::parts::bit;
 use crate::status::{Failure, OK, Refused, status_of, unit_refused};
 use sms_field::{Alphabet, alphabet_of};

@@ -16,7 +16,7 @@ ghost use Rattle.sms_c.specs.Parts.{OfAddress, ShowsUser};
 ghost use Rattle.sms_c.specs.Status.{IsNotRoom, status_in, status_of as number_of};
 ghost use Rattle.sms_c.specs.declared.status.Failure.TheVariants.{NoRoom};
 
-use crate::out::hand_out;
+use crate::handed_out::hand_out;
 use crate::status::{Failure, status_of};
 use sms_field::{AddressView, Alphabet, alphabet_of};
 use sms_text::{text_of_packed, text_of_ucs2_octets};

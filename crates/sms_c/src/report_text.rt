@@ -11,8 +11,8 @@ ghost use Rattle.sms_c.specs.ReportText.{data_text, data_of_report, data_of_stat
 ghost use Rattle.sms_c.specs.Status.{IsNotRoom};
 ghost use Rattle.sms_c.specs.declared.status.Failure.TheVariants.{NoRoom};
 
+use crate::handed_out::hand_out;
 use crate::lying::part_of;
-use crate::out::hand_out;
 use crate::parts::Span;
 use crate::reading::report::ReportSeen;
 use crate::reading::status_report::StatusReportSeen;

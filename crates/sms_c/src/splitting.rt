@@ -9,7 +9,7 @@ ghost use Rattle.sms_c.specs.Status.{status_in, IsNotRoom};
 ghost use Rattle.sms_c.specs.WritingFaults.{FitsReference, TakesTooMany};
 ghost use Rattle.sms_c.specs.declared.status.Failure.TheVariants.{NoRoom};
 
-use crate::out::{hand_out, text_of};
+use crate::handed_out::{hand_out, text_of};
 use crate::parts::Span;
 use crate::status::{Failure, status_of};
 use crate::writing::{Reference, segments_of, width_of};

@@ -12,7 +12,7 @@ ghost use Rattle.sms_c.specs.declared.status.Failure.TheVariants.{NoRoom};
 
 use crate::address_given::address_given;
 use crate::class::{SPARE, are_spare};
-use crate::out::hand_out;
+use crate::handed_out::hand_out;
 use crate::report_given::{octet_given, user_given};
 use crate::status::{Failure, status_of};
 use crate::times::StampOctets;

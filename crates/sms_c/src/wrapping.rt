@@ -13,7 +13,7 @@ ghost use Rattle.sms_c.specs.Wrapping.{unit_in, IsCentre, OfCp, OfRelay, OfData,
 ghost use Rattle.sms_c.specs.WrappingFaults.{ack_fault, centre_fault, data_fault, envelope_fault, error_fault, transaction_fault, unit_fault, IsTold};
 ghost use Rattle.sms_c.specs.declared.status.Failure.TheVariants.{Memory, NoRoom};
 
-use crate::out::{hand_out, text_of};
+use crate::handed_out::{hand_out, text_of};
 use crate::status::{Failure, status_of};
 use sms_field::RpAddress;
 use sms_relay::{CpBody, CpMessage, RpBody, RpMessage, Side, USER_DATA_MAX};

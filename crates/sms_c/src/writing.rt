@@ -19,7 +19,7 @@ ghost use Rattle.sms_c.specs.Writing.{OfDeliver, OfSubmit};
 ghost use Rattle.sms_c.specs.declared.status.Failure.TheVariants.{BadAddress, Memory, NoRoom, OutOfRange, TooLong};
 
 use crate::class::{SPARE, are_allowed, scheme_of};
-use crate::out::{hand_out, text_of};
+use crate::handed_out::{hand_out, text_of};
 use crate::status::{Failure, status_of};
 use crate::times::{StampOctets, ValidityOctets};
 use sms_field::{Address, Stamp, Validity};

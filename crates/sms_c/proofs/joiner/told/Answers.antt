@@ -1,4 +1,4 @@
-use Rattle.std.proofs.Common.{◌≡◌, true, false, ap, sym, refl, ◌∙◌, arith, rules}
+use Rattle.std.proofs.Common.{◌≡◌, true, false, ap, sym, ◌∙◌, arith, rules}
 use Rattle.sms_c.specs.Offers.{has_text}
 use Rattle.sms_c.proofs.joiner.told.Goals as goal
 
