@@ -513,6 +513,41 @@ SMS_STATUS sms_joiner_would_finish(sms_joiner *joiner, const uint8_t *octets, si
  * the text that finished last stays. SMS_CLOSED. Else SMS_OK. */
 SMS_STATUS sms_joiner_age(sms_joiner *joiner, uint64_t seconds);
 
+/* ---- the size of each struct, in octets, where a pointer has eight: said to compilers that can tell (C11, C++11) */
+
+#ifdef __LP64__
+#if defined(__cplusplus) && __cplusplus >= 201103L
+#define SMS_HAS(size, type) static_assert(sizeof(type) == size, #type)
+#elif defined(__STDC_VERSION__) && __STDC_VERSION__ >= 201112L
+#define SMS_HAS(size, type) _Static_assert(sizeof(type) == size, #type)
+#endif
+#endif
+#ifdef SMS_HAS
+SMS_HAS(16, sms_refused);
+SMS_HAS(16, sms_span);
+SMS_HAS(24, sms_address);
+SMS_HAS(6, sms_place);
+SMS_HAS(48, sms_user);
+SMS_HAS(7, sms_stamp);
+SMS_HAS(8, sms_validity);
+SMS_HAS(8, sms_date);
+SMS_HAS(96, sms_deliver);
+SMS_HAS(96, sms_submit);
+SMS_HAS(64, sms_report);
+SMS_HAS(96, sms_status_report);
+SMS_HAS(72, sms_command);
+SMS_HAS(32, sms_cp);
+SMS_HAS(48, sms_rp);
+SMS_HAS(4, sms_envelope);
+SMS_HAS(4, sms_reference);
+SMS_HAS(24, sms_submit_fields);
+SMS_HAS(24, sms_deliver_fields);
+SMS_HAS(21, sms_report_fields);
+SMS_HAS(32, sms_status_report_fields);
+SMS_HAS(16, sms_joiner);
+#undef SMS_HAS
+#endif
+
 #ifdef __cplusplus
 }
 #endif
