@@ -63,7 +63,7 @@ static void text_of_c(void)
 }
 static void submit_of_c(void)
 {
-    static const sms_submit_fields fields = {{8, 1}, 0, 0, 0, 0, 0, {1, {0xAA, 0, 0, 0, 0, 0, 0}}};
+    static const sms_submit_fields fields = {{8, 1}, 0, 0, 0, 0, 0, {1, {0xAA, 0, 0, 0, 0, 0, 0}}, 0, {0}};
     size_t needed = 0, segments;
     sink += sms_submit_write(&fields, TO, sizeof TO - 1, (const uint8_t *)TEXT, 160, 0, out, sizeof out, &needed, &segments) + needed;
 }
@@ -126,7 +126,7 @@ static const struct {
 /* The unit that is read, and whether each side finds the text in it. */
 static int is_ready(void)
 {
-    sms_deliver_fields fields = {{8, 42}, 0, 0, 0, 0, 0, {{0x42, 0x30, 0x92, 0x51, 0x61, 0x95, 0x80}}};
+    sms_deliver_fields fields = {{8, 42}, 0, 0, 0, 0, 0, {{0x42, 0x30, 0x92, 0x51, 0x61, 0x95, 0x80}}, 0, {0}};
     size_t segments;
     sms_refused refused;
     if (sizeof TEXT < 161 || sms_deliver_write(&fields, TO, sizeof TO - 1, (const uint8_t *)TEXT, 160, 0, unit, SMS_UNIT_MAX, &size, &segments) != SMS_OK)

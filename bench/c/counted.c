@@ -48,7 +48,7 @@ static const uint8_t *octets(const char *text)
 static int write_deliver(size_t kind, size_t index, uint8_t *unit, size_t *size)
 {
     static const sms_deliver_fields fields = {
-        {8, 0}, 0, 0, 0, 0, 0, {{0x42, 0x30, 0x92, 0x51, 0x61, 0x95, 0x80}}};
+        {8, 0}, 0, 0, 0, 0, 0, {{0x42, 0x30, 0x92, 0x51, 0x61, 0x95, 0x80}}, 0, {0}};
     const char *origin = ORIGINS[kind], *text = TEXTS[kind];
     size_t count;
     return sms_deliver_write(&fields, octets(origin), strlen(origin), octets(text), strlen(text),
@@ -93,7 +93,7 @@ static int text_of_one(size_t turn)
 static int write_one(size_t turn)
 {
     static const sms_submit_fields fields = {
-        {8, 1}, 0, 0, 0, 0, 0, {1, {0xAA, 0, 0, 0, 0, 0, 0}}};
+        {8, 1}, 0, 0, 0, 0, 0, {1, {0xAA, 0, 0, 0, 0, 0, 0}}, 0, {0}};
     const char *target = ORIGINS[turn % KINDS], *text = TEXTS[turn % KINDS];
     size_t count;
     return sms_submit_write(&fields, octets(target), strlen(target), octets(text), strlen(text), 0,
