@@ -1,18 +1,19 @@
 -- For which words memory may run out.
-use Rattle.std.proofs.Common.{◌≡◌, ◌%◌, ℕ, List, length, Bool, true, false, Option, Some, None, Result, Ok, Err, refl, sym, ap, ◌∙◌, subst}
+use Rattle.std.proofs.Common.{◌≡◌, ◌≢◌, ◌%◌, ℕ, List, [], ◌∷◌, length, Bool, cond, eqb, true, false, Option, Some, None, Result, Ok, Err, refl, sym, ap, ◌∙◌, subst}
 use Rattle.std.specs.Prelude.{nat_le, is_ok}
 use Rattle.std.specs.List.{list_all}
 use Rattle.std.specs.Str.{chars}
+use Rattle.std.proofs.lemmas.Bool.{eqb-true}
 use Rattle.std.proofs.lemmas.List.Sums.{AllPass-from_list_all, list_all-from_AllPass}
 use Rattle.hex.specs.Hex.{decode_of, is_hex_digit}
 use Rattle.hex.specs.declared.error.FromHexError.{FromHexError}
 use Rattle.hex.proofs.HexLemmas.{decode_of-ok, decode_of-digits}
 use Rattle.sms_text.specs.SeptetsOfText.{septets_of_text}
-use Rattle.sms_field.specs.Address.Text.{name_of, few_digits, telephone_or_name, address_of_text, IsNoNumber}
+use Rattle.sms_field.specs.Address.DigitText.{digits_of_text}
+use Rattle.sms_field.specs.Address.Text.{name_of, few_digits, telephone_of, telephone_or_name, without_plus, address_of_text, IsNoNumber}
 use Rattle.sms_field.specs.Address.Value.{AddressValue}
 use Rattle.sms_field.specs.declared.fault.AddressFault.{AddressFault}
 use Rattle.sms_field.specs.declared.name.TheConstants.{NAME_MAX}
-use Rattle.sms_field.proofs.AddressTexts.{no_plus}
 use Rattle.sms_script.specs.Meaning.{new_address, meaning}
 use Rattle.sms_script.specs.Meaning.Known.{KnownValue}
 use Rattle.sms_script.specs.Meaning.Memory.{TakesMemory, TypesToName, MayRunOut}
@@ -23,6 +24,16 @@ use Rattle.sms_script.specs.declared.fault.MeaningFault.TheVariants.{Memory, Scr
 use Rattle.sms_script.specs.declared.fault.ScriptFault.TheVariants.{BadAddress}
 use Rattle.sms_script.specs.declared.meaning.statement.Statement.{Statement}
 use Rattle.sms_script.specs.declared.meaning.statement.Statement.TheVariants as statements
+
+-- a text that does not begin with a plus sign is digits or a name
+no_plus : (text : List ℕ) → ((rest : List ℕ) → text ≢ 43 ∷ rest) → address_of_text text ≡ without_plus text
+unfolding address_of_text
+no_plus [] other = refl
+no_plus (c ∷ text) other = go (eqb c 43) refl
+  where
+    go : (b : Bool) → eqb c 43 ≡ b → cond b (telephone_of 1 (few_digits (digits_of_text text))) (without_plus (c ∷ text)) ≡ without_plus (c ∷ text)
+    go true is = absurd (other text (ap (λ (n : ℕ). n ∷ text) (eqb-true c 43 is)))
+    go false is = refl
 
 -- what is no number is read as a name
 is_named : (text : List ℕ) → IsNoNumber text → address_of_text text ≡ name_of (septets_of_text text)
