@@ -9,7 +9,6 @@ pub mod KnownLemmas
 pub mod FitLemmas
 pub mod MemoryLemmas
 pub mod EscapeLemmas
-pub mod HexLemmas
 pub mod PacketLemmas
 pub mod PartLemmas
 pub mod BlockLemmas
