@@ -1,0 +1,4 @@
+mod Filled
+mod Fronts
+pub mod Lengths
+mod Whole

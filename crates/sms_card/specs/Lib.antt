@@ -1,0 +1,9 @@
+pub mod ByFirst
+pub mod Fault
+pub mod Inside
+pub mod Originated
+pub mod Padding
+pub mod Received
+pub mod Report
+pub mod Status
+pub mod Stored
