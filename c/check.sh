@@ -67,12 +67,12 @@ in_c() {
 		guards=
 	fi
 	echo "== $cc, libsms.a ${guards:+under the sanitizers}"
-	for test in writers promises; do
+	for test in writers promises data; do
 		$cc $flags $guards "$here/tests/$test.c" "$prefix/lib/libsms.a" -o "$room/static"
 		"$room/static" "$units"
 	done
 	echo "== $cc, libsms.so"
-	for test in writers promises; do
+	for test in writers promises data; do
 		$cc $flags "$here/tests/$test.c" $dynamic -o "$room/shared"
 		"$room/shared" "$units"
 	done

@@ -15,8 +15,8 @@
  * joiner, which sms_joiner_close frees.
  * Joiners. An sms_joiner begins as SMS_JOINER_CLOSED; calls alone change it, and of an open one no copy is
  * used.
- * Memory. sms_*_read, sms_stamp_*, sms_validity_end and sms_joiner_text, _would_finish, _age and _close take
- * none. The others call malloc, realloc and free of the program: these are of one allocator, and align a
+ * Memory. sms_*_read, sms_stamp_*, sms_validity_end and sms_joiner_text, _would_finish, _age, _count, _each and
+ * _close take none. The others call malloc, realloc and free of the program: these are of one allocator, and align a
  * block to each power of two up to 16 that divides its size. SMS_NO_MEMORY: they refused; what the call had
  * taken is free again (a joiner may keep room that it made), and it may be made again.
  * Threads. Any number of threads may call at the same time on values of their own. A joiner is one
@@ -74,7 +74,8 @@ enum {
     SMS_OUT_OF_RANGE = 7,  /* a value is none of those that its comment allows */
     SMS_NOT_THERE = 8,     /* no such date, moment, end, text or segment */
     SMS_TOO_MANY_OPEN = 9, /* joiner: a segment of one more message than may be open */
-    SMS_CLOSED = 10        /* joiner: it is not open */
+    SMS_CLOSED = 10,       /* joiner: it is not open */
+    SMS_CHANGED = 11       /* joiner: it has changed since the cursor began */
 };
 
 /* Why octets are refused. */
@@ -89,7 +90,8 @@ enum {
     SMS_BAD_TRANSACTION = 8,  /* CP: the reserved transaction value */
     SMS_UNKNOWN_TYPE = 9,     /* CP, RP */
     SMS_BAD_RELAY_ADDRESS = 10,
-    SMS_BAD_CAUSE = 11
+    SMS_BAD_CAUSE = 11,
+    SMS_BAD_SEPTET = 12       /* 128 and more, where septets stand one an octet */
 };
 
 /* The first octet that cannot stand where it does: with the octets before it some unit goes on, with
@@ -387,7 +389,7 @@ SMS_STATUS sms_split(const sms_reference *reference, const uint8_t *text, size_t
 
 /* ---- the version of the library: 1,000,000 for a major number, 1,000 for a minor one, 1 for a patch */
 
-#define SMS_VERSION 2000000
+#define SMS_VERSION 2001000
 
 /* That of the library that is loaded, to be compared with SMS_VERSION at run time. */
 uint32_t sms_version(void);
@@ -473,6 +475,43 @@ SMS_STATUS sms_deliver_data_write(const sms_deliver_fields *fields, uint8_t dcs,
                                   const uint8_t *origin, size_t origin_count, const uint8_t *octets, size_t count,
                                   uint8_t *out, size_t room, size_t *needed);
 
+/* ---- user data alone, with no unit around them, as SMPP and other gateways hand them over */
+
+/* How septets stand: packed, all that fit whole; packed, as many as are counted; or one an octet. */
+enum { SMS_WHOLE = 0, SMS_COUNTED = 1, SMS_SINGLE = 2 };
+
+typedef struct sms_data_form {
+    uint8_t dcs;        /* TP-DCS: its alphabet alone is looked at */
+    uint8_t has_header; /* 0 is no, all else yes: a header stands in front, its length octet first */
+    uint8_t standing;   /* SMS_WHOLE to SMS_SINGLE; under the other alphabets SMS_SINGLE is as SMS_WHOLE */
+    uint8_t length;     /* TP-UDL under SMS_COUNTED, else 0 */
+    uint8_t languages;  /* of sms_data_text, 0 is no, all else yes: septets by the national language tables that the
+                         * header tells */
+    uint8_t spare[6];   /* must be 0 */
+} sms_data_form;
+
+typedef struct sms_data {
+    sms_span header; /* after its length octet */
+    sms_span body;   /* after the header */
+    size_t used;     /* how many octets they take; what follows them, under SMS_COUNTED, is not looked at */
+    size_t count;    /* the septets of the body, or its octets */
+    sms_place place;
+    uint8_t alphabet;   /* SMS_GSM7 to SMS_COMPRESSED */
+    uint8_t has_header; /* 0 or 1 */
+    uint8_t single;     /* 1 where septets stand one an octet */
+    uint8_t fill;       /* SMS_GSM7, packed: the bits of the body before its first septet, 0 to 6; else 0 */
+} sms_data;
+
+/* Reads user data that stand so. SMS_OUT_OF_RANGE: there is no such standing, a length but under SMS_COUNTED, or a
+ * spare octet. SMS_REFUSED: as the readers of units, and at place 0 where the data are too long (160 septets, or 140
+ * octets, those of a header among them) or too short for a header. Else SMS_OK. */
+SMS_STATUS sms_data_read(const uint8_t *octets, size_t count, const sms_data_form *form, sms_data *out,
+                         sms_refused *refused);
+/* Their text. SMS_OUT_OF_RANGE, SMS_REFUSED: as sms_data_read. SMS_NOT_THERE: they are no text (8-bit, compressed).
+ * Else SMS_OK, SMS_NO_ROOM or SMS_NO_MEMORY. */
+SMS_STATUS sms_data_text(const uint8_t *octets, size_t count, const sms_data_form *form,
+                         uint8_t *out, size_t room, size_t *needed);
+
 /* ---- joining segments. A joiner lies in the caller's memory and holds memory of the library. */
 
 typedef struct sms_joiner {
@@ -493,13 +532,18 @@ enum { SMS_REPEAT = 0, SMS_KEPT = 1, SMS_FINISHED = 2 };
  * from 1 on. SMS_OUT_OF_RANGE: one is 0, and the joiner is as it was. Else an open one is closed first, and
  * what it held is gone. SMS_NO_MEMORY: it is closed. SMS_OK: it is open, and holds nothing. */
 SMS_STATUS sms_joiner_open(sms_joiner *joiner, size_t open_max, size_t remembered);
+/* The same with a seed of 128 bits. A joiner answers as one without, but who does not know the seed cannot pick origins,
+ * references and maxima that it is slow to find: draw one, as by getentropy, for a joiner that strangers send to. */
+SMS_STATUS sms_joiner_open_seeded(sms_joiner *joiner, size_t open_max, size_t remembered, uint64_t seed_low,
+                                  uint64_t seed_high);
 /* Frees what it holds. On a closed one it does nothing. */
 void sms_joiner_close(sms_joiner *joiner);
 /* Offers an SMS-DELIVER, at the front of the octets, that came at a moment. SMS_CLOSED. SMS_REFUSED: as
  * sms_deliver_read. SMS_NOT_THERE: the user data are no text (8-bit, compressed). SMS_TOO_MANY_OPEN: it would
  * open one message more than may be open, and the same unit may be offered again. SMS_OK: *outcome is
- * SMS_REPEAT (it is there, or its message is a finished one that is remembered), SMS_KEPT or SMS_FINISHED.
- * SMS_NO_MEMORY may come in place of the last two. After another status than SMS_OK the joiner is as it was. */
+ * SMS_REPEAT (it is there, or its message is a finished one that is remembered), SMS_KEPT or SMS_FINISHED. From
+ * SMS_TOO_MANY_OPEN on SMS_NO_MEMORY may come in place of each. After another status than SMS_OK the joiner is as it
+ * was. */
 SMS_STATUS sms_joiner_offer(sms_joiner *joiner, uint64_t seconds, const uint8_t *octets, size_t count,
                             uint32_t *outcome, sms_refused *refused);
 /* The text that finished last since the joiner was opened, as often as one asks; empty before one did.
@@ -512,6 +556,39 @@ SMS_STATUS sms_joiner_would_finish(sms_joiner *joiner, const uint8_t *octets, si
 /* Drops the messages of which the segment that came first came 604,800 seconds before the moment, or earlier;
  * the text that finished last stays. SMS_CLOSED. Else SMS_OK. */
 SMS_STATUS sms_joiner_age(sms_joiner *joiner, uint64_t seconds);
+
+/* ---- the open messages of a joiner: some segments have come, and some not */
+
+/* Its segments share the origin (TP-OA), the reference and the maximum. It holds numbers alone, so it stays as it was
+ * told. */
+typedef struct sms_open_message {
+    uint64_t seconds;       /* the moment at which its first segment was offered */
+    uint64_t opening;       /* the number of its opening: a message that is opened later has a greater one */
+    uint16_t width;         /* 8 or 16, as in sms_place */
+    uint16_t reference;
+    uint8_t maximum;
+    uint8_t count;          /* how many segments have come: from 1 to less than maximum */
+    uint8_t type_of_number; /* of the origin */
+    uint8_t plan;
+    uint8_t come[32];       /* bit n % 8 of come[n / 8], from the lowest, is 1 where segment n has come */
+} sms_open_message;
+
+/* Where a caller stands among the open messages: with all 0 before the first. */
+typedef struct sms_cursor {
+    uint64_t change;  /* of which state of the joiner; 0 before the first step */
+    uint64_t opening; /* where it goes on: with the first message of this opening or a later one */
+} sms_cursor;
+
+/* How many messages are open. SMS_CLOSED. Else SMS_OK. */
+SMS_STATUS sms_joiner_count(sms_joiner *joiner, size_t *open_count);
+/* The next open message, in order of opening. SMS_CLOSED. SMS_CHANGED: since the cursor's first step an SMS-DELIVER was
+ * offered and answered SMS_OK (a repeat too), or the joiner was aged; with change set to 0 it goes on where it stands.
+ * SMS_NOT_THERE: there is no further one. Else SMS_OK, and the cursor goes on. After another status it is as it was.
+ * Other calls may come in between. A cursor ends with sms_joiner_close and the next sms_joiner_open. */
+SMS_STATUS sms_joiner_each(sms_joiner *joiner, sms_cursor *cursor, sms_open_message *message);
+/* The text of the origin of the open message of this opening, as sms_address_text. SMS_CLOSED. SMS_NOT_THERE: no open
+ * message has it. Else SMS_OK, SMS_NO_ROOM or SMS_NO_MEMORY. */
+SMS_STATUS sms_joiner_origin(sms_joiner *joiner, uint64_t opening, uint8_t *out, size_t room, size_t *needed);
 
 /* ---- the size of each struct, in octets, where a pointer has eight: said to compilers that can tell (C11, C++11) */
 
@@ -544,7 +621,11 @@ SMS_HAS(24, sms_submit_fields);
 SMS_HAS(24, sms_deliver_fields);
 SMS_HAS(21, sms_report_fields);
 SMS_HAS(32, sms_status_report_fields);
+SMS_HAS(11, sms_data_form);
+SMS_HAS(64, sms_data);
 SMS_HAS(16, sms_joiner);
+SMS_HAS(56, sms_open_message);
+SMS_HAS(16, sms_cursor);
 #undef SMS_HAS
 #endif
 

@@ -200,9 +200,39 @@ static void writers(void)
     FIELD(sms_status_report_fields, has_header);
     FIELD(sms_status_report_fields, length);
     FIELD(sms_status_report_fields, spare);
+    STRUCT(sms_data_form);
+    FIELD(sms_data_form, dcs);
+    FIELD(sms_data_form, has_header);
+    FIELD(sms_data_form, standing);
+    FIELD(sms_data_form, length);
+    FIELD(sms_data_form, languages);
+    FIELD(sms_data_form, spare);
+    STRUCT(sms_data);
+    FIELD(sms_data, header);
+    FIELD(sms_data, body);
+    FIELD(sms_data, used);
+    FIELD(sms_data, count);
+    FIELD(sms_data, place);
+    FIELD(sms_data, alphabet);
+    FIELD(sms_data, has_header);
+    FIELD(sms_data, single);
+    FIELD(sms_data, fill);
     STRUCT(sms_joiner);
     FIELD(sms_joiner, open);
     FIELD(sms_joiner, inside);
+    STRUCT(sms_open_message);
+    FIELD(sms_open_message, seconds);
+    FIELD(sms_open_message, opening);
+    FIELD(sms_open_message, width);
+    FIELD(sms_open_message, reference);
+    FIELD(sms_open_message, maximum);
+    FIELD(sms_open_message, count);
+    FIELD(sms_open_message, type_of_number);
+    FIELD(sms_open_message, plan);
+    FIELD(sms_open_message, come);
+    STRUCT(sms_cursor);
+    FIELD(sms_cursor, change);
+    FIELD(sms_cursor, opening);
 }
 
 int main(void)

@@ -28,7 +28,11 @@ NAMES = {
     "sms_deliver_fields": "DeliverFields",
     "sms_report_fields": "ReportFields",
     "sms_status_report_fields": "StatusReportFields",
+    "sms_data_form": "DataForm",
+    "sms_data": "DataSeen",
     "sms_joiner": "Handle",
+    "sms_open_message": "OpenMessage",
+    "sms_cursor": "Cursor",
 }
 IN_HEADER = {**{inner: name for name, inner in NAMES.items()}, "Kept": "*mut ()"}
 # Fields and parameters that have another name in sms.h, and the counts that go with slices.
@@ -144,9 +148,10 @@ def version():
 
 
 def numbers():
-    status, joiner, relay = source("status.rt"), source("joiner.rt"), source("relay.rt")
+    status, joiner, relay = source("status.rt"), source("joiner/offering.rt"), source("relay.rt")
     failures, relay_faults = arms(status, "Failure"), arms(status, "RelayFault")
     reasons = {snake(name): number for name, number in arms(status, "UnitFault").items()}
+    reasons.update({snake(name): number for name, number in arms(status, "DataFault").items()})
     for name, number in relay_faults.items():
         reasons[REASONS.get(snake(name), snake(name))] = number
     alphabets, times = arms(source("parts.rt"), "Alphabet"), source("times.rt")
@@ -158,6 +163,7 @@ def numbers():
         "alphabet": {snake(name): number for name, number in alphabets.items()},
         "format": {snake(name): number for name, number in shown.items()},
         "format, as it is taken": {snake(name): int(number) for number, name in re.findall(taken, times)},
+        "standing": {name: int(number) for name, number in re.findall(r"const (\w+): u8 = (\d);", source("reading/data.rt"))},
         "outcome": {snake(name): int(number) for name, number in outcomes},
     }
     for layer, view in ("CP", "CpBodyView"), ("RP", "RpBodyView"):

@@ -22,6 +22,7 @@ GROUPS = {
     "SMS_SHORT": "reason",
     "SMS_GSM7": "alphabet",
     "SMS_VALIDITY_ABSENT": "format",
+    "SMS_WHOLE": "standing",
     "SMS_REPEAT": "outcome",
 }
 

@@ -54,6 +54,7 @@ def numbers():
         "reason": members(sms.Reason),
         "alphabet": members(sms.Alphabet),
         "format": members(sms.Format),
+        "standing": members(sms.Standing),
         "outcome": members(sms.Offer),
         "size": {name[:-4]: getattr(raw, name) for name in vars(raw) if name.endswith("_MAX")},
         "kind of CP": kinds,

@@ -21,13 +21,13 @@ PLANTED = (
     (
         "the calls of sms_c and of sms.h",
         "c/sms.h",
-        "size_t open_max, size_t remembered",
-        "size_t remembered, size_t open_max",
+        "size_t open_max, size_t remembered);",
+        "size_t remembered, size_t open_max);",
     ),
     ("the calls of sms_c and of sms.h", "c/sms.h", "SMS_STATUS sms_cp_ack", "sms_status sms_cp_ack"),
     (
         "the calls of sms_c and of sms.h",
-        "crates/sms_c/src/wrapping.rt",
+        "crates/sms_c/src/wrapping/connection.rt",
         "sms_cp_error(\n    alloc: Global,\n    envelope: &Envelope,\n    cause: u8",
         "sms_cp_error(\n    alloc: Global,\n    envelope: &Envelope,\n    cause: u32",
     ),
@@ -38,6 +38,7 @@ PLANTED = (
         "    pub minute: u8,\n    pub second: u8,",
         "    pub second: u8,\n    pub minute: u8,",
     ),
+    ("the structs of sms_c and of sms.h", "c/sms.h", "uint8_t come[32];", "uint8_t come[33];"),
     ("the sizes that sms.h asserts and has", "c/sms.h", "SMS_HAS(96, sms_deliver);", "SMS_HAS(88, sms_deliver);"),
     (
         "the numbers of sms_c and of sms.h",
@@ -46,6 +47,7 @@ PLANTED = (
         "SMS_KEPT = 2, SMS_FINISHED = 1",
     ),
     ("the numbers of sms_c and of sms.h", "crates/sms_c/src/parts.rt", "Alphabet::Ucs2 => 2,", "Alphabet::Ucs2 => 4,"),
+    ("the numbers of sms_c and of sms.h", "crates/sms_c/src/reading/data.rt", "SINGLE: u8 = 2;", "SINGLE: u8 = 3;"),
     (
         "the calls of sms.h and of Rust",
         "rust/src/raw.rs",
@@ -86,8 +88,11 @@ PLANTED = (
         "Status.TOO_LONG: TooLong",
         "Status.TOO_LONG: NotThere",
     ),
+    ("the structs of sms.h and of Python", "python/src/sms/raw.py", '("change", c_uint64)', '("change", c_uint32)'),
+    ("the calls of sms.h and of Rust", "rust/src/raw.rs", "cursor: *mut Cursor", "cursor: *const Cursor"),
+    ("the numbers of sms.h and of Python", "python/src/sms/raw.py", "CHANGED = 11", "CHANGED = 12"),
     ("the names of sms.h and of sms.map", "c/sms.map", "    sms_split;\n", ""),
-    ("c/VERSION and what follows it", "c/sms.h", "SMS_VERSION 2000000", "SMS_VERSION 2000001"),
+    ("c/VERSION and what follows it", "c/sms.h", "SMS_VERSION 2001000", "SMS_VERSION 2001001"),
     ("c/VERSION and what follows it", "rust/Cargo.toml", '\nversion = "', '\nversion = "9'),
 )
 

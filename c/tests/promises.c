@@ -458,6 +458,132 @@ static void no_text(void)
     free(octets);
 }
 
+/* ---- the open messages of a joiner */
+
+/* offers the segment of an index, from 0, of a text of 1,683 letters: it has eleven under a reference of 8 bits, and
+ * twelve under one of 16 */
+static uint32_t offer_segment(sms_joiner *joiner, uint64_t seconds, const char *origin, sms_reference reference, size_t index)
+{
+    static uint8_t text[11 * 153];
+    sms_deliver_fields fields = {.segments = reference, .stamp = {{0x99, 0x30, 0x92, 0x51, 0x61, 0x95, 0x80}}};
+    uint8_t unit[SMS_UNIT_MAX];
+    size_t size, segments;
+    uint32_t outcome = 99;
+    sms_refused refused;
+    memset(text, 'a', sizeof text);
+    CHECK(sms_deliver_write(&fields, (const uint8_t *)origin, strlen(origin), text, sizeof text, index, unit, sizeof unit,
+                            &size, &segments) == SMS_OK);
+    CHECK(sms_joiner_offer(joiner, seconds, unit, size, &outcome, &refused) == SMS_OK);
+    return outcome;
+}
+
+static int same_cursor(sms_cursor one, sms_cursor other)
+{
+    return one.change == other.change && one.opening == other.opening;
+}
+
+static const sms_reference NARROW = {8, 200}, WIDE = {16, 40000};
+
+/* none, then two, each as it was offered, in order of opening */
+static void opens(void)
+{
+    static const uint8_t none[32] = {0};
+    sms_joiner joiner = SMS_JOINER_CLOSED;
+    sms_cursor cursor = {0, 0}, before;
+    sms_open_message first, second, message, same;
+    uint8_t out[8] = {0xA5};
+    size_t open_count = 77, needed = 77;
+    memset(&message, 0xA5, sizeof message);
+    same = message;
+    CHECK(sms_joiner_count(&joiner, &open_count) == SMS_CLOSED && open_count == 77);
+    CHECK(sms_joiner_each(&joiner, &cursor, &message) == SMS_CLOSED);
+    CHECK(sms_joiner_origin(&joiner, 0, out, sizeof out, &needed) == SMS_CLOSED && needed == 0);
+    CHECK(sms_joiner_open_seeded(&joiner, 0, 4, 1, 2) == SMS_OUT_OF_RANGE);
+    CHECK(sms_joiner_open_seeded(&joiner, 4, 0, 1, 2) == SMS_OUT_OF_RANGE);
+    CHECK(sms_joiner_open_seeded(&joiner, 4, SIZE_MAX, 1, 2) == SMS_NO_MEMORY);
+    CHECK(sms_joiner_open_seeded(&joiner, 4, 4, UINT64_MAX, 2) == SMS_OK);
+    CHECK(sms_joiner_count(&joiner, &open_count) == SMS_OK && open_count == 0);
+    CHECK(sms_joiner_each(&joiner, &cursor, &message) == SMS_NOT_THERE);
+    CHECK(sms_joiner_origin(&joiner, 0, out, sizeof out, &needed) == SMS_NOT_THERE && needed == 0);
+    CHECK(cursor.change == 0 && cursor.opening == 0 && memcmp(&message, &same, sizeof same) == 0 && out[0] == 0xA5);
+
+    CHECK(offer_segment(&joiner, 7, "+12345", NARROW, 10) == SMS_KEPT);
+    CHECK(offer_segment(&joiner, 5, "Carrier", WIDE, 0) == SMS_KEPT);
+    CHECK(offer_segment(&joiner, 9, "+12345", NARROW, 7) == SMS_KEPT);
+    CHECK(sms_joiner_count(&joiner, &open_count) == SMS_OK && open_count == 2);
+    CHECK(sms_joiner_each(&joiner, &cursor, &first) == SMS_OK);
+    CHECK(first.seconds == 7 && first.width == 8 && first.reference == 200 && first.maximum == 11 && first.count == 2);
+    CHECK(first.type_of_number == 1 && first.plan == 1);
+    CHECK(first.come[0] == 0 && first.come[1] == 0x09 && memcmp(first.come + 2, none, 30) == 0);
+    CHECK(sms_joiner_each(&joiner, &cursor, &second) == SMS_OK);
+    CHECK(second.seconds == 5 && second.width == 16 && second.reference == 40000 && second.maximum == 12 && second.count == 1);
+    CHECK(second.type_of_number == 5 && second.opening > first.opening);
+    CHECK(second.come[0] == 0x02 && memcmp(second.come + 1, none, 31) == 0);
+    before = cursor;
+    CHECK(sms_joiner_each(&joiner, &cursor, &message) == SMS_NOT_THERE && same_cursor(cursor, before));
+    CHECK(sms_joiner_each(&joiner, &cursor, &message) == SMS_NOT_THERE && memcmp(&message, &same, sizeof same) == 0);
+
+    CHECK(sms_joiner_origin(&joiner, first.opening, NULL, 0, &needed) == SMS_NO_ROOM && needed == 6);
+    CHECK(sms_joiner_origin(&joiner, first.opening, out, 5, &needed) == SMS_NO_ROOM && needed == 6 && out[0] == 0xA5);
+    CHECK(sms_joiner_origin(&joiner, first.opening, out, 6, &needed) == SMS_OK && is_text(out, needed, "+12345"));
+    CHECK(sms_joiner_origin(&joiner, second.opening, out, 8, &needed) == SMS_OK && is_text(out, needed, "Carrier"));
+    CHECK(sms_joiner_origin(&joiner, second.opening + 1, out, 8, &needed) == SMS_NOT_THERE && needed == 0);
+    sms_joiner_close(&joiner);
+    CHECK(sms_joiner_each(&joiner, &cursor, &message) == SMS_CLOSED && same_cursor(cursor, before));
+}
+
+/* a cursor is stale after an offer, a repeat too, and after an age, and after no other call */
+static void changes(void)
+{
+    sms_joiner joiner = SMS_JOINER_CLOSED;
+    sms_cursor begin = {0, 0}, cursor = begin, before;
+    sms_open_message first, second, message;
+    sms_refused refused;
+    uint32_t outcome;
+    uint8_t finishes, out[8];
+    size_t needed, count, open_count;
+    uint8_t *whole = block("040BC87238880900F10000993092516195800141", &count);
+    CHECK(sms_joiner_open(&joiner, 2, 4) == SMS_OK);
+    CHECK(offer_segment(&joiner, 7, "+12345", NARROW, 10) == SMS_KEPT);
+    CHECK(offer_segment(&joiner, 8, "Carrier", WIDE, 0) == SMS_KEPT);
+
+    CHECK(sms_joiner_each(&joiner, &cursor, &first) == SMS_OK && first.seconds == 7);
+    CHECK(sms_joiner_would_finish(&joiner, whole, count, &finishes, &refused) == SMS_OK && finishes == 1);
+    CHECK(sms_joiner_offer(&joiner, 9, whole, 3, &outcome, &refused) == SMS_REFUSED);
+    CHECK(sms_joiner_text(&joiner, out, sizeof out, &needed) == SMS_OK && needed == 0);
+    CHECK(sms_joiner_count(&joiner, &open_count) == SMS_OK && open_count == 2);
+    CHECK(sms_joiner_origin(&joiner, first.opening, out, sizeof out, &needed) == SMS_OK);
+    CHECK(sms_joiner_open(&joiner, 0, 4) == SMS_OUT_OF_RANGE);
+    CHECK(sms_joiner_each(&joiner, &cursor, &second) == SMS_OK && second.seconds == 8);
+
+    cursor = begin;
+    CHECK(sms_joiner_each(&joiner, &cursor, &message) == SMS_OK);
+    before = cursor;
+    CHECK(offer_segment(&joiner, 9, "+12345", NARROW, 10) == SMS_REPEAT);
+    CHECK(sms_joiner_each(&joiner, &cursor, &message) == SMS_CHANGED && same_cursor(cursor, before));
+    CHECK(memcmp(&message, &first, sizeof first) == 0);
+    cursor.change = 0; /* it goes on where it stands */
+    CHECK(sms_joiner_each(&joiner, &cursor, &message) == SMS_OK && memcmp(&message, &second, sizeof second) == 0);
+
+    cursor = begin;
+    CHECK(sms_joiner_each(&joiner, &cursor, &message) == SMS_OK && memcmp(&message, &first, sizeof first) == 0);
+    CHECK(sms_joiner_offer(&joiner, 9, whole, count, &outcome, &refused) == SMS_OK && outcome == SMS_FINISHED);
+    CHECK(sms_joiner_each(&joiner, &cursor, &message) == SMS_CHANGED);
+    cursor = begin;
+    CHECK(sms_joiner_each(&joiner, &cursor, &message) == SMS_OK);
+    CHECK(sms_joiner_age(&joiner, 0) == SMS_OK); /* it drops none */
+    CHECK(sms_joiner_each(&joiner, &cursor, &message) == SMS_CHANGED);
+
+    CHECK(sms_joiner_age(&joiner, 7 + 604800) == SMS_OK);
+    cursor = begin;
+    CHECK(sms_joiner_each(&joiner, &cursor, &message) == SMS_OK && memcmp(&message, &second, sizeof second) == 0);
+    CHECK(sms_joiner_each(&joiner, &cursor, &message) == SMS_NOT_THERE);
+    CHECK(sms_joiner_origin(&joiner, first.opening, out, sizeof out, &needed) == SMS_NOT_THERE);
+    CHECK(sms_joiner_count(&joiner, &open_count) == SMS_OK && open_count == 1);
+    sms_joiner_close(&joiner);
+    free(whole);
+}
+
 /* ---- each status of each call, where sms.h says that it comes; SMS_NO_MEMORY is tried in memory.c */
 
 #define ANY SIZE_MAX /* a length that is not told here */
@@ -929,6 +1055,8 @@ int main(int argc, char **argv)
     limits();
     uncut();
     no_text();
+    opens();
+    changes();
     statuses_of_texts();
     statuses_of_times();
     statuses_of_writers();

@@ -14,5 +14,7 @@ sms.split(b"text")  # type: ignore[arg-type]
 sms.Stamp.at(0)  # type: ignore[arg-type]
 sms.Submit.write("1", "text", validity=4)  # type: ignore[arg-type]
 text: str = sms.Joiner().offer(b"", datetime.now())  # type: ignore[assignment]
+sequences: tuple[int, ...] = next(sms.Joiner(seed=1).open_messages()).missing
+sms.Joiner(seed=b"")  # type: ignore[arg-type]
 reason: str = sms.Refused(0, sms.Reason.SHORT).reason.name
 sms.Refused(0, 1)  # type: ignore[arg-type]

@@ -129,6 +129,45 @@ class Readers(unittest.TestCase):
             sms.Command.read(bytes.fromhex("02070002050281219E"))
 
 
+class DataAlone(unittest.TestCase):
+    def test_the_three_ways_septets_stand(self):
+        self.assertEqual(sms.Data.read(bytes.fromhex("E8329BFD06"), 0, length=5).text, "hello")
+        self.assertEqual(sms.Data.read(HELLO[19:], 0).text, "hellohello")
+        data = sms.Data.read(bytes.fromhex("0500032A0201") + b"hello", 0, has_header=True, single=True)
+        self.assertEqual((data.text, data.count, data.used, data.fill), ("hello", 5, 11, 0))
+        self.assertEqual((data.header, data.body), (bytes.fromhex("00032A0201"), b"hello"))
+        self.assertEqual((data.place, data.standing), (sms.Place(8, 42, 2, 1), sms.Standing.SINGLE))
+        self.assertEqual(sms.Data.read(bytes.fromhex("00480069"), 8, single=True).text, "Hi")
+
+    def test_segments(self):
+        texts = []
+        for segment in sms.split(LONG, reference=42):
+            data = sms.Data.read(segment.octets[1:], segment.dcs, has_header=True, length=segment.octets[0])
+            self.assertEqual(data.place, sms.Place(8, 42, 2, len(texts) + 1))
+            texts.append(data.text)
+        self.assertEqual("".join(texts), LONG)
+
+    def test_languages(self):
+        data = sms.Data.read(bytes.fromhex("032401011B69"), 0, has_header=True, single=True)
+        self.assertEqual((data.text, data.language_text), ("i", "\u0131"))
+
+    def test_what_is_refused(self):
+        for octets, given, place, reason in (
+            (bytes.fromhex("E832"), {"length": 5}, 2, sms.Reason.SHORT),
+            (b"he\x8clo", {"single": True}, 2, sms.Reason.BAD_SEPTET),
+            (b"\x05\x00\x03", {"single": True, "has_header": True}, 0, sms.Reason.HEADER_TOO_LONG),
+            (b"", {"length": 161}, 0, sms.Reason.DATA_TOO_LONG),
+        ):
+            with self.subTest(octets=octets), self.assertRaises(sms.Refused) as caught:
+                sms.Data.read(octets, 0, **given)
+            self.assertEqual((caught.exception.place, caught.exception.reason), (place, reason))
+        with self.assertRaises(sms.NotThere):
+            sms.Data.read(b"\x01", 4).text
+        for given in ({"dcs": 256}, {"dcs": 0, "length": 256}, {"dcs": 0, "length": 5, "single": True}):
+            with self.subTest(given=given), self.assertRaises(sms.OutOfRange):
+                sms.Data.read(b"hello", **given)
+
+
 class Writers(unittest.TestCase):
     def test_submit_comes_back(self):
         (unit,) = sms.Submit.write("+46708251358", "hellohello", validity=sms.Validity.relative(170))
@@ -285,7 +324,7 @@ class Mistakes(unittest.TestCase):
 
     def test_each_error_comes_back(self):
         errors = [it for it in vars(sms).values() if isinstance(it, type) and issubclass(it, sms.Error)]
-        self.assertEqual(len(errors), 10)
+        self.assertEqual(len(errors), 11)
         told = [it() for it in errors if it is not sms.Refused] + [sms.OutOfRange("a moment has a time zone")]
         told += [sms.Refused(18, sms.Reason.DATA_TOO_LONG), sms.Refused(0, sms.Reason(99))]
         for protocol, error in itertools.product(range(pickle.HIGHEST_PROTOCOL + 1), told):
@@ -417,6 +456,49 @@ class Joins(unittest.TestCase):
                 with self.subTest(call=copied.__name__), self.assertRaises(TypeError):
                     copied(joiner)
             self.assertEqual(joiner.offer(second, NOW), LONG)
+
+    def test_open_messages(self):
+        narrow = sms.Deliver.write("+12345", LONG * 9, STAMP, reference=200)
+        wide = sms.Deliver.write("Carrier", LONG, STAMP, reference=40000, width=16)
+        with sms.Joiner(8, 8) as joiner:
+            self.assertEqual((joiner.open_count, list(joiner.open_messages())), (0, []))
+            for unit, seconds in ((narrow[10], 0), (wide[0], -60), (narrow[7], 60)):
+                joiner.offer(unit, NOW + timedelta(seconds=seconds))
+            first, second = joiner.open_messages()
+            self.assertEqual((joiner.open_count, len(narrow)), (2, 12))
+            self.assertEqual((first.origin, first.type_of_number, first.plan), ("+12345", 1, 1))
+            self.assertEqual((first.width, first.reference, first.maximum, first.moment), (8, 200, 12, NOW))
+            self.assertEqual((first.sequences, first.missing), ((8, 11), (1, 2, 3, 4, 5, 6, 7, 9, 10, 12)))
+            self.assertEqual((second.origin, second.width, second.reference), ("Carrier", 16, 40000))
+            self.assertEqual((second.sequences, second.missing), ((1,), (2,)))
+            self.assertEqual(second.moment, NOW - timedelta(seconds=60))
+            self.assertLess(first.opening, second.opening)
+            joiner.offer(wide[1], NOW)
+            self.assertEqual(list(joiner.open_messages()), [first])
+        for call in (lambda: joiner.open_count, lambda: next(joiner.open_messages())):
+            with self.assertRaises(sms.Closed):
+                call()
+
+    def test_open_messages_that_change(self):
+        first, second = (sms.Deliver.write("1", LONG, STAMP, reference=it)[0] for it in (1, 2))
+        for change in (lambda: joiner.offer(first, NOW), lambda: joiner.age(NOW)):
+            with sms.Joiner() as joiner:
+                joiner.offer(first, NOW)
+                joiner.offer(second, NOW)
+                told = joiner.open_messages()
+                self.assertEqual(next(told).reference, 1)
+                change()
+                with self.assertRaises(sms.Changed):
+                    next(told)
+
+    def test_seeds(self):
+        first, second = sms.Deliver.write("12345", LONG, STAMP)
+        for seed in (None, 0, 2**64, 2**128 - 1):
+            with self.subTest(seed=seed), sms.Joiner(1, 8, seed=seed) as joiner:
+                self.assertEqual([joiner.offer(it, NOW) for it in (second, first, first)], [None, LONG, None])
+        for seed in (-1, 2**128):
+            with self.subTest(seed=seed), self.assertRaises(sms.OutOfRange):
+                sms.Joiner(seed=seed)
 
     def test_no_text(self):
         with sms.Joiner() as joiner:

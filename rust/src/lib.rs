@@ -18,8 +18,11 @@
 //!
 //! Moments are seconds from 2000-01-01 00:00:00 UTC ([`unix_of`] and [`seconds_of_unix`] go between them and Unix time).
 
+use std::collections::hash_map::RandomState;
 use std::error;
 use std::fmt;
+use std::hash::{BuildHasher, Hasher};
+use std::iter::FusedIterator;
 
 pub mod raw;
 
@@ -61,6 +64,7 @@ pub enum Reason {
     UnknownType,
     BadRelayAddress,
     BadCause,
+    BadSeptet,
     /// A number that this crate has no name for.
     Other(u32),
 }
@@ -79,6 +83,7 @@ impl Reason {
             raw::SMS_UNKNOWN_TYPE => Reason::UnknownType,
             raw::SMS_BAD_RELAY_ADDRESS => Reason::BadRelayAddress,
             raw::SMS_BAD_CAUSE => Reason::BadCause,
+            raw::SMS_BAD_SEPTET => Reason::BadSeptet,
             other => Reason::Other(other),
         }
     }
@@ -98,6 +103,7 @@ impl fmt::Display for Reason {
             Reason::UnknownType => "unknown type",
             Reason::BadRelayAddress => "bad address",
             Reason::BadCause => "bad cause",
+            Reason::BadSeptet => "bad septet",
             Reason::Other(number) => return write!(f, "reason {number}"),
         })
     }
@@ -1249,6 +1255,111 @@ impl Envelope {
     }
 }
 
+// ---- user data alone
+
+/// How the septets of user data alone stand. Under the other alphabets `Single` is as `Whole`.
+#[derive(Clone, Copy, Debug, PartialEq, Eq, Hash)]
+pub enum Standing {
+    /// Packed, all that fit whole.
+    Whole,
+    /// Packed, as many as TP-UDL counts: septets under the 7-bit alphabet, those that a header takes among them, else octets.
+    Counted(u8),
+    /// One an octet.
+    Single,
+}
+
+impl Standing {
+    /// Its number, and TP-UDL where it is told.
+    fn raw(self) -> (u8, u8) {
+        match self {
+            Standing::Whole => (raw::SMS_WHOLE, 0),
+            Standing::Counted(length) => (raw::SMS_COUNTED, length),
+            Standing::Single => (raw::SMS_SINGLE, 0),
+        }
+    }
+}
+
+/// User data alone, with no unit around them, as SMPP and other gateways hand them over (3GPP TS 23.040, 9.2.3.24).
+#[derive(Clone, Copy, Debug, PartialEq, Eq)]
+pub struct Data<'a> {
+    octets: &'a [u8],
+    form: raw::DataForm,
+    parts: raw::Data,
+}
+
+impl<'a> Data<'a> {
+    /// Reads user data at the front of the octets, under a TP-DCS, with a header in front (its length octet first) or
+    /// without, and says how many octets they take.
+    pub fn read(octets: &'a [u8], dcs: u8, has_header: bool, standing: Standing) -> Result<(Data<'a>, usize), Error> {
+        let (standing, length) = standing.raw();
+        let form = raw::DataForm { dcs, has_header: u8::from(has_header), standing, length, ..Default::default() };
+        let (mut parts, mut refused) = (raw::Data::default(), raw::Refused::default());
+        // SAFETY: the octets are as many as counted, and the structs are ours.
+        match unsafe { raw::sms_data_read(octets.as_ptr(), octets.len(), &form, &mut parts, &mut refused) } {
+            raw::SMS_OK => Ok((Data { octets: &octets[..parts.used], form, parts }, parts.used)),
+            status => Err(Error::of(status, refused)),
+        }
+    }
+
+    pub fn alphabet(&self) -> Alphabet {
+        Alphabet::of(self.parts.alphabet)
+    }
+
+    /// The header's octets after its length octet, where there is one.
+    pub fn header(&self) -> Option<&'a [u8]> {
+        (self.parts.has_header == 1).then(|| at(self.octets, self.parts.header))
+    }
+
+    /// The octets after the header.
+    pub fn body(&self) -> &'a [u8] {
+        at(self.octets, self.parts.body)
+    }
+
+    /// The septets of the body, or its octets.
+    pub fn count(&self) -> usize {
+        self.parts.count
+    }
+
+    /// Whether septets stand one an octet.
+    pub fn single(&self) -> bool {
+        self.parts.single == 1
+    }
+
+    /// The bits of the body before its first septet, where septets are packed; else 0.
+    pub fn fill(&self) -> u8 {
+        self.parts.fill
+    }
+
+    /// The place among the segments of its message, where it is one.
+    pub fn place(&self) -> Option<Place> {
+        Place::of(self.parts.place)
+    }
+
+    /// The octets of the user data.
+    pub fn octets(&self) -> &'a [u8] {
+        self.octets
+    }
+
+    /// The text; `NotThere` where they are none (8-bit, compressed).
+    pub fn text(&self) -> Result<String, Error> {
+        self.text_by(0)
+    }
+
+    /// The text, septets by the national language tables that the header tells.
+    pub fn language_text(&self) -> Result<String, Error> {
+        self.text_by(1)
+    }
+
+    fn text_by(&self, languages: u8) -> Result<String, Error> {
+        let form = raw::DataForm { languages, ..self.form };
+        let text = answer(raw::SMS_TEXT_MAX, |out, room, needed| {
+            // SAFETY: the octets are as many as counted, and the rest is ours.
+            unsafe { raw::sms_data_text(self.octets.as_ptr(), self.octets.len(), &form, out, room, needed) }
+        })?;
+        text_of(text)
+    }
+}
+
 // ---- texts cut, and segments joined
 
 /// The user data of the segments of a text, each from TP-UDL on, and the TP-DCS of all.
@@ -1283,6 +1394,69 @@ pub enum Offer {
     Finished(String),
 }
 
+/// A message of which some segments have come, and not all, as it was when it was told.
+#[derive(Clone, Debug, PartialEq, Eq)]
+#[non_exhaustive]
+pub struct OpenMessage {
+    /// Whom it is from (TP-OA).
+    pub origin: String,
+    pub type_of_number: u8,
+    pub plan: u8,
+    /// How many bits the reference has: 8 or 16.
+    pub width: u16,
+    /// What its segments share.
+    pub reference: u16,
+    /// How many segments it has.
+    pub maximum: u8,
+    /// The moment at which its first segment was offered, in seconds from the beginning of 2000.
+    pub seconds: u64,
+    /// The number of its opening: a message that is opened later has a greater one.
+    pub opening: u64,
+    come: [u8; 32],
+}
+
+impl OpenMessage {
+    /// Whether the segment of a sequence, from 1 on, has come.
+    pub fn has(&self, sequence: u8) -> bool {
+        self.come[usize::from(sequence / 8)] >> (sequence % 8) & 1 == 1
+    }
+
+    /// The segments that have come, in order.
+    pub fn sequences(&self) -> impl Iterator<Item = u8> + '_ {
+        (1..=self.maximum).filter(move |&it| self.has(it))
+    }
+
+    /// The segments that have not come, in order.
+    pub fn missing(&self) -> impl Iterator<Item = u8> + '_ {
+        (1..=self.maximum).filter(move |&it| !self.has(it))
+    }
+}
+
+/// The open messages of a joiner, in order of opening: [`Joiner::open_messages`]. As long as it is there the joiner cannot
+/// change.
+#[derive(Debug)]
+pub struct OpenMessages<'a> {
+    joiner: &'a mut Joiner,
+    cursor: raw::Cursor,
+}
+
+impl Iterator for OpenMessages<'_> {
+    type Item = Result<OpenMessage, Error>;
+
+    /// The next one; `NoMemory` where there is none for the text of its origin, and the one after it comes next.
+    fn next(&mut self) -> Option<Self::Item> {
+        let mut seen = raw::OpenMessage::default();
+        // SAFETY: the joiner, the cursor and the struct are ours.
+        match unsafe { raw::sms_joiner_each(&mut self.joiner.0, &mut self.cursor, &mut seen) } {
+            raw::SMS_OK => Some(self.joiner.open_message(seen)),
+            raw::SMS_NOT_THERE => None,
+            status => Some(Err(Error::of(status, raw::Refused::default()))),
+        }
+    }
+}
+
+impl FusedIterator for OpenMessages<'_> {}
+
 /// Joins segments, whichever way they come, to texts, each once.
 ///
 /// It may go from thread to thread (`Send`), takes one call at a time (`&mut`), and is neither shared (`Sync`) nor
@@ -1296,10 +1470,25 @@ unsafe impl Send for Joiner {}
 impl Joiner {
     /// A joiner for at most so many messages at a time that are not whole, and so many finished ones that are
     /// remembered, so that none finishes twice: they are forgotten by number, never by time. Both are from 1 on.
+    ///
+    /// What it holds is found by a hash with a seed, which is drawn from the keys of a new [`RandomState`]. Who does not
+    /// know it cannot pick messages that are slow to find; what a joiner answers does not depend on it.
     pub fn open(open_max: usize, remembered: usize) -> Result<Joiner, Error> {
+        let drawn = RandomState::new();
+        let [low, high] = [0u8, 1].map(|which| {
+            let mut hasher = drawn.build_hasher();
+            hasher.write_u8(which);
+            u128::from(hasher.finish())
+        });
+        Joiner::open_seeded(open_max, remembered, high << 64 | low)
+    }
+
+    /// The same with a seed of one's own.
+    pub fn open_seeded(open_max: usize, remembered: usize, seed: u128) -> Result<Joiner, Error> {
         let mut joiner = raw::Joiner::CLOSED;
+        let (low, high) = (seed as u64, (seed >> 64) as u64);
         // SAFETY: it is ours, and closed.
-        match unsafe { raw::sms_joiner_open(&mut joiner, open_max, remembered) } {
+        match unsafe { raw::sms_joiner_open_seeded(&mut joiner, open_max, remembered, low, high) } {
             raw::SMS_OK => Ok(Joiner(joiner)),
             status => Err(Error::of(status, raw::Refused::default())),
         }
@@ -1347,6 +1536,38 @@ impl Joiner {
     pub fn age(&mut self, seconds: u64) {
         // SAFETY: it is ours. An open joiner answers nothing but 0.
         unsafe { raw::sms_joiner_age(&mut self.0, seconds) };
+    }
+
+    /// How many messages are open: some of their segments have come, and not all.
+    pub fn open_count(&mut self) -> usize {
+        let mut open_count = 0;
+        // SAFETY: both are ours. An open joiner answers nothing but 0.
+        unsafe { raw::sms_joiner_count(&mut self.0, &mut open_count) };
+        open_count
+    }
+
+    /// The open messages, in order of opening.
+    pub fn open_messages(&mut self) -> OpenMessages<'_> {
+        OpenMessages { joiner: self, cursor: raw::Cursor::default() }
+    }
+
+    /// An open message, with the text of its origin.
+    fn open_message(&mut self, seen: raw::OpenMessage) -> Result<OpenMessage, Error> {
+        // SAFETY: the room is as counted, and the joiner is ours.
+        let origin = answer(raw::SMS_ADDRESS_TEXT_MAX, |out, room, needed| unsafe {
+            raw::sms_joiner_origin(&mut self.0, seen.opening, out, room, needed)
+        })?;
+        Ok(OpenMessage {
+            origin: text_of(origin)?,
+            type_of_number: seen.type_of_number,
+            plan: seen.plan,
+            width: seen.width,
+            reference: seen.reference,
+            maximum: seen.maximum,
+            seconds: seen.seconds,
+            opening: seen.opening,
+            come: seen.come,
+        })
     }
 }
 

@@ -2,7 +2,7 @@
 
 pub const SMS_ABI: u32 = 2;
 /// Of the header that these are the declarations of.
-pub const SMS_VERSION: u32 = 2_000_000;
+pub const SMS_VERSION: u32 = 2_001_000;
 
 pub const SMS_TEXT_MAX: usize = 480;
 pub const SMS_UNIT_MAX: usize = 192;
@@ -20,6 +20,7 @@ pub const SMS_OUT_OF_RANGE: u32 = 7;
 pub const SMS_NOT_THERE: u32 = 8;
 pub const SMS_TOO_MANY_OPEN: u32 = 9;
 pub const SMS_CLOSED: u32 = 10;
+pub const SMS_CHANGED: u32 = 11;
 
 pub const SMS_SHORT: u32 = 1;
 pub const SMS_WRONG_TYPE: u32 = 2;
@@ -32,6 +33,7 @@ pub const SMS_BAD_TRANSACTION: u32 = 8;
 pub const SMS_UNKNOWN_TYPE: u32 = 9;
 pub const SMS_BAD_RELAY_ADDRESS: u32 = 10;
 pub const SMS_BAD_CAUSE: u32 = 11;
+pub const SMS_BAD_SEPTET: u32 = 12;
 
 pub const SMS_GSM7: u8 = 0;
 pub const SMS_EIGHT_BIT: u8 = 1;
@@ -42,6 +44,10 @@ pub const SMS_VALIDITY_ABSENT: u8 = 0;
 pub const SMS_VALIDITY_RELATIVE: u8 = 1;
 pub const SMS_VALIDITY_ENHANCED: u8 = 2;
 pub const SMS_VALIDITY_ABSOLUTE: u8 = 3;
+
+pub const SMS_WHOLE: u8 = 0;
+pub const SMS_COUNTED: u8 = 1;
+pub const SMS_SINGLE: u8 = 2;
 
 pub const SMS_REPEAT: u32 = 0;
 pub const SMS_KEPT: u32 = 1;
@@ -258,6 +264,37 @@ structs! {
         length: u8,
         spare: [u8; 6],
     }
+    "sms_data_form" DataForm {
+        dcs: u8,
+        has_header: u8,
+        standing: u8,
+        length: u8,
+        languages: u8,
+        spare: [u8; 6],
+    }
+    "sms_data" Data {
+        header: Span,
+        body: Span,
+        used: usize,
+        count: usize,
+        place: Place,
+        alphabet: u8,
+        has_header: u8,
+        single: u8,
+        fill: u8,
+    }
+    "sms_open_message" OpenMessage {
+        seconds: u64,
+        opening: u64,
+        width: u16,
+        reference: u16,
+        maximum: u8,
+        count: u8,
+        type_of_number: u8,
+        plan: u8,
+        come: [u8; 32],
+    }
+    "sms_cursor" Cursor { change: u64, opening: u64, }
 }
 
 /// A joiner: closed, or with what the library holds for it.
@@ -354,7 +391,16 @@ extern "C" {
         fields: *const DeliverFields, dcs: u8, has_header: u8, origin: *const u8, origin_count: usize,
         octets: *const u8, count: usize, out: *mut u8, room: usize, needed: *mut usize,
     ) -> u32;
+    pub fn sms_data_read(
+        octets: *const u8, count: usize, form: *const DataForm, out: *mut Data, refused: *mut Refused,
+    ) -> u32;
+    pub fn sms_data_text(
+        octets: *const u8, count: usize, form: *const DataForm, out: *mut u8, room: usize, needed: *mut usize,
+    ) -> u32;
     pub fn sms_joiner_open(joiner: *mut Joiner, open_max: usize, remembered: usize) -> u32;
+    pub fn sms_joiner_open_seeded(
+        joiner: *mut Joiner, open_max: usize, remembered: usize, seed_low: u64, seed_high: u64,
+    ) -> u32;
     pub fn sms_joiner_close(joiner: *mut Joiner);
     pub fn sms_joiner_offer(
         joiner: *mut Joiner, seconds: u64, octets: *const u8, count: usize, outcome: *mut u32, refused: *mut Refused,
@@ -364,4 +410,9 @@ extern "C" {
         joiner: *mut Joiner, octets: *const u8, count: usize, finishes: *mut u8, refused: *mut Refused,
     ) -> u32;
     pub fn sms_joiner_age(joiner: *mut Joiner, seconds: u64) -> u32;
+    pub fn sms_joiner_count(joiner: *mut Joiner, open_count: *mut usize) -> u32;
+    pub fn sms_joiner_each(joiner: *mut Joiner, cursor: *mut Cursor, message: *mut OpenMessage) -> u32;
+    pub fn sms_joiner_origin(
+        joiner: *mut Joiner, opening: u64, out: *mut u8, room: usize, needed: *mut usize,
+    ) -> u32;
 }

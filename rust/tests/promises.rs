@@ -1,8 +1,9 @@
 //! What the crate promises.
 
 use sms::{
-    Alphabet, Command, Cp, CpBody, Deliver, DeliverFields, Envelope, Error, Joiner, Offer, Place, Reason, Reference, Refused,
-    Report, ReportFields, Rp, RpBody, Stamp, StatusReport, StatusReportFields, Submit, SubmitFields, Validity,
+    Alphabet, Command, Cp, CpBody, Data, Deliver, DeliverFields, Envelope, Error, Joiner, Offer, Place, Reason, Reference,
+    Refused, Report, ReportFields, Rp, RpBody, Stamp, Standing, StatusReport, StatusReportFields, Submit, SubmitFields,
+    Validity,
 };
 use std::sync::Mutex;
 
@@ -46,6 +47,23 @@ fn refuses_each_front_at_its_end() {
     }
     let refused: Box<dyn std::error::Error> = Submit::read(&HELLO).unwrap_err().into();
     assert_eq!(refused.to_string(), "at 0: wrong type");
+}
+
+#[test]
+fn reads_data_alone() {
+    let (data, used) = Data::read(&[0xE8, 0x32, 0x9B, 0xFD, 0x06], 0, false, Standing::Counted(5)).unwrap();
+    assert_eq!((data.text().as_deref(), data.count(), used), (Ok("hello"), 5, 5));
+    assert_eq!(Data::read(&HELLO[19..], 0, false, Standing::Whole).unwrap().0.text().as_deref(), Ok("hellohello"));
+    let octets = *b"\x05\x00\x03\x2A\x02\x01hello";
+    let (data, _) = Data::read(&octets, 0, true, Standing::Single).unwrap();
+    assert_eq!((data.header(), data.body(), data.text().as_deref()), (Some(&octets[1..6]), &octets[6..], Ok("hello")));
+    assert_eq!(data.place(), Some(Place { reference: Reference::Eight(42), maximum: 2, sequence: 1 }));
+    assert_eq!((data.alphabet(), data.single(), data.fill(), data.octets()), (Alphabet::Gsm7, true, 0, &octets[..]));
+    let (data, _) = Data::read(&[3, 0x24, 1, 1, 0x1B, 0x69], 0, true, Standing::Single).unwrap();
+    assert_eq!((data.text().as_deref(), data.language_text().as_deref()), (Ok("i"), Ok("\u{131}")));
+    assert_eq!(Data::read(&[1], 4, false, Standing::Whole).unwrap().0.text(), Err(Error::NotThere));
+    assert_eq!(Data::read(b"he\x8Clo", 0, false, Standing::Single).err(), refused(2, Reason::BadSeptet));
+    assert_eq!(Data::read(&[], 0, false, Standing::Counted(161)).err(), refused(0, Reason::DataTooLong));
 }
 
 #[test]
@@ -250,6 +268,36 @@ fn joins_in_any_order_once() {
     assert_eq!((joiner.offer(1, &units[0]), joiner.text()), (Ok(Offer::Repeat), Ok(long())));
     assert_eq!(joiner.offer(1, &other[..3]).err(), refused(3, Reason::Short));
     assert_eq!(Joiner::open(0, 1).err(), Some(Error::OutOfRange));
+    assert_eq!(Joiner::open_seeded(1, 0, 7).err(), Some(Error::OutOfRange));
+}
+
+#[test]
+fn tells_what_is_open() {
+    let text = "a".repeat(11 * 153);
+    let unit = |reference, origin, index| {
+        Deliver::write(&DeliverFields::new(reference, STAMP), origin, &text, index).unwrap().0
+    };
+    let mut joiner = Joiner::open_seeded(4, 4, u128::MAX - 1).unwrap();
+    assert_eq!((joiner.open_count(), joiner.open_messages().next()), (0, None));
+    for (seconds, unit) in [
+        (7, unit(Reference::Eight(200), "+12345", 10)),
+        (5, unit(Reference::Sixteen(40000), "Carrier", 0)),
+        (9, unit(Reference::Eight(200), "+12345", 7)),
+    ] {
+        assert_eq!(joiner.offer(seconds, &unit), Ok(Offer::Kept));
+    }
+    let told: Vec<_> = joiner.open_messages().map(Result::unwrap).collect();
+    let (first, second) = (&told[0], &told[1]);
+    assert_eq!((told.len(), joiner.open_count()), (2, 2));
+    assert_eq!((first.origin.as_str(), first.type_of_number, first.plan), ("+12345", 1, 1));
+    assert_eq!((first.width, first.reference, first.maximum, first.seconds), (8, 200, 11, 7));
+    assert_eq!((first.sequences().collect(), first.has(11), first.has(10)), (vec![8, 11], true, false));
+    assert_eq!(first.missing().collect::<Vec<_>>(), [1, 2, 3, 4, 5, 6, 7, 9, 10]);
+    assert_eq!((second.origin.as_str(), second.width, second.reference), ("Carrier", 16, 40000));
+    assert_eq!((second.sequences().collect(), second.maximum, second.seconds), (vec![1], 12, 5));
+    assert!(first.opening < second.opening);
+    joiner.age(7 + 604_800);
+    assert_eq!(joiner.open_messages().next(), None);
 }
 
 #[test]

@@ -1,7 +1,9 @@
 pub mod AddressGiven
 pub mod Answered
 pub mod CentreText
+pub mod Changes
 pub mod Class
+pub mod DataAlone
 pub mod DataWriting
 pub mod Fitting
 pub mod HandedOut
@@ -9,6 +11,7 @@ pub mod Kept
 pub mod Lengths
 pub mod Lying
 pub mod Offers
+pub mod OpenMessages
 pub mod Parts
 pub mod ReportGiven
 pub mod ReportText

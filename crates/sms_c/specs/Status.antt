@@ -7,6 +7,8 @@ use Rattle.sms_join.specs.declared.cut.SplitFault.{SplitFault}
 use Rattle.sms_join.specs.declared.cut.SplitFault.TheVariants as split
 use Rattle.sms_tpdu.specs.declared.fault.UnitFault.{UnitFault}
 use Rattle.sms_tpdu.specs.declared.fault.UnitFault.TheVariants as unit
+use Rattle.sms_tpdu.specs.declared.user_data.data_fault.DataFault.{DataFault}
+use Rattle.sms_tpdu.specs.declared.user_data.data_fault.DataFault.TheVariants as single
 use Rattle.sms_relay.specs.declared.fault.RelayFault.{RelayFault}
 use Rattle.sms_relay.specs.declared.fault.RelayFault.TheVariants as relay
 use Rattle.sms_c.specs.declared.status.Failure.{Failure}
@@ -24,6 +26,7 @@ status_of why.OutOfRange = 7
 status_of why.NotThere = 8
 status_of why.TooManyOpen = 9
 status_of why.Closed = 10
+status_of why.Changed = 11
 
 abbrev pub status_in : {A : Type 0} → Result A Failure → ℕ
 status_in (Ok _) = 0
@@ -62,7 +65,16 @@ relay_reason relay.UnknownType = 9
 relay_reason relay.BadAddress = 10
 relay_reason relay.BadCause = 11
 
+abbrev pub data_reason : DataFault → ℕ
+data_reason single.Short = 1
+data_reason single.DataTooLong = 5
+data_reason single.HeaderTooLong = 6
+data_reason single.BadSeptet = 12
+
 -- what C is told of a fault
+abbrev pub data_refused : Fault DataFault → Refused
+data_refused fault = record { place = fault.place; reason = data_reason fault.why }
+
 abbrev pub unit_refused : Fault UnitFault → Refused
 unit_refused fault = record { place = fault.place; reason = unit_reason fault.why }
 

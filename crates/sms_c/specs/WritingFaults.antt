@@ -54,6 +54,10 @@ pub record IsCutInto (reference : Reference) (text : List ℕ) (count : ℕ) : T
   pub counted : count ≡ length segments
   pub few : count ≤ 255
 
+-- this status, or, since the address is looked at before, that it is none; or want of memory
+abbrev pub IsAfterAddress : ℕ → ℕ → Type 0
+IsAfterAddress number status = (status ≡ number) ⊎ ((status ≡ 5) ⊎ (status ≡ 2))
+
 -- and the index is not below that
 abbrev pub EndsBefore : Reference → List ℕ → ℕ → ℕ → Type 0
 EndsBefore reference text index count = IsCutInto reference text count × (count ≤ index)

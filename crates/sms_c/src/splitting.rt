@@ -1,6 +1,6 @@
 //! Texts split: the user data of all segments.
 
-ghost use Rattle.std.specs.Prelude.{◌≡◌, ◌≢◌, ◌<◌, ◌↔◌, All, Err, IfOk, IfErr, OnErr};
+ghost use Rattle.std.specs.Prelude.{◌≡◌, ◌≢◌, ◌<◌, ◌⊎◌, ◌↔◌, All, Err, IfOk, IfErr, OnErr};
 ghost use Rattle.std.specs.Str.{IsUtf8};
 ghost use Rattle.sms_tpdu.specs.declared.user_data.concat.Width.TheVariants.{Eight};
 ghost use Rattle.sms_join.specs.Segments.User.{IsSendable};
@@ -13,7 +13,7 @@ use crate::handed_out::{hand_out, text_of};
 use crate::parts::Span;
 use crate::status::{Failure, status_of};
 use crate::writing::{Reference, segments_of, width_of};
-use sms_join::Segments;
+use sms_join::{Segments, texts_have_one_cut};
 use sms_tpdu::Width;
 use std::alloc::{AllocError, Global};
 
@@ -127,6 +127,8 @@ pub extern "C" fn sms_split(
     ensures not_utf8 { (result ≡ 4)
         ↔ (FitsReference reference.now × (IsUtf8 text.now → ⊥)) }
     ensures too_long { result ≡ 6 → TakesTooMany reference.now text.now }
+    ensures too_many { FitsReference reference.now → IsUtf8 text.now
+        → TakesTooMany reference.now text.now → (result ≡ 6) ⊎ (result ≡ 2) }
     ensures answered { (result < 8) × (result ≢ 1) × (result ≢ 5) }
     ensures put { result ≡ 0 → OfSplit reference.now text.now count.new dcs.new
         (BothArePut out.old out.new needed.new spans.old spans.new) }
@@ -137,6 +139,7 @@ pub extern "C" fn sms_split(
     ensures told { (result ≡ 0 → ⊥) → (result ≡ 3 → ⊥)
         → (count.new ≡ count.old) × (dcs.new ≡ dcs.old) }
 {
+    texts_have_one_cut();
     *needed = 0;
     status_of(put_split(alloc, *reference, text, out, needed, spans, count, dcs))
 }

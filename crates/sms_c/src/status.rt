@@ -7,7 +7,7 @@ ghost use Rattle.sms_c.specs.declared.status.Failure.TheVariants.{Memory, NoRoom
 use sms_field::{Fault, TextFault};
 use sms_join::SplitFault;
 use sms_relay::RelayFault;
-use sms_tpdu::UnitFault;
+use sms_tpdu::{DataFault, UnitFault};
 use std::alloc::{AllocError, AllocFailed};
 
 /// What a call answers that did what it is for.
@@ -36,6 +36,8 @@ pub enum Failure {
     TooManyOpen,
     /// The joiner is not open.
     Closed,
+    /// The joiner has changed since.
+    Changed,
 }
 
 impl Failure {
@@ -54,6 +56,7 @@ impl Failure {
             Failure::NotThere => 8,
             Failure::TooManyOpen => 9,
             Failure::Closed => 10,
+            Failure::Changed => 11,
         }
     }
 }
@@ -156,6 +159,29 @@ pub fn unit_refused(out: &mut Refused, fault: Fault<UnitFault>) -> u32
         place: fault.place,
         reason: unit_reason(fault.why),
     };
+    Failure::Refused.status()
+}
+
+/// The number of what is wrong with user data whose septets stand one an octet.
+pub fn data_reason(fault: DataFault) -> u32
+    ensures { result ≡ numbers.data_reason fault }
+{
+    match fault {
+        DataFault::Short => 1,
+        DataFault::DataTooLong => 5,
+        DataFault::HeaderTooLong => 6,
+        DataFault::BadSeptet => 12,
+    }
+}
+
+/// Tells where such data are refused, and why.
+pub fn data_refused(out: &mut Refused, fault: Fault<DataFault>) -> u32
+    ensures status { result ≡ 1 }
+    ensures told { out.new ≡ numbers.data_refused fault }
+{
+    let Fault { place, why } = fault;
+    let reason = data_reason(why);
+    *out = Refused { place, reason };
     Failure::Refused.status()
 }
 

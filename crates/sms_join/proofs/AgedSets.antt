@@ -9,7 +9,7 @@ use Rattle.sms_join.specs.Key.{same_key, maximum_of}
 use Rattle.sms_join.specs.Piece.{Piece}
 use Rattle.sms_join.specs.Joiner.Sets.{opened_at}
 use Rattle.sms_join.specs.Joiner.Aging.{is_old, young}
-use Rattle.sms_join.specs.Inside.OpenSet.{SetValue, AreOpen, pieces_with, pieces_in, all_pieces, has_set}
+use Rattle.sms_join.specs.OpenSets.{SetValue, AreOpen, pieces_with, pieces_in, all_pieces, has_set}
 use Rattle.sms_join.proofs.Outcomes.{between}
 use Rattle.sms_join.proofs.OneSet.{open_of, opened_of}
 

@@ -3,7 +3,7 @@ use Rattle.std.proofs.Common.{◌≡◌, ℕ, suc, ◌-◌, ◌<◌, ◌≤◌, 
 use Rattle.std.specs.List.{filter, swap_remove, slice_get}
 use Rattle.std.proofs.Math.ListN.{set}
 use Rattle.std.proofs.lemmas.List.{length-set, length-take-le}
-use Rattle.sms_join.specs.Inside.OpenSet.{SetValue}
+use Rattle.sms_join.specs.OpenSets.{SetValue}
 use Rattle.sms_join.specs.Inside.Slots.{At}
 
 pub fewer_filtered : {X : Type 0} (t : X → Bool) (xs : List X) → length (filter t xs) ≤ length xs

@@ -7,7 +7,7 @@ use Rattle.sms_join.specs.Key.{maximum_of}
 use Rattle.sms_join.specs.Piece.{Piece}
 use Rattle.sms_join.specs.Joiner.{Joiner, Answer, Repeat, Kept, Finished, TooManyOpen, is_repeat, is_whole, decided, answer, is_among}
 use Rattle.sms_join.specs.Joiner.Same.{IsSame}
-use Rattle.sms_join.specs.Inside.OpenSet.{SetValue, AreOpen, is_in, has_set, with_piece}
+use Rattle.sms_join.specs.OpenSets.{SetValue, AreOpen, is_in, has_set, with_piece}
 use Rattle.sms_join.specs.Joiner.Finishing.{would_finish, is_finished, AnswerFinishes, SameIsEquivalence}
 use Rattle.sms_join.proofs.Outcomes.{joiner_of, InPlace, finishes_alone, too_many}
 use Rattle.sms_join.specs.Inside.LastKeys.{LastKeysValue}

@@ -44,3 +44,15 @@ pub mod Swapped
 pub mod Offers
 pub mod Finishing
 pub mod Few
+pub mod Turns
+pub mod Arranged
+pub mod Keeping
+pub mod Told
+pub mod Order
+pub mod InLine
+pub mod OldDropped
+pub mod Passing
+pub mod Telling
+pub mod OldTold
+pub mod Since
+pub mod Walking

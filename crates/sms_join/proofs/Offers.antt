@@ -21,7 +21,7 @@ use Rattle.sms_join.specs.Joiner.{Joiner, Answer, Repeat, Kept, Finished, TooMan
 use Rattle.sms_join.specs.Joiner.Same.{IsSame}
 use Rattle.sms_join.specs.Inside.LastKeys.{LastKeysValue}
 use Rattle.sms_join.specs.Joiner.Value.{JoinerValue}
-use Rattle.sms_join.specs.Inside.OpenSet.{SetValue, IsOpen, AreOpen, is_in, with_piece}
+use Rattle.sms_join.specs.OpenSets.{SetValue, IsOpen, AreOpen, is_in, with_piece}
 use Rattle.sms_join.specs.Joiner.Offering.{is_first, SaysAnswer, Says}
 use Rattle.sms_join.specs.Inside.Slots.{At, HasPlace}
 use Rattle.sms_join.specs.Joiner.Finishing.{lacks_only}
@@ -71,7 +71,7 @@ found ss k i e =
     (s.0, record { within = w; there = s.1; key = same_key_true s.0.key k (same s.0 s.1) })
   where
     none : SetValue
-    none = record { key = k; opened = 0; sequences = []; units = [] }
+    none = record { key = k; opened = 0; turn = 0; sequences = []; units = [] }
 
     within : (ts : List SetValue) (j : ℕ) → position (λ (t : SetValue). same_key t.key k) ts ≡ Some j → j < length ts
     within ts j e = (position-Some (λ (t : SetValue). same_key t.key k) ts j none e).0
@@ -171,7 +171,7 @@ says_text m j p us text e h = subst (λ (a : Answer). SaysAnswer a (is_first j p
 
 -- a joiner of these fields
 abbrev pub value_of : ℕ → LastKeysValue → List SetValue → JoinerValue
-value_of open_max l ss = record { open_max = open_max; remembered = l.limit; holds = joiner_of ss l.keys }
+value_of open_max l ss = record { open_max = open_max; remembered = l.limit; holds = joiner_of ss l.keys; told = ss }
 
 -- no set of the key is there
 module _ (m : ℕ) (l : LastKeysValue) (ss : List SetValue) (o : AreOpen ss) (p : Piece) (place : InPlace p) where
@@ -186,21 +186,21 @@ module _ (m : ℕ) (l : LastKeysValue) (ss : List SetValue) (o : AreOpen ss) (p 
       let f = finishes_alone ss l.keys p place fresh (none_open ss p.key o closed) m l.limit one in
       (f.0, subst (λ (j : Joiner). IsSame (joiner_of ss (take l.limit (p.key ∷ l.keys))) j) (sym f.1) (same_refl (joiner_of ss (take l.limit (p.key ∷ l.keys))))))
 
-  pub first_kept : (v : JoinerValue) → value_of m l ss ≡ v → is_among v.holds.finished p.key ≡ false → is_open v.holds.kept p.key ≡ false → (1 ≡ maximum_of p.key → ⊥) → length ss < m
+  pub first_kept : (t : ℕ) (v : JoinerValue) → value_of m l ss ≡ v → is_among v.holds.finished p.key ≡ false → is_open v.holds.kept p.key ≡ false → (1 ≡ maximum_of p.key → ⊥) → length ss < m
       → (answer v.open_max v.holds p ≡ Kept)
-      × IsSame (joiner_of (ss ++ record { key = p.key; opened = p.moment; sequences = p.sequence ∷ []; units = p.units ∷ [] } ∷ []) l.keys) (offered v.open_max v.remembered v.holds p)
-      × AreOpen (ss ++ record { key = p.key; opened = p.moment; sequences = p.sequence ∷ []; units = p.units ∷ [] } ∷ [])
-  first_kept v view =
+      × IsSame (joiner_of (ss ++ record { key = p.key; opened = p.moment; turn = t; sequences = p.sequence ∷ []; units = p.units ∷ [] } ∷ []) l.keys) (offered v.open_max v.remembered v.holds p)
+      × AreOpen (ss ++ record { key = p.key; opened = p.moment; turn = t; sequences = p.sequence ∷ []; units = p.units ∷ [] } ∷ [])
+  first_kept t v view =
       subst (λ (v : JoinerValue). is_among v.holds.finished p.key ≡ false → is_open v.holds.kept p.key ≡ false → (1 ≡ maximum_of p.key → ⊥) → length ss < m
       → (answer v.open_max v.holds p ≡ Kept)
-      × IsSame (joiner_of (ss ++ record { key = p.key; opened = p.moment; sequences = p.sequence ∷ []; units = p.units ∷ [] } ∷ []) l.keys) (offered v.open_max v.remembered v.holds p)
-      × AreOpen (ss ++ record { key = p.key; opened = p.moment; sequences = p.sequence ∷ []; units = p.units ∷ [] } ∷ [])) view
+      × IsSame (joiner_of (ss ++ record { key = p.key; opened = p.moment; turn = t; sequences = p.sequence ∷ []; units = p.units ∷ [] } ∷ []) l.keys) (offered v.open_max v.remembered v.holds p)
+      × AreOpen (ss ++ record { key = p.key; opened = p.moment; turn = t; sequences = p.sequence ∷ []; units = p.units ∷ [] } ∷ [])) view
       (λ fresh closed more less.
       let none = none_open ss p.key o closed in
-      let k = opens_set ss l.keys p place fresh none m l.limit o (ne_eqb _ _ more) less in
-      (k.0, k.1, are_open_more ss (record { key = p.key; opened = p.moment; sequences = p.sequence ∷ []; units = p.units ∷ [] }) o (one_open more) none))
+      let k = opens_set ss l.keys p place fresh none m l.limit t o (ne_eqb _ _ more) less in
+      (k.0, k.1, are_open_more ss (record { key = p.key; opened = p.moment; turn = t; sequences = p.sequence ∷ []; units = p.units ∷ [] }) o (one_open more) none))
     where
-      one_open : (1 ≡ maximum_of p.key → ⊥) → IsOpen (record { key = p.key; opened = p.moment; sequences = p.sequence ∷ []; units = p.units ∷ [] })
+      one_open : (1 ≡ maximum_of p.key → ⊥) → IsOpen (record { key = p.key; opened = p.moment; turn = t; sequences = p.sequence ∷ []; units = p.units ∷ [] })
       one_open more =
           record {
             is_set = record { rising = (place.from_one, place.within); as_many = refl };
@@ -297,9 +297,9 @@ module _ (m : ℕ) (l : LastKeysValue) (ss : List SetValue) (p : Piece) (i n : �
           (rw (come b false has no, last c true one e) refl)
 
 -- a set that was opened
-pub opened_set : (xs ys : List SetValue) (k l : Key) (opened n m : ℕ) (u : Units)
-    → ys ≡ xs ++ record { key = k; opened = opened; sequences = n ∷ []; units = u ∷ [] } ∷ [] → k ≡ l → n ≡ m
-    → ys ≡ xs ++ record { key = l; opened = opened; sequences = m ∷ []; units = u ∷ [] } ∷ []
-opened_set xs ys k l opened n m u a d e =
-    a ∙ (ap (λ (j : Key). xs ++ record { key = j; opened = opened; sequences = n ∷ []; units = u ∷ [] } ∷ []) d
-    ∙ ap (λ (i : ℕ). xs ++ record { key = l; opened = opened; sequences = i ∷ []; units = u ∷ [] } ∷ []) e)
+pub opened_set : (xs ys : List SetValue) (k l : Key) (opened t n m : ℕ) (u : Units)
+    → ys ≡ xs ++ record { key = k; opened = opened; turn = t; sequences = n ∷ []; units = u ∷ [] } ∷ [] → k ≡ l → n ≡ m
+    → ys ≡ xs ++ record { key = l; opened = opened; turn = t; sequences = m ∷ []; units = u ∷ [] } ∷ []
+opened_set xs ys k l opened t n m u a d e =
+    a ∙ (ap (λ (j : Key). xs ++ record { key = j; opened = opened; turn = t; sequences = n ∷ []; units = u ∷ [] } ∷ []) d
+    ∙ ap (λ (i : ℕ). xs ++ record { key = l; opened = opened; turn = t; sequences = i ∷ []; units = u ∷ [] } ∷ []) e)

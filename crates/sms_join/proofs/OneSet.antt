@@ -10,7 +10,7 @@ use Rattle.sms_join.specs.Piece.{Piece}
 use Rattle.sms_join.specs.Joiner.Sets.{has, has_all, is_open, opened_at, open_sets, units_at, units_upto, without}
 use Rattle.sms_join.proofs.Counts.{AreDistinct}
 use Rattle.sms_join.specs.Joiner.Same.{IsSame}
-use Rattle.sms_join.specs.Inside.OpenSet.{is_in, SetValue, Rises, IsSet, AreOpen, pieces_with, pieces_in, all_pieces, has_set, place_of, with_piece}
+use Rattle.sms_join.specs.OpenSets.{is_in, SetValue, Rises, IsSet, AreOpen, pieces_with, pieces_in, all_pieces, has_set, place_of, with_piece}
 use Rattle.sms_join.proofs.SameKeys.{same_key_refl}
 use Rattle.sms_join.proofs.Pieces.{units_upto_is}
 use Rattle.sms_join.proofs.SetPieces.{has-append, open-append, opened-append, without-append, all-append, closed_has, closed_without, others_closed, own_has, own_open, own_opened, own_without, set_has, set_units}
@@ -225,10 +225,10 @@ module _ (ls : List SetValue) (s : SetValue) (rs : List SetValue) (before : has_
       (sym (older p ((all_pieces ls ++ front) ++ (back ++ all_pieces rs)) p.key old_open ∙ old_opened)) old_none)
 
 -- the first piece of a set
-pub one_first : (ss : List SetValue) (p : Piece) (finished : List Key) → has_set ss p.key ≡ false
-    → IsSame (record { kept = all_pieces (ss ++ record { key = p.key; opened = p.moment; sequences = p.sequence ∷ []; units = p.units ∷ [] } ∷ []); finished = finished })
+pub one_first : (ss : List SetValue) (p : Piece) (finished : List Key) (t : ℕ) → has_set ss p.key ≡ false
+    → IsSame (record { kept = all_pieces (ss ++ record { key = p.key; opened = p.moment; turn = t; sequences = p.sequence ∷ []; units = p.units ∷ [] } ∷ []); finished = finished })
     (record { kept = p ∷ all_pieces ss; finished = finished })
-one_first ss p finished none =
+one_first ss p finished t none =
     subst (λ l. IsSame (record { kept = l; finished = finished }) (record { kept = p ∷ all_pieces ss; finished = finished })) (sym new_list)
     (subst (λ l. IsSame (record { kept = all_pieces ss ++ added ∷ []; finished = finished }) (record { kept = p ∷ l; finished = finished })) (append-nil (all_pieces ss))
     (moved_same p added (all_pieces ss) [] finished refl refl refl moment (closed_has (all_pieces ss ++ []) p.key p.sequence closed)))
@@ -236,8 +236,8 @@ one_first ss p finished none =
     added : Piece
     added = record { key = p.key; maximum = maximum_of p.key; sequence = p.sequence; units = p.units; moment = p.moment }
 
-    new_list : all_pieces (ss ++ record { key = p.key; opened = p.moment; sequences = p.sequence ∷ []; units = p.units ∷ [] } ∷ []) ≡ all_pieces ss ++ added ∷ []
-    new_list = all-append ss (record { key = p.key; opened = p.moment; sequences = p.sequence ∷ []; units = p.units ∷ [] } ∷ [])
+    new_list : all_pieces (ss ++ record { key = p.key; opened = p.moment; turn = t; sequences = p.sequence ∷ []; units = p.units ∷ [] } ∷ []) ≡ all_pieces ss ++ added ∷ []
+    new_list = all-append ss (record { key = p.key; opened = p.moment; turn = t; sequences = p.sequence ∷ []; units = p.units ∷ [] } ∷ [])
 
     closed : is_open (all_pieces ss ++ []) p.key ≡ false
     closed = ap (λ l. is_open l p.key) (append-nil (all_pieces ss)) ∙ others_closed ss p.key none

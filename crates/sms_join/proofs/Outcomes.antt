@@ -9,7 +9,7 @@ use Rattle.sms_join.specs.Joiner.Sets.{has, has_all, is_open, units_upto, withou
 use Rattle.sms_join.specs.Joiner.{Joiner, Repeat, Kept, Finished, TooManyOpen, is_among, is_repeat, is_whole, has_room, decided, answer, answered, offered}
 use Rattle.sms_join.specs.Joiner.Counts.{count_of}
 use Rattle.sms_join.specs.Joiner.Same.{IsSame}
-use Rattle.sms_join.specs.Inside.OpenSet.{is_in, SetValue, IsOpen, AreOpen, all_pieces, has_set, with_piece}
+use Rattle.sms_join.specs.OpenSets.{is_in, SetValue, IsOpen, AreOpen, all_pieces, has_set, with_piece}
 use Rattle.sms_join.proofs.SameKeys.{same_key_refl}
 use Rattle.sms_join.proofs.Sets.{has_all-same, units_upto-same}
 use Rattle.sms_join.proofs.Counts.{AreDistinct, whole_if_many}
@@ -205,14 +205,14 @@ module _ (ss : List SetValue) (finished : List Key) (p : Piece) (i : InPlace p) 
   unfolding has_room
   room_is open_max o = rw (others_closed ss p.key none, sets_count ss o) refl
 
-  pub opens_set : (open_max remembered : ℕ) → AreOpen ss → eqb 1 (maximum_of p.key) ≡ false → length ss < open_max
+  pub opens_set : (open_max remembered t : ℕ) → AreOpen ss → eqb 1 (maximum_of p.key) ≡ false → length ss < open_max
       → (answer open_max (joiner_of ss finished) p ≡ Kept)
-      × IsSame (joiner_of (ss ++ record { key = p.key; opened = p.moment; sequences = p.sequence ∷ []; units = p.units ∷ [] } ∷ []) finished) (offered open_max remembered (joiner_of ss finished) p)
-  opens_set open_max remembered o e less =
+      × IsSame (joiner_of (ss ++ record { key = p.key; opened = p.moment; turn = t; sequences = p.sequence ∷ []; units = p.units ∷ [] } ∷ []) finished) (offered open_max remembered (joiner_of ss finished) p)
+  opens_set open_max remembered t o e less =
       let k = says_kept open_max remembered (joiner_of ss finished) p alone_new (part e) (room_is open_max o ∙ lt-ltb _ _ less) in (
         k.0,
-        subst (λ j. IsSame (joiner_of (ss ++ record { key = p.key; opened = p.moment; sequences = p.sequence ∷ []; units = p.units ∷ [] } ∷ []) finished) j) (sym k.1)
-            (one_first ss p finished none),
+        subst (λ j. IsSame (joiner_of (ss ++ record { key = p.key; opened = p.moment; turn = t; sequences = p.sequence ∷ []; units = p.units ∷ [] } ∷ []) finished) j) (sym k.1)
+            (one_first ss p finished t none),
       )
 
   pub too_many : (open_max : ℕ) → AreOpen ss → eqb 1 (maximum_of p.key) ≡ false → open_max ≤ length ss

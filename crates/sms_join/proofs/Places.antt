@@ -8,7 +8,7 @@ use Rattle.circular_buffer.specs.Buffer.{Buffer, buffer, keep_last}
 use Rattle.sms_join.specs.declared.key.Key.{Key}
 use Rattle.sms_join.specs.Key.{same_key}
 use Rattle.sms_join.specs.Joiner.{is_among}
-use Rattle.sms_join.specs.Inside.OpenSet.{SetValue, AreOpen, has_set, all_pieces, pieces_in}
+use Rattle.sms_join.specs.OpenSets.{SetValue, AreOpen, has_set, all_pieces, pieces_in}
 use Rattle.sms_join.specs.Joiner.Sets.{is_open}
 use Rattle.sms_join.proofs.SameKeys.{same_key_true}
 use Rattle.sms_join.proofs.SetPieces.{open-append, own_open}

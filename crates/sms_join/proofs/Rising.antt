@@ -2,7 +2,7 @@
 use Rattle.std.proofs.Common.{◌≡◌, ◌≢◌, ℕ, zero, suc, ◌+◌, ◌<◌, ◌≤◌, Bool, true, false, cond, ◌||◌, eqb, ltb, List, [], ◌∷◌, length, get_or, refl, ap, arith}
 use Rattle.std.proofs.lemmas.Bool.{eqb-true, eq-eqb, eqb-false, ne_eqb, or_parts, ltb-true, ltb-false, lt-ltb, le-ltb}
 use Rattle.std.specs.List.{insert}
-use Rattle.sms_join.specs.Inside.OpenSet.{is_in, Rises, place_of}
+use Rattle.sms_join.specs.OpenSets.{is_in, Rises, place_of}
 
 pub rises_length : (low : ℕ) (ns : List ℕ) (high : ℕ) → Rises low ns high → low + length ns ≤ high
 rises_length low [] high h = omega arith

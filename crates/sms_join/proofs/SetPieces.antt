@@ -8,7 +8,7 @@ use Rattle.sms_join.specs.Key.{same_key}
 use Rattle.sms_join.specs.Piece.{Piece}
 use Rattle.sms_join.specs.Joiner.Sets.{has, is_open, opened_at, units_at, without}
 use Rattle.sms_join.specs.Joiner.Counts.{count_of}
-use Rattle.sms_join.specs.Inside.OpenSet.{SetValue, pieces_with, pieces_in, all_pieces, has_set, is_in}
+use Rattle.sms_join.specs.OpenSets.{SetValue, pieces_with, pieces_in, all_pieces, has_set, is_in}
 use Rattle.sms_join.proofs.SameKeys.{same_key_refl}
 
 -- two lists of pieces in one

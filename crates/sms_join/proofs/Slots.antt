@@ -9,7 +9,7 @@ use Rattle.indexmap.specs.IndexMap.{set_value_at, insert_entry}
 use Rattle.sms_join.specs.declared.key.Key.{Key}
 use Rattle.sms_join.specs.declared.units.Units.{Units}
 use Rattle.sms_join.specs.Key.{same_key, maximum_of}
-use Rattle.sms_join.specs.Inside.OpenSet.{SetValue, has_set, is_in, place_of, with_piece}
+use Rattle.sms_join.specs.OpenSets.{SetValue, has_set, is_in, place_of, with_piece}
 use Rattle.sms_join.specs.Joiner.Finishing.{lacks_only}
 use Rattle.sms_join.specs.Inside.Slots.{SlotValue, At, HasPlace, AreSlots, key_eq, filled, filled_from, filled_with, first_places, set_of, sets_of}
 use Rattle.sms_join.proofs.Same.{key_turned}
@@ -138,19 +138,19 @@ many_places (suc m) = ap suc (many_places m)
 
 -- ---- sets
 
-pub set_more : (k : Key) (opened n : ℕ) (ps : List (Option Units)) (u : Units) → 0 < n → n ≤ length ps → is_in n (filled_from 1 ps) ≡ false
-    → set_of (k, record { opened = opened; places = set ps (n - 1) (Some u) }) ≡ with_piece (set_of (k, record { opened = opened; places = ps })) n u
-set_more k opened n ps u a b h =
+pub set_more : (k : Key) (opened turn n : ℕ) (ps : List (Option Units)) (u : Units) → 0 < n → n ≤ length ps → is_in n (filled_from 1 ps) ≡ false
+    → set_of (k, record { opened = opened; turn = turn; places = set ps (n - 1) (Some u) }) ≡ with_piece (set_of (k, record { opened = opened; turn = turn; places = ps })) n u
+set_more k opened turn n ps u a b h =
     let s = sequences_more 1 n ps (n - 1) u (omega arith) (omega arith) h in
     let t = units_more 1 n ps (n - 1) u (omega arith) (omega arith) h in
-    λ i. record { key = k; opened = opened; sequences = s i; units = t i }
+    λ i. record { key = k; opened = opened; turn = turn; sequences = s i; units = t i }
 
-pub set_first : (k : Key) (opened n m : ℕ) (u : Units) → 0 < n → n ≤ m
-    → set_of (k, record { opened = opened; places = first_places m n u }) ≡ record { key = k; opened = opened; sequences = n ∷ []; units = u ∷ [] }
-set_first k opened n m u a b =
+pub set_first : (k : Key) (opened turn n m : ℕ) (u : Units) → 0 < n → n ≤ m
+    → set_of (k, record { opened = opened; turn = turn; places = first_places m n u }) ≡ record { key = k; opened = opened; turn = turn; sequences = n ∷ []; units = u ∷ [] }
+set_first k opened turn n m u a b =
     let s = first_sequence 1 n m (n - 1) u (omega arith) (omega arith) in
     let t = first_units m (n - 1) u (omega arith) in
-    λ i. record { key = k; opened = opened; sequences = s i; units = t i }
+    λ i. record { key = k; opened = opened; turn = turn; sequences = s i; units = t i }
 
 pub sets_length : (es : List (Key × SlotValue)) → length (sets_of es) ≡ length es
 sets_length [] = refl
@@ -351,3 +351,17 @@ dropped es fs i r at l h =
 
 pub first_length : (m n : ℕ) (u : Units) → length (first_places m n u) ≡ m
 first_length m n u = places_length (replicate m None) (n - 1) (Some u) ∙ many_places m
+
+-- the set at an index, by its entry
+pub sets_none : (es : List (Key × SlotValue)) (i : ℕ) → slice_get es i ≡ None → slice_get (sets_of es) i ≡ None
+sets_none [] i e = refl
+sets_none (f ∷ es) zero e = absurd cc
+sets_none (f ∷ es) (suc i) e = sets_none es i e
+
+pub sets_some : (es : List (Key × SlotValue)) (i : ℕ) (e : Key × SlotValue) → slice_get es i ≡ Some e → slice_get (sets_of es) i ≡ Some (set_of e)
+sets_some [] i e h = absurd cc
+sets_some (f ∷ es) zero e h = ap (λ (g : Key × SlotValue). Some (set_of g)) (some_same f e h)
+sets_some (f ∷ es) (suc i) e h = sets_some es i e h
+
+pub slot_places : (es : List (Key × SlotValue)) (i : ℕ) (e : Key × SlotValue) → AreSlots es → slice_get es i ≡ Some e → length e.1.places ≡ maximum_of e.0
+slot_places es i e h is = slot_there es i e h is

@@ -8,7 +8,7 @@ use Rattle.sms_join.specs.Key.{same_key}
 use Rattle.sms_join.specs.Piece.{Piece}
 use Rattle.sms_join.specs.Joiner.Sets.{has, is_open, opened_at, open_sets, units_at}
 use Rattle.sms_join.specs.Joiner.Same.{IsSame}
-use Rattle.sms_join.specs.Inside.OpenSet.{SetValue, AreOpen, all_pieces, pieces_in, has_set}
+use Rattle.sms_join.specs.OpenSets.{SetValue, AreOpen, all_pieces, pieces_in, has_set}
 use Rattle.sms_join.proofs.SameKeys.{same_key_true}
 use Rattle.sms_join.proofs.Same.{opened_at-closed, same_refl}
 use Rattle.sms_join.proofs.SetPieces.{has-append, open-append, units-append, opened-append, all-append, has_set-append, closed_has, other_closed, others_closed}
@@ -136,13 +136,13 @@ turned_sets ls ys t ks h =
         go true e = inr (others_closed ys k (ap (has_set ys) (sym (same_key_true t.key k e)) ∙ (between ls t ys ahead).after))
 
 -- the last of those after an index stands there
-record Moves (ss : List SetValue) (i : ℕ) (ts : List SetValue) : Type 0 where
+pub record Moves (ss : List SetValue) (i : ℕ) (ts : List SetValue) : Type 0 where
   pub last : SetValue
   pub others : List SetValue
   pub after : drop (suc i) ss ≡ others ++ last ∷ []
   pub is : ts ≡ take i ss ++ last ∷ others
 
-last_moves : (ss : List SetValue) (i n : ℕ) (d : SetValue) → suc n ≡ length ss → i < length ss
+pub last_moves : (ss : List SetValue) (i n : ℕ) (d : SetValue) → suc n ≡ length ss → i < length ss
     → ((drop (suc i) ss ≡ []) × (take n (set ss i (get_or ss n d)) ≡ take i ss)) ⊎ Moves ss i (take n (set ss i (get_or ss n d)))
 last_moves [] i n d e l = absurd (omega arith)
 last_moves (x ∷ []) zero zero d e l = inl (refl, refl)

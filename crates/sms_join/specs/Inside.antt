@@ -4,8 +4,12 @@ pub mod KeyRings
 pub mod KeyTags
 pub mod LastKeys
 pub mod MostSets
-pub mod OpenSet
 pub mod Remembered
 pub mod SegmentsAt
 pub mod WrittenAt
 pub mod Slots
+pub mod Turns
+pub mod Keeping
+pub mod Lines
+pub mod Dropping
+pub mod Hashings

@@ -2,6 +2,7 @@
 use Rattle.std.specs.Prelude.{ℕ, Bool, true, false, ◌&&◌, ◌==◌}
 use Rattle.std.specs.Str.{bytes_eq}
 use Rattle.sms_field.specs.Address.Same.{same_address}
+use Rattle.sms_field.specs.Address.Value.{AddressValue}
 use Rattle.sms_tpdu.specs.declared.user_data.concat.Width.{Width}
 use Rattle.sms_tpdu.specs.declared.user_data.concat.Width.TheVariants.{Eight, Sixteen}
 use Rattle.sms_join.specs.declared.key.Key.{Key}
@@ -27,3 +28,8 @@ same_key (Segmented a w r m) (Single b t) = false
 abbrev pub maximum_of : Key → ℕ
 maximum_of (Single origin stamp) = 1
 maximum_of (Segmented origin width reference maximum) = maximum
+
+-- Whom its pieces are from (TP-OA).
+abbrev pub origin_of : Key → AddressValue
+origin_of (Single origin stamp) = origin
+origin_of (Segmented origin width reference maximum) = origin

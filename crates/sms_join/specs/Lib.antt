@@ -1,5 +1,6 @@
 pub mod Key
 pub mod Piece
+pub mod OpenSets
 pub mod Joiner
 pub mod Arrivals
 pub mod UnitsOfText

@@ -1,22 +1,23 @@
 //! A joiner of segments.
 
-ghost use Rattle.std.specs.Prelude.{◌≡◌, ℕ, ◌<◌, ◌≤◌, false, IfOk, OnOk, OnErr};
+ghost use Rattle.std.specs.Prelude.{◌≡◌, ℕ, ◌<◌, ◌≤◌, [], IfOk, OnOk, OnErr};
 ghost use Rattle.sms_join.specs.declared.units.Units.{Units as TheUnits};
 ghost use Rattle.sms_join.specs.Joiner.Aging.{aged};
 ghost use Rattle.sms_join.specs.Joiner.Finishing.{would_finish};
-ghost use Rattle.sms_join.specs.Piece.{piece_of, key_of, sequence_of, size_of};
+ghost use Rattle.sms_join.specs.Piece.{piece_of};
 ghost use Rattle.sms_tpdu.specs.UserData.ConcatenationFound.{IsPlace};
-ghost use Rattle.sms_join.specs.Joiner.Sets.{is_open, open_sets};
-ghost use Rattle.sms_join.specs.Joiner.{new_joiner, is_among, offered};
+ghost use Rattle.sms_join.specs.Joiner.Sets.{open_sets};
+ghost use Rattle.sms_join.specs.Joiner.{new_joiner, offered};
 ghost use Rattle.sms_join.specs.Joiner.Value.{SameLimits};
 ghost use Rattle.sms_join.specs.Joiner.Same.{IsSame};
 ghost use Rattle.sms_join.specs.Joiner.Offering.{Says};
+ghost use Rattle.sms_join.specs.OpenSets.{all_pieces, AreOpen};
+ghost use Rattle.sms_join.specs.OpenSets.Told.{first_from, old_sets, young_sets, RiseInTurn};
 
-use crate::key::Key;
-use crate::last_keys::LastKeys;
+use crate::hashing::Hashing;
+use crate::keeper::Keeper;
 use crate::offer::{Offer, OfferFault};
-use crate::open_sets::OpenSets;
-use crate::reading::text_of_one;
+use crate::open_set::OpenSet;
 use crate::units::Units;
 use sms_field::{Address, Stamp};
 use sms_tpdu::Concat;
@@ -29,46 +30,16 @@ use std::marker::Model;
 /// last, so that none finishes twice.
 #[derive(Drop)]
 pub struct Joiner {
-    alloc: Global,
-    open_max: usize,
-    sets: OpenSets,
-    finished: LastKeys,
+    keeper: Keeper,
 }
 
 impl Model for Joiner {
-    ghost use Rattle.std.specs.Prelude.{◌≤◌, length};
     ghost use Rattle.sms_join.specs.Joiner.Value.{JoinerValue};
-    ghost use Rattle.sms_join.specs.Inside.OpenSet.{all_pieces, AreOpen};
+    ghost use Rattle.sms_join.specs.Inside.Keeping.{in_order};
 
     ghost Value = { JoinerValue };
 
-    ghost view = { λ j. record {
-      open_max = j.open_max;
-      remembered = j.finished.limit;
-      holds = record { kept = all_pieces j.sets; finished = j.finished.keys };
-    } };
-
-    ghost invariant = { λ j. AreOpen j.sets × (length j.sets ≤ j.open_max) };
-}
-
-/// The place of a piece in its set.
-fn sequence_of(concat: Option<Concat>) -> u8
-    ensures { result ≡ sequence_of concat }
-{
-    match concat {
-        None => 1,
-        Some(concat) => concat.sequence,
-    }
-}
-
-/// How many pieces the message has.
-fn size_of(concat: Option<Concat>) -> u8
-    ensures { result ≡ size_of concat }
-{
-    match concat {
-        None => 1,
-        Some(concat) => concat.maximum,
-    }
+    ghost view = { λ j. in_order j.keeper };
 }
 
 impl Joiner {
@@ -78,15 +49,37 @@ impl Joiner {
     pub fn new(alloc: Global, open_max: usize, remembered: usize) -> Result<Joiner, AllocError>
         requires sets { 0 < open_max }
         requires keys { 0 < remembered }
-        ensures { IfOk result (λ joiner. joiner
-            ≡ record { open_max = open_max; remembered = remembered; holds = new_joiner }) }
+        ensures { IfOk result (λ joiner. joiner ≡ record {
+          open_max = open_max;
+          remembered = remembered;
+          holds = new_joiner;
+          told = [];
+        }) }
     {
-        Ok(Joiner {
-            alloc,
-            open_max,
-            sets: OpenSets::new(alloc),
-            finished: LastKeys::new(alloc, remembered)?,
-        })
+        let keeper = Keeper::new(alloc, open_max, remembered, Hashing::Fixed)?;
+        Ok(Joiner { keeper })
+    }
+
+    /// The same, whose tables hash with a seed: whoever sends and does not know it cannot pick keys
+    /// that lie together. It answers as one without.
+    #[tactic(auto, unfolding(crate::specs::Joiner::new_joiner))]
+    pub fn with_seed(
+        alloc: Global,
+        open_max: usize,
+        remembered: usize,
+        seed: u128,
+    ) -> Result<Joiner, AllocError>
+        requires sets { 0 < open_max }
+        requires keys { 0 < remembered }
+        ensures { IfOk result (λ joiner. joiner ≡ record {
+          open_max = open_max;
+          remembered = remembered;
+          holds = new_joiner;
+          told = [];
+        }) }
+    {
+        let keeper = Keeper::new(alloc, open_max, remembered, Hashing::seeded(seed)?)?;
+        Ok(Joiner { keeper })
     }
 
     /// Takes a message or a segment: the moment, whom it is from (TP-OA), its time stamp (TP-SCTS),
@@ -116,25 +109,10 @@ impl Joiner {
         ensures limits { SameLimits self.new self.old }
         ensures refused { OnErr result (self.new ≡ self.old) }
     {
-        if self.finished.contains(origin, stamp, concat) {
-            return Ok(Offer::Repeat);
-        }
-        let Some(index) = self.sets.find(self.alloc, origin, stamp, concat) else {
-            return self.begin(now, origin, stamp, concat, units);
-        };
-        let sequence = sequence_of(concat);
-        if self.sets.has(index, sequence) {
-            return Ok(Offer::Repeat);
-        }
-        if !self.sets.lacks_one(index) {
-            self.sets.put(index, sequence, units);
-            return Ok(Offer::Kept);
-        }
-        let text = self.sets.text_with(self.alloc, index, units)?;
-        let key = Key::of(self.alloc, origin, stamp, concat);
-        self.finished.push(key);
-        self.sets.remove(index);
-        Ok(Offer::Finished(text))
+        self.keeper.have_kept();
+        let answer = self.keeper.offer(now, origin, stamp, concat, units);
+        self.keeper.have_kept();
+        answer
     }
 
     /// How many sets are open: never more than may be.
@@ -142,7 +120,30 @@ impl Joiner {
         ensures count { result ≡ open_sets self.now.holds.kept }
         ensures few { result ≤ self.now.open_max }
     {
-        self.sets.count()
+        self.keeper.have_kept();
+        self.keeper.open_count()
+    }
+
+    /// The first open set, in order of opening, whose number of opening is this one or above: none
+    /// where there is none. From 0 on it is the first of all, and from the number of a set and one
+    /// more the one that was opened next. It takes no memory.
+    pub fn open_from(&self, turn: u64) -> Option<OpenSet<'_>>
+        ensures first { result ≡ first_from turn self.now.told }
+        ensures pieces { all_pieces self.now.told ≡ self.now.holds.kept }
+        ensures open { AreOpen self.now.told }
+        ensures rise { RiseInTurn self.now.told }
+    {
+        self.keeper.have_kept();
+        self.keeper.open_from(turn)
+    }
+
+    /// The same of those alone that `age` drops at a moment: whose first piece came 604,800 seconds
+    /// before it, or earlier. It takes no memory.
+    pub fn old_from(&self, turn: u64, now: u64) -> Option<OpenSet<'_>>
+        ensures { result ≡ first_from turn (old_sets now self.now.told) }
+    {
+        self.keeper.have_kept();
+        self.keeper.old_from(turn, now)
     }
 
     /// Whether such a message or segment would finish its set. Its place, if it has one, is as for
@@ -153,57 +154,20 @@ impl Joiner {
             → result
             ≡ would_finish self.now.holds (piece_of now origin.now stamp concat units) }
     {
-        if self.finished.contains(origin, stamp, concat) {
-            return false;
-        }
-        let Some(index) = self.sets.find(self.alloc, origin, stamp, concat) else {
-            return size_of(concat) == 1;
-        };
-        !self.sets.has(index, sequence_of(concat)) && self.sets.lacks_one(index)
+        self.keeper.have_kept();
+        self.keeper.would_finish(origin, stamp, concat)
     }
 
     /// Drops the sets whose first piece came 604,800 seconds before the moment, or earlier. It
     /// takes no memory.
     pub fn age(&mut self, now: u64)
         ensures holds { IsSame self.new.holds (aged now self.old.holds) }
+        ensures told { self.new.told ≡ young_sets now self.old.told }
+        ensures order { self.new.holds.kept ≡ (aged now self.old.holds).kept }
         ensures limits { SameLimits self.new self.old }
     {
-        self.sets.age(now);
-    }
-
-    /// Takes the first piece of a set.
-    fn begin(
-        &mut self,
-        now: u64,
-        origin: &Address,
-        stamp: Stamp,
-        concat: Option<Concat>,
-        units: Units,
-    ) -> Result<Offer, OfferFault>
-        requires place { IsPlace concat }
-        requires fresh { is_among self.old.holds.finished (key_of origin.now stamp concat)
-            ≡ false }
-        requires closed { is_open self.old.holds.kept (key_of origin.now stamp concat) ≡ false }
-        ensures says { let piece = piece_of now origin.now stamp concat units in
-            Says self.old.open_max self.old.holds piece result }
-        ensures holds { let piece = piece_of now origin.now stamp concat units in
-            OnOk result (IsSame self.new.holds
-            (offered self.old.open_max self.old.remembered self.old.holds piece)) }
-        ensures limits { SameLimits self.new self.old }
-        ensures refused { OnErr result (self.new ≡ self.old) }
-    {
-        if size_of(concat) == 1 {
-            let text = text_of_one(self.alloc, units)?;
-            let key = Key::of(self.alloc, origin, stamp, concat);
-            self.finished.push(key);
-            return Ok(Offer::Finished(text));
-        }
-        if self.sets.count() >= self.open_max {
-            return Err(OfferFault::TooManyOpen);
-        }
-        let key = Key::of(self.alloc, origin, stamp, concat);
-        self.sets
-            .open(self.alloc, key, now, sequence_of(concat), units)?;
-        Ok(Offer::Kept)
+        self.keeper.have_kept();
+        self.keeper.age(now);
+        self.keeper.have_kept();
     }
 }

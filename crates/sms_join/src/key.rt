@@ -1,7 +1,7 @@
 //! The identity of a set of segments.
 
 ghost use Rattle.std.specs.Prelude.{◌≡◌};
-ghost use Rattle.sms_join.specs.Key.{same_key, maximum_of};
+ghost use Rattle.sms_join.specs.Key.{same_key, origin_of, maximum_of};
 ghost use Rattle.sms_join.specs.Piece.{key_of};
 
 use sms_field::{Address, Stamp};
@@ -81,8 +81,18 @@ impl Key {
         }
     }
 
-    /// How many pieces the set has.
-    pub(crate) fn maximum(&self) -> u8
+    /// Whom its pieces are from (TP-OA).
+    pub fn origin(&self) -> &Address
+        ensures { result.now ≡ origin_of self.now }
+    {
+        match self {
+            Key::Single { origin, .. } => origin,
+            Key::Segmented { origin, .. } => origin,
+        }
+    }
+
+    /// How many pieces the set has: one for a message in one piece.
+    pub fn maximum(&self) -> u8
         ensures { result ≡ maximum_of self.now }
     {
         match self {

@@ -7,6 +7,7 @@ ghost use Rattle.sms_join.specs.Inside.KeyHashes.{hash_of};
 ghost use Rattle.sms_join.specs.Inside.KeyRings.{laid, entries, newer, LieIn, LieApart, AreLinked};
 ghost use Rattle.sms_join.specs.Inside.KeyRings as rings;
 
+use crate::hashing::Hashing;
 use crate::key::Key;
 use crate::key_hash::{hash_of, key_hash};
 use circular_buffer::HeapCircularBuffer;
@@ -25,6 +26,7 @@ pub(crate) const PLACES_MAX: usize = 1 << 31;
 /// at once, and written only as keys come: the heads are doubled where the keys are more.
 #[derive(Drop)]
 pub(crate) struct KeyRing {
+    hashing: Hashing,
     /// The newest is the last.
     keys: HeapCircularBuffer<Key>,
     /// The place of the oldest, once there are as many as the limit; 0 before.
@@ -46,8 +48,8 @@ impl Model for KeyRing {
 
     ghost view = { λ r. record { limit = r.keys.capacity; keys = reverse r.keys.items } };
 
-    ghost invariant = { λ r. IsChained hash_of r.keys.capacity r.oldest (laid r.oldest r.keys.items)
-        r.next.items r.heads.items × (vec_capacity r.next ≡ r.keys.capacity)
+    ghost invariant = { λ r. IsChained (hash_of r.hashing) r.keys.capacity r.oldest
+        (laid r.oldest r.keys.items) r.next.items r.heads.items × (vec_capacity r.next ≡ r.keys.capacity)
         × (2 * r.keys.capacity ≤ vec_capacity r.heads) };
 }
 
@@ -95,7 +97,13 @@ fn link(heads: &mut [u32], next: &mut [u32], head: usize, place: usize)
 }
 
 /// Takes the place of the oldest key out of its chain, whose last it is.
-fn unlink(keys: &HeapCircularBuffer<Key>, oldest: usize, heads: &mut [u32], next: &mut [u32])
+fn unlink(
+    hashing: Hashing,
+    keys: &HeapCircularBuffer<Key>,
+    oldest: usize,
+    heads: &mut [u32],
+    next: &mut [u32],
+)
     requires there { oldest < length keys.now.items }
     requires heads { 0 < length heads.old }
     requires next { length keys.now.items ≤ length next.old }
@@ -103,12 +111,12 @@ fn unlink(keys: &HeapCircularBuffer<Key>, oldest: usize, heads: &mut [u32], next
     requires lie { LieIn (laid oldest keys.now.items)
         (entries oldest (laid oldest keys.now.items)) }
     requires apart { LieApart (entries oldest (laid oldest keys.now.items)) }
-    requires linked { AreLinked (rings.head_of hash_of (length heads.old))
+    requires linked { AreLinked (rings.head_of (hash_of hashing) (length heads.old))
         next.old heads.old (entries oldest (laid oldest keys.now.items)) }
-    ensures { AreLinked (rings.head_of hash_of (length heads.old))
+    ensures { AreLinked (rings.head_of (hash_of hashing) (length heads.old))
         next.new heads.new (newer oldest (laid oldest keys.now.items)) }
 {
-    let head = head_of(key_hash(key_at(keys, oldest, oldest)), heads.len());
+    let head = head_of(key_hash(hashing, key_at(keys, oldest, oldest)), heads.len());
     let mut place = heads[head] as usize;
     if place == oldest {
         heads[head] = next[oldest];
@@ -121,23 +129,23 @@ fn unlink(keys: &HeapCircularBuffer<Key>, oldest: usize, heads: &mut [u32], next
 }
 
 /// Links all places anew, from that of the oldest on, where the oldest lies at the first.
-fn relink(keys: &HeapCircularBuffer<Key>, heads: &mut [u32], next: &mut [u32])
+fn relink(hashing: Hashing, keys: &HeapCircularBuffer<Key>, heads: &mut [u32], next: &mut [u32])
     requires some { 0 < length heads.old }
     requires none { heads.old ≡ replicate (length heads.old) NONE }
     requires next { length next.old ≡ length keys.now.items }
     requires small { length next.old < NONE }
-    ensures { AreLinked (rings.head_of hash_of (length heads.old))
+    ensures { AreLinked (rings.head_of (hash_of hashing) (length heads.old))
         next.new heads.new (entries 0 keys.now.items) }
 {
     for place in 0..keys.len() {
-        let head = head_of(key_hash(key_at(keys, 0, place)), heads.len());
+        let head = head_of(key_hash(hashing, key_at(keys, 0, place)), heads.len());
         link(heads, next, head, place);
     }
 }
 
 impl KeyRing {
     /// No keys, with room for the limit.
-    pub(crate) fn new(alloc: Global, limit: usize) -> Result<KeyRing, AllocError>
+    pub(crate) fn new(alloc: Global, limit: usize, hashing: Hashing) -> Result<KeyRing, AllocError>
         requires some { 0 < limit }
         requires few { limit ≤ PLACES_MAX }
         ensures { IfOk result (λ ring. ring ≡ record { limit = limit; keys = [] }) }
@@ -147,6 +155,7 @@ impl KeyRing {
         let mut heads = Vec::with_capacity(alloc, 2 * limit)?;
         heads.push_reserved(NONE);
         Ok(KeyRing {
+            hashing,
             keys,
             oldest: 0,
             next,
@@ -156,12 +165,15 @@ impl KeyRing {
 
     /// Whether the key of such a message or segment is among them.
     ///
-    /// The hasher has a fixed seed: whoever picks keys of one head makes it look through them one
-    /// by one.
+    /// Where the hashers are all alike, whoever picks keys of one head makes it look through them
+    /// one by one.
     pub(crate) fn contains(&self, origin: &Address, stamp: Stamp, concat: Option<Concat>) -> bool
         ensures { result ≡ is_among self.now.keys (key_of origin.now stamp concat) }
     {
-        let mut place = self.heads[head_of(hash_of(origin, stamp, concat), self.heads.len())];
+        let mut place = self.heads[head_of(
+            hash_of(self.hashing, origin, stamp, concat),
+            self.heads.len(),
+        )];
         while place != NONE {
             if key_at(&self.keys, self.oldest, place as usize).is_of(origin, stamp, concat) {
                 return true;
@@ -178,7 +190,7 @@ impl KeyRing {
           keys = take self.old.limit (key ∷ self.old.keys);
         } }
     {
-        let head = head_of(key_hash(&key), self.heads.len());
+        let head = head_of(key_hash(self.hashing, &key), self.heads.len());
         let limit = self.keys.capacity();
         let count = self.keys.len();
         if count < limit {
@@ -189,7 +201,13 @@ impl KeyRing {
             return;
         }
         let place = self.oldest;
-        unlink(&self.keys, place, &mut self.heads, &mut self.next);
+        unlink(
+            self.hashing,
+            &self.keys,
+            place,
+            &mut self.heads,
+            &mut self.next,
+        );
         link(&mut self.heads, &mut self.next, head, place);
         self.keys.push_back(key);
         self.oldest = place_after(place, limit);
@@ -206,6 +224,6 @@ impl KeyRing {
         }
         self.heads.clear();
         self.heads.resize(2 * count, NONE).unwrap();
-        relink(&self.keys, &mut self.heads, &mut self.next);
+        relink(self.hashing, &self.keys, &mut self.heads, &mut self.next);
     }
 }

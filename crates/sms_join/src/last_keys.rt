@@ -4,6 +4,7 @@ ghost use Rattle.std.specs.Prelude.{◌≡◌, ◌<◌, [], ◌∷◌, take, IfO
 ghost use Rattle.sms_join.specs.Joiner.{is_among};
 ghost use Rattle.sms_join.specs.Piece.{key_of};
 
+use crate::hashing::Hashing;
 use crate::key::Key;
 use crate::key_ring::{KeyRing, PLACES_MAX};
 use crate::key_row::KeyRow;
@@ -42,7 +43,7 @@ impl Model for LastKeys {
 
 impl LastKeys {
     /// No keys, with room for the limit.
-    pub(crate) fn new(alloc: Global, limit: usize) -> Result<LastKeys, AllocError>
+    pub(crate) fn new(alloc: Global, limit: usize, hashing: Hashing) -> Result<LastKeys, AllocError>
         requires { 0 < limit }
         ensures { IfOk result (λ keys. keys ≡ record { limit = limit; keys = [] }) }
     {
@@ -52,7 +53,7 @@ impl LastKeys {
                 keys: Remembered::Few(row),
             });
         }
-        let ring = KeyRing::new(alloc, limit)?;
+        let ring = KeyRing::new(alloc, limit, hashing)?;
         Ok(LastKeys {
             keys: Remembered::Many(ring),
         })

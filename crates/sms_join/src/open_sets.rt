@@ -1,107 +1,109 @@
 //! The sets of pieces that are not whole.
 
-ghost use Rattle.std.specs.Prelude.{◌≡◌, ℕ, suc, ◌+◌, ◌<◌, ◌≤◌, [], ◌∷◌, ◌++◌, ◌==◌, not, nat_le, length, position, true, false, IfOk, OnOk, OnErr};
+ghost use Rattle.std.specs.Prelude.{◌≡◌, ℕ, suc, ◌<◌, ◌≤◌, [], ◌∷◌, ◌++◌, ◌==◌, length, position, slice_get, true, false, IfOk, OnOk, OnErr};
 ghost use Rattle.std.proofs.Math.ListN.{set};
-ghost use Rattle.std.specs.List.{filter, list_any, swap_remove};
+ghost use Rattle.std.specs.List.{swap_remove};
 ghost use Rattle.std.specs.Str.{chars};
 ghost use Rattle.std.specs.String.{string_bytes};
-ghost use Rattle.indexmap.specs.IndexMap.{keys, values};
+ghost use Rattle.indexmap.specs.IndexMap.{keys};
 ghost use Rattle.sms_join.specs.Joiner.Finishing.{lacks_only};
 ghost use Rattle.sms_join.specs.Key.{same_key, maximum_of};
-ghost use Rattle.sms_join.specs.Inside.OpenSet.{has_set, is_in, with_piece};
+ghost use Rattle.sms_join.specs.OpenSets.{has_set, is_in, with_piece};
 ghost use Rattle.sms_join.specs.Piece.{key_of};
 ghost use Rattle.sms_join.specs.Reading.{text_of_segments};
 ghost use Rattle.sms_join.specs.Inside.MostSets.{Follows};
-ghost use Rattle.sms_join.specs.Inside.Slots.{At, HasPlace};
+ghost use Rattle.sms_join.specs.Inside.Slots.{At, HasPlace, AreSlots, sets_of};
+ghost use Rattle.sms_join.specs.Inside.Turns.{AreBefore, HaveTurns, arranged};
+ghost use Rattle.sms_join.specs.Inside.Lines.{InLine, AreInTime, noted_at};
+ghost use Rattle.sms_join.specs.Inside.Dropping.{DropsOld};
+ghost use Rattle.sms_join.specs.OpenSets.Told.{first_from, old_sets};
 
+use crate::dropping::{drop_at, drop_old};
+use crate::earliest::{earliest_left, earliest_with};
+use crate::hashing::Hashing;
 use crate::key::Key;
-use crate::slot::Slot;
+use crate::line::{Opening, first_index, place_from, tidy};
+use crate::open_set::OpenSet;
+use crate::slot::{Slot, is_past};
+use crate::table::{FEW_SETS, find_key, give_room_back};
 use crate::units::Units;
 use indexmap::IndexMap;
 use sms_field::{Address, Stamp};
 use sms_tpdu::Concat;
 use std::alloc::{AllocError, Global};
+use std::collections::VecDeque;
 use std::marker::Model;
-
-/// Up to how many sets are looked through one by one, which then takes less time than to hash a
-/// key.
-const FEW_SETS: usize = 16;
-
-/// How many times as many sets as there are may have been there since room was last given back.
-const MOST_PER_SET: usize = 16;
 
 /// The open sets, each known by its key.
 #[derive(Drop)]
 pub(crate) struct OpenSets {
-    slots: IndexMap<Key, Slot>,
+    slots: IndexMap<Key, Slot, Hashing>,
     /// The most sets that have been there since room was last given back.
     most: usize,
+    /// The openings of the sets, and some whose sets have gone.
+    line: VecDeque<Opening>,
+    /// How many openings there have been.
+    turns: u64,
+    /// The moment of the last of them.
+    latest: u64,
+    /// Whether none of the sets was opened at an earlier moment than one before it.
+    in_time: bool,
+    /// A moment before which none of the sets was opened.
+    earliest: u64,
 }
 
 impl Model for OpenSets {
-    ghost use Rattle.std.specs.Prelude.{List, length};
-    ghost use Rattle.sms_join.specs.Inside.OpenSet.{SetValue};
+    ghost use Rattle.std.specs.Prelude.{◌≡◌, List, length, true};
+    ghost use Rattle.sms_join.specs.OpenSets.{SetValue};
     ghost use Rattle.sms_join.specs.Inside.MostSets.{Follows};
     ghost use Rattle.sms_join.specs.Inside.Slots.{AreSlots, sets_of};
+    ghost use Rattle.sms_join.specs.Inside.Lines.{InLine, AreInTime, AreSince};
 
     ghost Value = { List SetValue };
 
     ghost view = { λ o. sets_of o.slots.entries };
 
-    ghost invariant = { λ o. AreSlots o.slots.entries × Follows (length o.slots.entries) o.most };
+    ghost invariant = { λ o. AreSlots o.slots.entries × Follows (length o.slots.entries) o.most
+        × InLine o.turns o.line.items (sets_of o.slots.entries)
+        × (o.in_time ≡ true → AreInTime o.latest (sets_of o.slots.entries))
+        × AreSince o.earliest (sets_of o.slots.entries) };
 }
 
-/// Which of the sets such a message or segment is of.
-fn find_key(
-    slots: &IndexMap<Key, Slot>,
-    origin: &Address,
-    stamp: Stamp,
-    concat: Option<Concat>,
-) -> Option<usize>
-    ensures { result
-        ≡ position (λ key. same_key key (key_of origin.now stamp concat)) (keys slots.now) }
+/// The number after this one.
+fn next_turn(turn: u64) -> Result<u64, AllocError>
+    ensures { IfOk result (λ next. next ≡ suc turn) }
 {
-    slots
-        .keys()
-        .position(|key| key.is_of(origin, stamp, concat))
-}
-
-/// Whether any of the sets was opened too long ago.
-fn has_old(slots: &IndexMap<Key, Slot>, now: u64) -> bool
-    ensures { result ≡ list_any (λ slot. nat_le (slot.opened + 604800) now) (values slots.now) }
-{
-    slots.values().any(|slot| slot.is_old(now))
-}
-
-/// Where few are left of the most sets that have been there, gives back the room of the others,
-/// and says how many count as the most from then on.
-///
-/// The map makes its index anew for it, in room that it has, so that no look-up passes groups any
-/// more that were full of sets which have gone. That takes as long as the sets need that are left,
-/// and more than these have gone since the last time. It never fails: what cannot be given back
-/// stays. But sets that are opened later ask for that room again, and may be refused it.
-fn give_room_back(slots: &mut IndexMap<Key, Slot>, most: usize) -> usize
-    requires { length slots.old.entries ≤ most }
-    ensures entries { slots.new.entries ≡ slots.old.entries }
-    ensures most { Follows (length slots.old.entries) result }
-{
-    let few = slots.len().max(FEW_SETS);
-    if most / MOST_PER_SET <= few {
-        return most;
-    }
-    slots.shrink_to(2 * few);
-    few
+    turn.checked_add(1).ok_or(AllocError)
 }
 
 impl OpenSets {
-    /// None.
-    pub(crate) fn new(alloc: Global) -> OpenSets
+    /// None, in a table that hashes so.
+    pub(crate) fn new(alloc: Global, hashing: Hashing) -> OpenSets
         ensures { result ≡ [] }
     {
         OpenSets {
-            slots: IndexMap::new(alloc),
+            slots: IndexMap::with_hasher(alloc, hashing),
             most: 0,
+            line: VecDeque::new(alloc),
+            turns: 0,
+            latest: 0,
+            in_time: true,
+            earliest: 0,
         }
+    }
+
+    /// That they were opened one after another. It does nothing.
+    pub(crate) fn have_turns(&self)
+        ensures { (t : ℕ) × HaveTurns t self.now }
+    {
+        let _turns = self.turns;
+    }
+
+    /// How many openings there have been.
+    fn openings(&self) -> u64
+        ensures { AreBefore result self.now }
+    {
+        self.turns
     }
 
     /// How many there are.
@@ -113,9 +115,9 @@ impl OpenSets {
 
     /// Which of them such a message or segment is of. It takes no memory.
     ///
-    /// The hasher has a fixed seed: whoever picks keys of one hash makes it look through them, and
-    /// through groups of the index that were full when they came and are not any more. As room is
-    /// given back, the index never has more than some seven groups for each set that is open.
+    /// Where the hashers are all alike, whoever picks keys of one hash makes it look through them,
+    /// and through groups of the index that were full when they came and are not any more. As room
+    /// is given back, the index never has more than some seven groups for each set that is open.
     pub(crate) fn find(
         &self,
         alloc: Global,
@@ -181,8 +183,37 @@ impl OpenSets {
         requires { index < length self.old }
         ensures { At self.old index (λ set. self.new ≡ swap_remove self.old index set) }
     {
-        let _dropped = self.slots.swap_remove_index(index);
+        drop_at(&mut self.slots, &mut self.line, index);
         self.most = give_room_back(&mut self.slots, self.most);
+        tidy(&mut self.line, &self.slots);
+    }
+
+    /// The first of them, in order of opening, whose number of opening is this one or above.
+    pub(crate) fn open_from(&self, turn: u64) -> Option<OpenSet<'_>>
+        ensures { result ≡ first_from turn (arranged self.now) }
+    {
+        let place = place_from(&self.line, turn);
+        let index = first_index(&self.slots, &self.line, place)?;
+        let (key, slot) = self.slots.get_index(index)?;
+        Some(OpenSet::new(key, slot))
+    }
+
+    /// The same of those alone that were opened too long ago.
+    pub(crate) fn old_from(&self, turn: u64, now: u64) -> Option<OpenSet<'_>>
+        ensures { result ≡ first_from turn (old_sets now (arranged self.now)) }
+    {
+        let _openings = self.openings();
+        let mut next = turn;
+        while let Some(set) = self.open_from(next) {
+            if set.is_old(now) {
+                return Some(set);
+            }
+            if self.in_time {
+                return None;
+            }
+            next = set.turn() + 1;
+        }
+        None
     }
 
     /// Opens a set with its first piece. If memory runs out, nothing has changed.
@@ -197,34 +228,44 @@ impl OpenSets {
         requires first { 0 < sequence }
         requires last { sequence ≤ maximum_of key }
         requires closed { has_set self.old key ≡ false }
-        ensures ok { OnOk result (self.new ≡ self.old ++ record {
-          key = key;
-          opened = now;
-          sequences = sequence ∷ [];
-          units = units ∷ [];
-        } ∷ []) }
+        ensures ok { OnOk result ((t : ℕ) × HaveTurns t self.old
+            × (self.new ≡ self.old ++ record {
+              key = key;
+              opened = now;
+              turn = t;
+              sequences = sequence ∷ [];
+              units = units ∷ [];
+            } ∷ [])) }
         ensures err { OnErr result (self.new ≡ self.old) }
     {
-        let slot = Slot::new(alloc, now, key.maximum(), sequence, units)?;
+        let turn = self.turns;
+        let index = self.slots.len();
+        let next = next_turn(turn)?;
+        let slot = Slot::new(alloc, now, turn, key.maximum(), sequence, units)?;
+        tidy(&mut self.line, &self.slots);
+        self.line.push_back(Opening { turn, index })?;
+        self.turns = next;
         self.slots.insert(key, slot)?;
         self.most = self.slots.len().max(self.most);
+        self.in_time = index == 0 || (self.in_time && self.latest <= now);
+        self.latest = now;
+        self.earliest = earliest_with(index, self.earliest, now);
         Ok(())
     }
 
     /// Drops those that were opened too long ago. It takes no memory. Where there are none, as
-    /// nearly always, it moves nothing. Where few are left, room is given back.
+    /// nearly always, it looks at no set but one, or goes through all where they were not opened in
+    /// time, and then not again before the earliest of them is too old. Where few are left, room is
+    /// given back.
     pub(crate) fn age(&mut self, now: u64)
-        ensures { self.new ≡ filter (λ set. not (nat_le (set.opened + 604800) now)) self.old }
+        ensures { DropsOld now self.old self.new }
     {
-        if !has_old(&self.slots, now) {
+        if !is_past(self.earliest, now) {
             return;
         }
-        self.slots.retain(
-            |_key: &Key, slot: &mut Slot| -> bool
-                ensures { (result ≡ not (nat_le (slot.old.opened + 604800) now))
-                    × (slot.new ≡ slot.old) }
-            { !slot.is_old(now) },
-        );
+        drop_old(&mut self.slots, &mut self.line, now, self.in_time);
+        self.earliest = earliest_left(self.in_time, self.earliest, &self.slots);
         self.most = give_room_back(&mut self.slots, self.most);
+        tidy(&mut self.line, &self.slots);
     }
 }

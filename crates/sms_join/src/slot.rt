@@ -4,7 +4,7 @@ ghost use Rattle.std.specs.Prelude.{◌≡◌, suc, ◌-◌, ◌<◌, ◌≤◌,
 ghost use Rattle.std.proofs.Math.ListN.{set, replicate};
 ghost use Rattle.std.specs.Str.{chars};
 ghost use Rattle.std.specs.String.{string_bytes};
-ghost use Rattle.sms_join.specs.Inside.OpenSet.{is_in};
+ghost use Rattle.sms_join.specs.OpenSets.{is_in};
 ghost use Rattle.sms_join.specs.Reading.{text_of_segments};
 ghost use Rattle.sms_join.specs.Inside.Slots.{filled, filled_from, filled_with, first_places};
 
@@ -21,6 +21,8 @@ const LONGEST_OPEN: u64 = 604_800;
 pub(crate) struct Slot {
     /// When the first piece was offered.
     opened: u64,
+    /// How many sets had been opened before.
+    turn: u64,
     /// How many places are filled.
     filled: usize,
     places: Vec<Option<Units>>,
@@ -32,7 +34,7 @@ impl Model for Slot {
 
     ghost Value = { SlotValue };
 
-    ghost view = { λ s. record { opened = s.opened; places = s.places.items } };
+    ghost view = { λ s. record { opened = s.opened; turn = s.turn; places = s.places.items } };
 
     ghost invariant = { λ s. s.filled ≡ length (come s.places.items) };
 }
@@ -48,11 +50,19 @@ fn empty_places(alloc: Global, count: usize) -> Result<Vec<Option<Units>>, Alloc
     Ok(places)
 }
 
+/// Whether a set that was opened at a moment has been open for too long.
+pub(crate) fn is_past(opened: u64, now: u64) -> bool
+    ensures { result ≡ nat_le (opened + 604800) now }
+{
+    now.saturating_sub(opened) >= LONGEST_OPEN
+}
+
 impl Slot {
     /// A place for each piece of a set, of which one has come.
     pub(crate) fn new(
         alloc: Global,
         opened: u64,
+        turn: u64,
         maximum: u8,
         sequence: u8,
         units: Units,
@@ -60,12 +70,17 @@ impl Slot {
         requires first { 0 < sequence }
         requires last { sequence ≤ maximum }
         ensures { IfOk result (λ slot. slot
-            ≡ record { opened = opened; places = first_places maximum sequence units }) }
+            ≡ record {
+              opened = opened;
+              turn = turn;
+              places = first_places maximum sequence units;
+            }) }
     {
         let mut places = empty_places(alloc, usize::from(maximum))?;
         places[usize::from(sequence) - 1] = Some(units);
         Ok(Slot {
             opened,
+            turn,
             filled: 1,
             places,
         })
@@ -75,7 +90,28 @@ impl Slot {
     pub(crate) fn is_old(&self, now: u64) -> bool
         ensures { result ≡ nat_le (self.now.opened + 604800) now }
     {
-        now.saturating_sub(self.opened) >= LONGEST_OPEN
+        is_past(self.opened, now)
+    }
+
+    /// How many sets had been opened before.
+    pub(crate) fn turn(&self) -> u64
+        ensures { result ≡ self.now.turn }
+    {
+        self.turn
+    }
+
+    /// When it was opened.
+    pub(crate) fn opened(&self) -> u64
+        ensures { result ≡ self.now.opened }
+    {
+        self.opened
+    }
+
+    /// How many pieces have come.
+    pub(crate) fn count(&self) -> usize
+        ensures { result ≡ length (filled self.now.places) }
+    {
+        self.filled
     }
 
     /// Whether this piece has come.

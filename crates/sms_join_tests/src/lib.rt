@@ -12,6 +12,8 @@ mod joiner;
 #[cfg(test)]
 mod left;
 #[cfg(test)]
+mod open_sets;
+#[cfg(test)]
 mod reading;
 #[cfg(test)]
 mod remembered;

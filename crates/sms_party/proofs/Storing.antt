@@ -215,7 +215,7 @@ pub receives : (now : ℕ) (octets : List ℕ) (old new : ReceiverValue) (messag
     → ReadsAs octets message → Steps (λ limits s origin. receiver_receives limits s now message origin) old r new → ReceivesAs now octets old r new
 receives now octets old new message r read h = by_result now octets old new message read r h
 
-pub new_stands : SameIsEquivalence → (limit open_max remembered : ℕ) (joiner : JoinerValue) (store : List Entry) → joiner ≡ record { open_max = open_max; remembered = remembered; holds = new_joiner } → store ≡ []
+pub new_stands : SameIsEquivalence → (limit open_max remembered : ℕ) (joiner : JoinerValue) (store : List Entry) → joiner ≡ record { open_max = open_max; remembered = remembered; holds = new_joiner; told = [] } → store ≡ []
     → StandsFor (record { store = limit; open_max = open_max; remembered = remembered }) (record { limit = limit; joiner = joiner; store = store }) new_receiver
 unfolding new_receiver
 new_stands equivalence limit open_max remembered joiner store e f =

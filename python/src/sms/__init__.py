@@ -18,11 +18,12 @@ from __future__ import annotations
 
 import enum
 import operator
+import os
 import threading
 from ctypes import byref, c_size_t, c_uint8, c_uint32, c_uint64, sizeof
 from dataclasses import dataclass, field
 from datetime import datetime, timedelta, timezone
-from typing import Any, Callable, Dict, List, NoReturn, Optional, Tuple, Type, Union
+from typing import Any, Callable, Dict, Iterator, List, NoReturn, Optional, Tuple, Type, Union
 
 from . import raw
 from .raw import ADDRESS_TEXT_MAX, PACKET_MAX, TEXT_MAX, UNIT_MAX, Status
@@ -30,9 +31,11 @@ from .raw import ADDRESS_TEXT_MAX, PACKET_MAX, TEXT_MAX, UNIT_MAX, Status
 __all__ = [
     "Alphabet",
     "BadAddress",
+    "Changed",
     "Closed",
     "Command",
     "Cp",
+    "Data",
     "Date",
     "Deliver",
     "DeliverReport",
@@ -43,6 +46,7 @@ __all__ = [
     "NotThere",
     "NotUtf8",
     "Offer",
+    "OpenMessage",
     "OutOfRange",
     "Place",
     "Reason",
@@ -51,6 +55,7 @@ __all__ = [
     "Rp",
     "Segment",
     "Stamp",
+    "Standing",
     "StatusReport",
     "Submit",
     "SubmitReport",
@@ -93,6 +98,7 @@ class Reason(enum.IntEnum):
     UNKNOWN_TYPE = 9
     BAD_RELAY_ADDRESS = 10
     BAD_CAUSE = 11
+    BAD_SEPTET = 12
 
     @classmethod
     def _missing_(cls, value: object) -> Optional[Reason]:
@@ -162,6 +168,10 @@ class Closed(Error, ValueError):
     """The joiner is closed."""
 
 
+class Changed(Error, RuntimeError):
+    """The joiner was offered to, or aged, while its open messages were gone through."""
+
+
 _ERRORS: Dict[int, Type[Error]] = {
     Status.NO_MEMORY: NoMemory,
     Status.NOT_UTF8: NotUtf8,
@@ -171,6 +181,7 @@ _ERRORS: Dict[int, Type[Error]] = {
     Status.NOT_THERE: NotThere,
     Status.TOO_MANY_OPEN: TooManyOpen,
     Status.CLOSED: Closed,
+    Status.CHANGED: Changed,
 }
 
 
@@ -1013,6 +1024,79 @@ def wrap_acknowledgement(*, flag: bool, value: int, cause: Optional[int] = None)
 # ---- texts cut, and segments joined
 
 
+class Standing(enum.IntEnum):
+    """How the septets of user data alone stand: packed, all that fit whole, or as many as are counted; or one an octet."""
+
+    WHOLE = 0
+    COUNTED = 1
+    SINGLE = 2
+
+
+@dataclass(frozen=True)
+class Data:
+    """User data alone, with no unit around them, as SMPP and other gateways hand them over (3GPP TS 23.040, 9.2.3.24)."""
+
+    octets: bytes = field(repr=False)
+    used: int
+    dcs: int
+    alphabet: Alphabet
+    header: Optional[bytes]
+    body: bytes
+    count: int
+    standing: Standing
+    fill: int
+    place: Optional[Place]
+    _length: int = field(repr=False, compare=False)
+
+    @classmethod
+    def read(
+        cls, octets: Octets, dcs: int, *, has_header: bool = False, length: Optional[int] = None, single: bool = False
+    ) -> Data:
+        """Reads user data at the front of the octets, of which they take `used`, under a TP-DCS. With `has_header` a header
+        stands in front, its length octet first. Septets are packed: as many as `length` (TP-UDL) tells, or all that fit
+        whole; or, where `single`, stand one an octet. Raises `Refused`."""
+        if single and length is not None:
+            raise OutOfRange("a length is told of septets that are packed")
+        octets = _octets(octets)
+        standing = Standing.SINGLE if single else Standing.WHOLE if length is None else Standing.COUNTED
+        counted = 0 if length is None else _octet(length)
+        form, seen = _form(dcs, has_header, standing, counted), raw.Data()
+        refused = raw.Refused()
+        _raise(raw.lib.sms_data_read(octets, len(octets), byref(form), byref(seen), byref(refused)), refused)
+        place = seen.place
+        return cls(
+            octets=octets[: seen.used],
+            used=seen.used,
+            dcs=dcs,
+            alphabet=Alphabet(seen.alphabet),
+            header=_at(octets, seen.header) if seen.has_header else None,
+            body=_at(octets, seen.body),
+            count=seen.count,
+            standing=standing,
+            fill=seen.fill,
+            place=Place(place.width, place.reference, place.maximum, place.sequence) if place.width else None,
+            _length=counted,
+        )
+
+    @property
+    def text(self) -> str:
+        """The text; NotThere where they are none (8-bit, compressed)."""
+        return self._text(False)
+
+    @property
+    def language_text(self) -> str:
+        """The text, septets by the national language tables that the header tells."""
+        return self._text(True)
+
+    def _text(self, languages: bool) -> str:
+        form = _form(self.dcs, self.header is not None, self.standing, self._length, languages)
+        return _answer(TEXT_MAX, raw.lib.sms_data_text, self.octets, len(self.octets), byref(form)).decode()
+
+
+def _form(dcs: int, has_header: bool, standing: Standing, length: int, languages: bool = False) -> raw.DataForm:
+    return raw.DataForm(_octet(dcs), has_header, standing, length, languages)
+
+
 @dataclass(frozen=True)
 class Segment:
     """The user data of a segment, from TP-UDL on, and the TP-DCS under which they are sent."""
@@ -1038,19 +1122,54 @@ class Offer(enum.IntEnum):
     FINISHED = 2
 
 
+@dataclass(frozen=True)
+class OpenMessage:
+    """A message of which some segments have come, and not all, as it was when it was told.
+
+    Attributes:
+        origin: whom it is from (TP-OA).
+        reference: what its segments share, of `width` bits, 8 or 16.
+        maximum: how many segments it has.
+        moment: when its first segment was offered.
+        sequences: the segments that have come, in order: from 1 on.
+        opening: the number of its opening: a message that is opened later has a greater one.
+    """
+
+    origin: str
+    type_of_number: int
+    plan: int
+    width: int
+    reference: int
+    maximum: int
+    moment: datetime
+    sequences: Tuple[int, ...]
+    opening: int
+
+    @property
+    def missing(self) -> Tuple[int, ...]:
+        """The segments that have not come, in order."""
+        return tuple(it for it in range(1, self.maximum + 1) if it not in self.sequences)
+
+
 class Joiner:
     """Joins segments, whichever way they come, to texts, each once.
 
     At most `open_max` messages at a time are not whole, and so many finished ones are remembered, so that none finishes
     twice: they are forgotten by number, never by time. Threads may share a joiner, whose calls wait for one another (so
     a signal handler makes none). It is neither copied nor pickled.
+
+    What it holds is found by a hash with a seed of 128 bits: with 16 octets of `os.urandom`, unless one is given. Who does
+    not know it cannot pick messages that are slow to find; what a joiner answers does not depend on it.
     """
 
-    def __init__(self, open_max: int = 1024, remembered: int = 4096):
+    def __init__(self, open_max: int = 1024, remembered: int = 4096, seed: Optional[int] = None):
         self._lock = threading.Lock()
         self._handle = raw.Joiner()
-        given = _number(open_max, 1, _MOST, "a limit"), _number(remembered, 1, _MOST, "a limit")
-        _raise(raw.lib.sms_joiner_open(byref(self._handle), *given))
+        limits = _number(open_max, 1, _MOST, "a limit"), _number(remembered, 1, _MOST, "a limit")
+        if seed is None:
+            seed = int.from_bytes(os.urandom(16), "little")
+        high, low = divmod(_number(seed, 0, 2**128 - 1, "a seed"), 2**64)
+        _raise(raw.lib.sms_joiner_open_seeded(byref(self._handle), *limits, low, high))
 
     def offer(self, octets: Octets, at: Optional[datetime] = None) -> Optional[str]:
         """Offers an SMS-DELIVER that came at a moment (now, if none is given): the text where it finishes its message,
@@ -1086,6 +1205,24 @@ class Joiner:
         with self._lock:
             _raise(raw.lib.sms_joiner_age(byref(self._handle), seconds))
 
+    @property
+    def open_count(self) -> int:
+        """How many messages are open: some of their segments have come, and not all."""
+        count = c_size_t()
+        with self._lock:
+            _raise(raw.lib.sms_joiner_count(byref(self._handle), byref(count)))
+        return count.value
+
+    def open_messages(self) -> Iterator[OpenMessage]:
+        """The open messages, in order of opening: first the one that was opened first. Changed where the joiner was offered
+        to, or aged, since the first step; each step holds the joiner for itself, so other threads may do that."""
+        cursor = raw.Cursor()
+        while True:
+            message = self._next_open(cursor)
+            if message is None:
+                return
+            yield message
+
     def close(self) -> None:
         """Frees what it holds; a closed one stays so."""
         with self._lock:
@@ -1097,6 +1234,28 @@ class Joiner:
         given = byref(self._handle), seconds, octets, len(octets)
         _raise(raw.lib.sms_joiner_offer(*given, byref(outcome), byref(refused)), refused)
         return Offer(outcome.value)
+
+    def _next_open(self, cursor: raw.Cursor) -> Optional[OpenMessage]:
+        """The open message that the cursor comes to."""
+        seen = raw.OpenMessage()
+        with self._lock:
+            status = raw.lib.sms_joiner_each(byref(self._handle), byref(cursor), byref(seen))
+            if status == Status.NOT_THERE:
+                return None
+            _raise(status)
+            origin = _answer(ADDRESS_TEXT_MAX, raw.lib.sms_joiner_origin, byref(self._handle), seen.opening)
+        come = int.from_bytes(bytes(seen.come), "little")
+        return OpenMessage(
+            origin.decode(),
+            seen.type_of_number,
+            seen.plan,
+            seen.width,
+            seen.reference,
+            seen.maximum,
+            _BEGIN + timedelta(seconds=seen.seconds),
+            tuple(it for it in range(1, seen.maximum + 1) if come >> it & 1),
+            seen.opening,
+        )
 
     def _text(self) -> str:
         """The text that finished last; the lock is held."""

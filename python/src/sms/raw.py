@@ -11,7 +11,7 @@ from typing import Any, Dict, List
 
 # The version of the header that these are the declarations of, the number of its interface, and the sizes that are
 # always enough.
-VERSION = 2_000_000
+VERSION = 2_001_000
 ABI = VERSION // 1_000_000
 TEXT_MAX, UNIT_MAX, PACKET_MAX, ADDRESS_TEXT_MAX = 480, 192, 258, 33
 # Of packets: CP-DATA and RP-DATA, CP-ACK and RP-ACK, CP-ERROR and RP-ERROR.
@@ -32,6 +32,7 @@ class Status(enum.IntEnum):
     NOT_THERE = 8
     TOO_MANY_OPEN = 9
     CLOSED = 10
+    CHANGED = 11
 
 
 class Span(Structure):
@@ -270,8 +271,51 @@ class StatusReportFields(Structure):
     ]
 
 
+class DataForm(Structure):
+    _fields_ = [
+        ("dcs", c_uint8),
+        ("has_header", c_uint8),
+        ("standing", c_uint8),
+        ("length", c_uint8),
+        ("languages", c_uint8),
+        ("spare", c_uint8 * 6),
+    ]
+
+
+class Data(Structure):
+    _fields_ = [
+        ("header", Span),
+        ("body", Span),
+        ("used", c_size_t),
+        ("count", c_size_t),
+        ("place", Place),
+        ("alphabet", c_uint8),
+        ("has_header", c_uint8),
+        ("single", c_uint8),
+        ("fill", c_uint8),
+    ]
+
+
 class Joiner(Structure):
     _fields_ = [("open", c_uint32), ("inside", c_void_p)]
+
+
+class OpenMessage(Structure):
+    _fields_ = [
+        ("seconds", c_uint64),
+        ("opening", c_uint64),
+        ("width", c_uint16),
+        ("reference", c_uint16),
+        ("maximum", c_uint8),
+        ("count", c_uint8),
+        ("type_of_number", c_uint8),
+        ("plan", c_uint8),
+        ("come", c_uint8 * 32),
+    ]
+
+
+class Cursor(Structure):
+    _fields_ = [("change", c_uint64), ("opening", c_uint64)]
 
 
 # The structs by their names in sms.h.
@@ -297,7 +341,11 @@ STRUCTS: Dict[str, Any] = {
     "sms_deliver_fields": DeliverFields,
     "sms_report_fields": ReportFields,
     "sms_status_report_fields": StatusReportFields,
+    "sms_data_form": DataForm,
+    "sms_data": Data,
     "sms_joiner": Joiner,
+    "sms_open_message": OpenMessage,
+    "sms_cursor": Cursor,
 }
 
 _IN: List[Any] = [c_char_p, c_size_t]
@@ -351,12 +399,18 @@ CALLS: Dict[str, List[Any]] = {
     "sms_status_report_write": [POINTER(StatusReportFields), *_IN, *_IN, *_OUT],
     "sms_submit_data_write": [POINTER(SubmitFields), c_uint8, c_uint8, *_IN, *_IN, *_OUT],
     "sms_deliver_data_write": [POINTER(DeliverFields), c_uint8, c_uint8, *_IN, *_IN, *_OUT],
+    "sms_data_read": [*_IN, POINTER(DataForm), POINTER(Data), _REFUSED],
+    "sms_data_text": [*_IN, POINTER(DataForm), *_OUT],
     "sms_joiner_open": [_JOINER, c_size_t, c_size_t],
+    "sms_joiner_open_seeded": [_JOINER, c_size_t, c_size_t, c_uint64, c_uint64],
     "sms_joiner_close": [_JOINER],
     "sms_joiner_offer": [_JOINER, c_uint64, *_IN, POINTER(c_uint32), _REFUSED],
     "sms_joiner_text": [_JOINER, *_OUT],
     "sms_joiner_would_finish": [_JOINER, *_IN, POINTER(c_uint8), _REFUSED],
     "sms_joiner_age": [_JOINER, c_uint64],
+    "sms_joiner_count": [_JOINER, POINTER(c_size_t)],
+    "sms_joiner_each": [_JOINER, POINTER(Cursor), POINTER(OpenMessage)],
+    "sms_joiner_origin": [_JOINER, c_uint64, *_OUT],
 }
 
 

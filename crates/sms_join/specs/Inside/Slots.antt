@@ -7,16 +7,17 @@ use Rattle.sms_join.specs.declared.key.Key.{Key}
 use Rattle.sms_join.specs.declared.units.Units.{Units}
 use Rattle.sms_join.specs.contracts.key.KeyPartialEq.TheImpl as derived
 use Rattle.sms_join.specs.Key.{maximum_of}
-use Rattle.sms_join.specs.Inside.OpenSet.{SetValue}
+use Rattle.sms_join.specs.OpenSets.{SetValue}
 
 -- what `==` answers for keys
 abbrev pub key_eq : Key → Key → Bool
 key_eq = (derived.ghosts).eq
 
--- the moment of the set's first piece; and at each place, of which the first is that of sequence 1,
+-- the moment of the set's first piece; the number of its opening; and at each place, of which the first is that of sequence 1,
 -- the units of the piece that has come
 pub record SlotValue : Type 0 where
   pub opened : ℕ
+  pub turn : ℕ
   pub places : List (Option Units)
 
 -- the sequences of the pieces that have come, where the first place is that of this sequence
@@ -45,6 +46,7 @@ set_of e =
     record {
       key = e.0;
       opened = e.1.opened;
+      turn = e.1.turn;
       sequences = filled_from 1 e.1.places;
       units = filled e.1.places;
     }

@@ -1,7 +1,7 @@
 -- Which pieces make their set whole, and that holding the same is an equivalence.
 use Rattle.std.specs.Prelude.{◌≡◌, ℕ, suc, Bool, true, false, not, ◌&&◌, ◌==◌, length}
 use Rattle.sms_join.specs.Key.{maximum_of}
-use Rattle.sms_join.specs.Inside.OpenSet.{SetValue, is_in}
+use Rattle.sms_join.specs.OpenSets.{SetValue, is_in}
 use Rattle.sms_join.specs.Piece.{Piece}
 use Rattle.sms_join.specs.Joiner.{Joiner, Answer, Repeat, Kept, Finished, TooManyOpen, is_repeat, is_whole, answer}
 use Rattle.sms_join.specs.Joiner.Same.{IsSame}

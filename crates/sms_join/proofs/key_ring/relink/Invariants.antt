@@ -4,4 +4,4 @@ use Rattle.sms_join.proofs.RingRelinked.{Relinked}
 use Rattle.sms_join.proofs.key_ring.relink.Given as goal
 
 abbrev pub invariant-loop-place : goal.invariant-loop-place
-invariant-loop-place l = Relinked hash_of (length l.fn.heads) (take l.place l.keys.items) l.next l.heads
+invariant-loop-place l = Relinked (hash_of l.hashing) (length l.fn.heads) (take l.place l.keys.items) l.next l.heads

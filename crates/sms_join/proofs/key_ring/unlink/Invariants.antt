@@ -7,7 +7,7 @@ use Rattle.sms_join.proofs.key_ring.unlink.Given as goal
 
 abbrev pub invariant-loop-place : goal.invariant-loop-place
 invariant-loop-place l =
-    Walked l.next (of_head (head_of hash_of (length l.heads)) l.head (newer l.oldest (laid l.oldest l.keys.items))) l.oldest l.place
+    Walked l.next (of_head (head_of (hash_of l.fn.hashing) (length l.heads)) l.head (newer l.oldest (laid l.oldest l.keys.items))) l.oldest l.place
 
 abbrev pub decreases-loop-place : goal.decreases-loop-place
 decreases-loop-place l = left (length l.next) l.next l.place

@@ -13,11 +13,11 @@ use Rattle.sms_join.proofs.key_ring.KeyRing.contains.Goals as goal
 pub loop-place-init : goal.loop-place-init
 loop-place-init c =
     let s = c.self.inside in
-    sought_first hash_of s.keys.capacity s.oldest (laid s.oldest s.keys.items) s.next.items s.heads.items c.self.invariant.0
+    sought_first (hash_of c.self.inside.hashing) s.keys.capacity s.oldest (laid s.oldest s.keys.items) s.next.items s.heads.items c.self.invariant.0
     (is_among c.args.self.now.keys (key_of c.args.origin.now c.args.stamp c.args.concat)) (key_of c.args.origin.now c.args.stamp c.args.concat) c.head_of.result c.len.result c.index-place.result.now
     (ap (λ (v : LastKeysValue). is_among v.keys (key_of c.args.origin.now c.args.stamp c.args.concat)) (sym c.self.view_is)
     ∙ ap (λ (ks : List Key). is_among ks (key_of c.args.origin.now c.args.stamp c.args.concat)) (sym (keys_in s.keys.items c.self.invariant.0)))
-    (head_at c.head_of.result c.len.result c.hash_of.result (hash_of (key_of c.args.origin.now c.args.stamp c.args.concat)) c.head_of.ensures.is c.hash_of.ensures) c.head_of.ensures.within (c.len.ensures ∙ s.heads.ok.0) c.index-place.ensures
+    (head_at c.head_of.result c.len.result c.hash_of.result (hash_of c.self.inside.hashing (key_of c.args.origin.now c.args.stamp c.args.concat)) c.head_of.ensures.is c.hash_of.ensures) c.head_of.ensures.within (c.len.ensures ∙ s.heads.ok.0) c.index-place.ensures
 
 pub key_at-requires-clause-oldest : goal.key_at-requires-clause-oldest
 key_at-requires-clause-oldest c = oldest_there c.self.inside.keys.items c.self.invariant.0

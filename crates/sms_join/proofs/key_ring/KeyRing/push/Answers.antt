@@ -13,14 +13,14 @@ pub invariant_of-self : goal.invariant_of-self
 invariant_of-self c =
     let s = c.self.inside in
     let same : c.push_back.new.self.capacity ≡ s.keys.capacity = same_capacity s.keys c.push_back.new.self c.args.key c.push_back.ensures.items in
-    let ring : IsChained hash_of s.keys.capacity s.oldest (laid s.oldest c.push_back.new.self.items) c.push_reserved.new.self.items (set s.heads.items c.head_of-head.result c.len-count.result) =
+    let ring : IsChained (hash_of c.self.inside.hashing) s.keys.capacity s.oldest (laid s.oldest c.push_back.new.self.items) c.push_reserved.new.self.items (set s.heads.items c.head_of-head.result c.len-count.result) =
     pushed_room s.keys.items c.self.invariant.0 c.args.key c.len-count.result c.head_of-head.result c.len.result c.index.result.now c.push_back.new.self.items c.push_reserved.new.self.items
     (set s.heads.items c.head_of-head.result c.len-count.result)
     (omega (arith, c.if-count-limit.true, c.len-count.ensures.len, c.capacity-limit.ensures.capacity))
     c.len-count.ensures.len
-    (head_at c.head_of-head.result c.len.result c.key_hash.result (hash_of c.args.key) c.head_of-head.ensures.is c.key_hash.ensures) c.head_of-head.ensures.within (c.len.ensures ∙ s.heads.ok.0)
+    (head_at c.head_of-head.result c.len.result c.key_hash.result (hash_of c.self.inside.hashing c.args.key) c.head_of-head.ensures.is c.key_hash.ensures) c.head_of-head.ensures.within (c.len.ensures ∙ s.heads.ok.0)
     c.index.ensures (pushed_items s.keys c.push_back.new.self c.args.key c.push_back.ensures.items) c.push_reserved.ensures.items refl in (
-      subst (λ (n : ℕ). IsChained hash_of n s.oldest (laid s.oldest c.push_back.new.self.items) c.push_reserved.new.self.items (set s.heads.items c.head_of-head.result c.len-count.result)) (sym same) ring,
+      subst (λ (n : ℕ). IsChained (hash_of c.self.inside.hashing) n s.oldest (laid s.oldest c.push_back.new.self.items) c.push_reserved.new.self.items (set s.heads.items c.head_of-head.result c.len-count.result)) (sym same) ring,
       c.push_reserved.ensures.capacity ∙ (c.self.invariant.1 ∙ sym same),
       subst (λ (n : ℕ). 2 * n ≤ s.heads.cap) (sym same) c.self.invariant.2,
     )
@@ -37,23 +37,23 @@ invariant_of-self-2 c =
     let heads_is : heads ≡ c.unlink.new.heads = refilled s.heads.len s.heads.items c.unlink.new.heads s.heads.ok.0 same_heads in
     let as_long : length next ≡ length s.next.items = ap (λ (l : List ℕ). length l) next_is ∙ same_next in
     let as_many : length heads ≡ length s.heads.items = ap (λ (l : List ℕ). length l) heads_is ∙ same_heads in
-    let linked : AreLinked (head_of hash_of (length s.heads.items)) next heads (newer s.oldest (laid s.oldest s.keys.items)) =
-    unlinked hash_of (newer s.oldest (laid s.oldest s.keys.items)) s.heads.items c.deref_mut.result.now c.unlink.new.next next c.unlink.new.heads heads
+    let linked : AreLinked (head_of (hash_of c.self.inside.hashing) (length s.heads.items)) next heads (newer s.oldest (laid s.oldest s.keys.items)) =
+    unlinked (hash_of c.self.inside.hashing) (newer s.oldest (laid s.oldest s.keys.items)) s.heads.items c.deref_mut.result.now c.unlink.new.next next c.unlink.new.heads heads
     c.deref_mut.ensures.value next_is heads_is c.unlink.ensures in
     let ns : List ℕ = take s.next.len (c.link.new.next ++ drop (length c.link.new.next) next) in
     let hs : List ℕ = take s.heads.len (c.link.new.heads ++ drop (length c.link.new.heads) heads) in
     let o : ℕ = c.place_after-self-inside.result in
-    let ring : IsChained hash_of s.keys.capacity o (laid o c.push_back-2.new.self.items) ns hs =
+    let ring : IsChained (hash_of c.self.inside.hashing) s.keys.capacity o (laid o c.push_back-2.new.self.items) ns hs =
     pushed_full s.keys.items c.self.invariant.0 c.args.key c.head_of-head.result c.len.result o c.push_back-2.new.self.items next heads ns hs
     (omega (arith, c.if-count-limit.false, c.len-count.ensures.len, c.capacity-limit.ensures.capacity))
-    (head_at c.head_of-head.result c.len.result c.key_hash.result (hash_of c.args.key) c.head_of-head.ensures.is c.key_hash.ensures) c.head_of-head.ensures.within (c.len.ensures ∙ s.heads.ok.0)
+    (head_at c.head_of-head.result c.len.result c.key_hash.result (hash_of c.self.inside.hashing c.args.key) c.head_of-head.ensures.is c.key_hash.ensures) c.head_of-head.ensures.within (c.len.ensures ∙ s.heads.ok.0)
     linked as_long as_many (pushed_items s.keys c.push_back-2.new.self c.args.key c.push_back-2.ensures.items)
     (c.place_after-self-inside.ensures ∙ ap (λ (n : ℕ). cond (eqb (s.oldest + 1) n) 0 (s.oldest + 1)) c.capacity-limit.ensures.capacity)
     (written_next s.next.len next heads c.link.new.next c.deref_mut-4.result.now c.deref_mut-3.result.now s.oldest c.head_of-head.result (s.next.ok.0 ∙ sym as_long)
     c.deref_mut-4.ensures.value c.deref_mut-3.ensures.value c.link.ensures.next)
     (written_heads s.heads.len heads c.link.new.heads c.deref_mut-3.result.now s.oldest c.head_of-head.result (s.heads.ok.0 ∙ sym as_many)
     c.deref_mut-3.ensures.value c.link.ensures.heads) in (
-      subst (λ (n : ℕ). IsChained hash_of n o (laid o c.push_back-2.new.self.items) ns hs) (sym same) ring,
+      subst (λ (n : ℕ). IsChained (hash_of c.self.inside.hashing) n o (laid o c.push_back-2.new.self.items) ns hs) (sym same) ring,
       c.self.invariant.1 ∙ sym same,
       subst (λ (n : ℕ). 2 * n ≤ s.heads.cap) (sym same) c.self.invariant.2,
     )

@@ -1,44 +1,44 @@
-use Rattle.std.proofs.Common.{rules, ◌≡◌, ℕ, ◌+◌, false, not, nat_le, List, [], ◌∷◌, refl, sym, ap, ◌∙◌, subst}
-use Rattle.std.proofs.lemmas.Bool.{or_parts}
-use Rattle.std.specs.List.{filter, list_any}
-use Rattle.std.specs.Map.{values_of}
-use Rattle.indexmap.proofs.CallerLemmas.{filter-RetainsPairs}
-use Rattle.sms_join.specs.declared.key.Key.{Key}
-use Rattle.sms_join.specs.Inside.OpenSet.{SetValue}
-use Rattle.sms_join.specs.Inside.Slots.{SlotValue, AreSlots, sets_of}
+use Rattle.std.proofs.Common.{◌≡◌, ℕ, ◌≤◌, List, sym, ap, ◌∙◌, subst}
+use Rattle.sms_join.specs.OpenSets.{SetValue}
+use Rattle.sms_join.specs.Inside.Dropping.{DropsOld}
+use Rattle.sms_join.specs.Inside.Lines.{InLine, AreInTime, AreSince}
+use Rattle.sms_join.specs.Inside.Slots.{AreSlots, sets_of}
+use Rattle.sms_join.proofs.Slots.{sets_length}
 use Rattle.sms_join.proofs.MostSets.{follows_same}
-use Rattle.sms_join.proofs.Slots.{sets_filtered, slots_filtered}
-use Rattle.sms_join.proofs.open_sets.OpenSets.age.Goals.{After-self-1}
+use Rattle.sms_join.proofs.Since.{since_many, none_past}
+use Rattle.sms_join.proofs.OldDropped.{time_many, fewer_dropped}
 use Rattle.sms_join.proofs.open_sets.OpenSets.age.Goals as goal
 
-kept : (c : After-self-1) → c.retain.new.self.entries ≡ filter (λ (e : Key × SlotValue). not (nat_le (e.1.opened + 604800) c.args.now)) c.self.inside.slots.entries
-kept c = filter-RetainsPairs _ _ _ (λ k v b w g call. search rules) _ _ c.retain.ensures.filtered
+pub drop_old-requires-clause-time : goal.drop_old-requires-clause-time
+drop_old-requires-clause-time c = λ e. (c.self.inside.latest, c.self.invariant.3 e)
 
--- where none is old, all stay
-none_goes : (now : ℕ) (es : List (Key × SlotValue)) → list_any (λ s. nat_le (s.opened + 604800) now) (values_of es) ≡ false
-    → filter (λ (s : SetValue). not (nat_le (s.opened + 604800) now)) (sets_of es) ≡ sets_of es
-none_goes now [] h = refl
-none_goes now (e ∷ es) h =
-    let p = or_parts (nat_le (e.1.opened + 604800) now) (list_any (λ s. nat_le (s.opened + 604800) now) (values_of es)) h in
-    rw (p.0, none_goes now es p.1) refl
+pub drop_old-requires-clause-line : goal.drop_old-requires-clause-line
+drop_old-requires-clause-line c = (c.self.inside.turns, c.self.invariant.2)
 
-pub returns-then-not-has_old : goal.returns-then-not-has_old
-returns-then-not-has_old c =
-    let none : list_any (λ (s : SlotValue). nat_le (s.opened + 604800) c.args.now) (values_of c.self.inside.slots.entries) ≡ false =
-    sym c.has_old.ensures ∙ c.if-not-has_old.true in
-    sym (subst (λ (l : List SetValue). filter (λ (s : SetValue). not (nat_le (s.opened + 604800) c.args.now)) l ≡ l) c.self.view_is
-    (none_goes c.args.now c.self.inside.slots.entries none))
+pub give_room_back-self-inside-requires : goal.give_room_back-self-inside-requires
+give_room_back-self-inside-requires c =
+    subst (λ (n : ℕ). n ≤ c.self.inside.most) (sets_length c.drop_old.new.slots.entries)
+    (fewer_dropped c.args.now (sets_of c.self.inside.slots.entries) (sets_of c.drop_old.new.slots.entries) c.self.inside.most c.drop_old.ensures.sets
+    (subst (λ (n : ℕ). n ≤ c.self.inside.most) (sym (sets_length c.self.inside.slots.entries)) c.self.invariant.1.as_many))
 
 pub invariant_of-self : goal.invariant_of-self
-invariant_of-self c = (
-  subst AreSlots (sym (c.give_room_back-self-inside.ensures.entries ∙ kept c))
-      (slots_filtered (λ (e : Key × SlotValue). not (nat_le (e.1.opened + 604800) c.args.now)) c.self.inside.slots.entries c.self.invariant.0),
-  follows_same c.retain.new.self.entries c.give_room_back-self-inside.new.slots.entries c.give_room_back-self-inside.result
-      c.give_room_back-self-inside.ensures.entries c.give_room_back-self-inside.ensures.most,
-)
+invariant_of-self c =
+    let same : sets_of c.give_room_back-self-inside.new.slots.entries ≡ sets_of c.drop_old.new.slots.entries = ap sets_of c.give_room_back-self-inside.ensures.entries in (
+      subst AreSlots (sym c.give_room_back-self-inside.ensures.entries) c.drop_old.ensures.slots,
+      follows_same c.drop_old.new.slots.entries c.give_room_back-self-inside.new.slots.entries c.give_room_back-self-inside.result
+          c.give_room_back-self-inside.ensures.entries c.give_room_back-self-inside.ensures.most,
+      c.tidy.ensures c.self.inside.turns (subst (InLine c.self.inside.turns c.drop_old.new.line.items) (sym same) (c.drop_old.ensures.line c.self.inside.turns c.self.invariant.2)),
+      λ e. subst (AreInTime c.self.inside.latest) (sym same)
+          (time_many c.args.now c.drop_old.ensures.sets.count c.self.inside.latest (sets_of c.self.inside.slots.entries) (sets_of c.drop_old.new.slots.entries) c.drop_old.ensures.sets.many (c.self.invariant.3 e)),
+      subst (AreSince c.earliest_left-self-inside.result) (sym same)
+          (c.earliest_left-self-inside.ensures (since_many c.args.now c.drop_old.ensures.sets.count c.self.inside.earliest (sets_of c.self.inside.slots.entries) (sets_of c.drop_old.new.slots.entries) c.drop_old.ensures.sets.many c.self.invariant.4)),
+    )
+
+pub returns-then-not-is_past : goal.returns-then-not-is_past
+returns-then-not-is_past c =
+    none_past c.self.inside.earliest c.args.now c.args.self.now (subst (AreSince c.self.inside.earliest) c.self.view_is c.self.invariant.4) (sym c.is_past.ensures ∙ c.if-not-is_past.true)
 
 pub returns : goal.returns
 returns c =
-    ap sets_of (c.give_room_back-self-inside.ensures.entries ∙ kept c)
-    ∙ (sets_filtered (λ (s : SetValue). not (nat_le (s.opened + 604800) c.args.now)) c.self.inside.slots.entries
-    ∙ ap (filter (λ (s : SetValue). not (nat_le (s.opened + 604800) c.args.now))) c.self.view_is)
+    subst (λ (l : List SetValue). DropsOld c.args.now l (sets_of c.give_room_back-self-inside.new.slots.entries)) c.self.view_is
+    (subst (DropsOld c.args.now (sets_of c.self.inside.slots.entries)) (sym (ap sets_of c.give_room_back-self-inside.ensures.entries)) c.drop_old.ensures.sets)

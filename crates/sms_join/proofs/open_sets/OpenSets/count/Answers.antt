@@ -1,5 +1,5 @@
 use Rattle.std.proofs.Common.{List, length, sym, ap, ◌∙◌}
-use Rattle.sms_join.specs.Inside.OpenSet.{SetValue}
+use Rattle.sms_join.specs.OpenSets.{SetValue}
 use Rattle.sms_join.proofs.Slots.{sets_length}
 use Rattle.sms_join.proofs.open_sets.OpenSets.count.Goals as goal
 

@@ -2,7 +2,7 @@ use Rattle.std.proofs.Common.{ap, ◌∙◌}
 use Rattle.std.specs.List.{position}
 use Rattle.sms_join.specs.declared.key.Key.{Key}
 use Rattle.sms_join.specs.Key.{same_key}
-use Rattle.sms_join.specs.Inside.OpenSet.{SetValue}
+use Rattle.sms_join.specs.OpenSets.{SetValue}
 use Rattle.sms_join.specs.Piece.{key_of}
 use Rattle.sms_join.proofs.Slots.{place_same, found_by}
 use Rattle.sms_join.proofs.open_sets.OpenSets.find.Goals as goal

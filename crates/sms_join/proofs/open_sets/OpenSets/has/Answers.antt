@@ -1,5 +1,5 @@
 use Rattle.std.proofs.Common.{◌≡◌, List, sym, subst}
-use Rattle.sms_join.specs.Inside.OpenSet.{SetValue, is_in}
+use Rattle.sms_join.specs.OpenSets.{SetValue, is_in}
 use Rattle.sms_join.specs.Inside.Slots.{At, HasPlace}
 use Rattle.sms_join.proofs.Slots.{place_in, place_at, at_slot}
 use Rattle.sms_join.proofs.open_sets.OpenSets.has.Goals as goal

@@ -4,7 +4,7 @@ use Rattle.std.specs.Str.{chars}
 use Rattle.std.specs.String.{string_bytes}
 use Rattle.sms_join.specs.Joiner.Finishing.{lacks_only}
 use Rattle.sms_join.specs.Key.{maximum_of}
-use Rattle.sms_join.specs.Inside.OpenSet.{SetValue, with_piece}
+use Rattle.sms_join.specs.OpenSets.{SetValue, with_piece}
 use Rattle.sms_join.specs.Reading.{text_of_segments}
 use Rattle.sms_join.specs.Inside.Slots.{At, filled_with}
 use Rattle.sms_join.proofs.Slots.{sets_length, at_slot, text_more}

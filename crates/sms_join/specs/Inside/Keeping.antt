@@ -1,0 +1,25 @@
+-- A reader may pass this by: contracts of private functions, and proofs, alone cite it.
+--
+-- What a joiner holds, where its open sets stand in the order of their table, and in that of opening.
+use Rattle.std.specs.Prelude.{◌≡◌, ℕ, ◌≤◌, length}
+use Rattle.sms_join.specs.Joiner.Value.{JoinerValue}
+use Rattle.sms_join.specs.OpenSets.{AreOpen, all_pieces}
+use Rattle.sms_join.specs.Inside.Turns.{HaveTurns, arranged}
+
+-- The pieces are those of the sets, which are open and were opened one after another.
+pub record IsKept (v : JoinerValue) : Type 0 where
+  pub are_open : AreOpen v.told
+  pub few : length v.told ≤ v.open_max
+  pub below : ℕ
+  pub turns : HaveTurns below v.told
+  pub pieces : v.holds.kept ≡ all_pieces v.told
+
+-- The same, with the sets in the order in which they were opened.
+abbrev pub in_order : JoinerValue → JoinerValue
+in_order v =
+    record {
+      open_max = v.open_max;
+      remembered = v.remembered;
+      holds = record { kept = all_pieces (arranged v.told); finished = v.holds.finished };
+      told = arranged v.told;
+    }

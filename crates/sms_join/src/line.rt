@@ -1,0 +1,88 @@
+//! The line of openings, in which open sets are found in the order in which they were opened.
+
+ghost use Rattle.std.specs.Prelude.{◌≡◌, ◌≤◌, ℕ, nat_lt, true, false, length, drop};
+ghost use Rattle.sms_join.specs.Inside.Slots.{sets_of};
+ghost use Rattle.sms_join.specs.Inside.Lines.{Climbs, Splits, HasNumber, noted, lies, first_index, InLine};
+
+use crate::hashing::Hashing;
+use crate::key::Key;
+use crate::slot::Slot;
+use indexmap::IndexMap;
+use std::collections::VecDeque;
+
+/// How many openings are not looked through for those whose sets have gone.
+const FEW_OPENINGS: usize = 32;
+
+/// An opening: its number, and the index at which its set was noted last. Where the set there is of
+/// another opening, or there is none, the set has gone.
+#[derive(Clone, Copy)]
+pub(crate) struct Opening {
+    pub(crate) turn: u64,
+    pub(crate) index: usize,
+}
+
+/// The place of the first opening of this number or above.
+pub(crate) fn place_from(line: &VecDeque<Opening>, turn: u64) -> usize
+    requires { Climbs line.now.items }
+    ensures { Splits turn result line.now.items }
+{
+    line.partition_point(
+        |opening: &Opening| -> bool
+            ensures { result ≡ nat_lt opening.now.turn turn }
+        { opening.turn < turn },
+    )
+}
+
+/// Notes that the set of an opening lies at another index.
+pub(crate) fn note(line: &mut VecDeque<Opening>, turn: u64, index: usize)
+    requires climbs { Climbs line.old.items }
+    requires there { HasNumber turn line.old.items }
+    ensures { line.new.items ≡ noted turn index line.old.items }
+{
+    let place = place_from(line, turn);
+    line[place].index = index;
+}
+
+/// Whether the set of the opening lies where it was noted.
+pub(crate) fn lies(slots: &IndexMap<Key, Slot, Hashing>, opening: Opening) -> bool
+    ensures { result ≡ lies (sets_of slots.now.entries) opening }
+{
+    match slots.get_index(opening.index) {
+        None => false,
+        Some((_, slot)) => slot.turn() == opening.turn,
+    }
+}
+
+/// Where the first set lies whose opening stands at this place of the line or after it.
+pub(crate) fn first_index(
+    slots: &IndexMap<Key, Slot, Hashing>,
+    line: &VecDeque<Opening>,
+    place: usize,
+) -> Option<usize>
+    ensures { result ≡ first_index (sets_of slots.now.entries) (drop place line.now.items) }
+{
+    for at in place..line.len() {
+        if lies(slots, line[at]) {
+            return Some(line[at].index);
+        }
+    }
+    None
+}
+
+/// Forgets the openings whose sets have gone, where they are more than half, and gives their room
+/// back. That takes as long as the openings need which have come since the last time.
+pub(crate) fn tidy(line: &mut VecDeque<Opening>, slots: &IndexMap<Key, Slot, Hashing>)
+    ensures { (t : ℕ) → InLine t line.old.items (sets_of slots.now.entries)
+        → InLine t line.new.items (sets_of slots.now.entries) }
+{
+    let few = (2 * slots.len()).max(FEW_OPENINGS);
+    if line.len() <= few {
+        return;
+    }
+    line.retain(
+        |opening: &Opening| -> bool
+            ensures { result ≡ lies (sets_of slots.entry.now.entries) opening.now }
+        { lies(slots, *opening) },
+    );
+    line.shrink_to(few);
+}
