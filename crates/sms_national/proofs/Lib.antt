@@ -1,0 +1,11 @@
+pub mod Whole
+pub mod PieceLaws
+pub mod Left
+pub mod TextEscapes
+pub mod OneCut
+pub mod Read
+pub mod HeaderLaws
+pub mod Told
+pub mod BestLaws
+pub mod Sent
+pub mod WideLaws
