@@ -1,16 +1,26 @@
 //! The command line of the short message tools.
 #![tactic(auto)]
 
-use sms_command::{command_with_notes, finish};
+use sms_command::{command_with_seed, finish};
 use std::env;
 use std::io::{self, BufReader, BufWriter, ErrorKind, Write};
 use std::process::ExitCode;
+use std::random::RandomSource;
 
 /// The status where the words are wrong.
 const WRONG_WORDS: u8 = 2;
 
 /// The status where memory runs out.
 const NO_MEMORY: u8 = 3;
+
+/// A seed that nobody outside knows, where the system gives one.
+fn seed_drawn(rt: &HostRuntime) -> Option<u128> {
+    let mut octets = [0; 16];
+    match rt.fill_bytes(&mut octets) {
+        Ok(()) => Some(u128::from_le_bytes(octets)),
+        Err(_) => None,
+    }
+}
 
 fn run(rt: &HostRuntime) -> io::Result<u8> {
     let alloc = rt.alloc();
@@ -19,7 +29,9 @@ fn run(rt: &HostRuntime) -> io::Result<u8> {
     let mut output = BufWriter::new(alloc, io::writer(rt))?;
     let errors = rt.stderr();
     let mut notes = io::writer(&errors);
-    let status = command_with_notes(alloc, words.as_slice(), &mut input, &mut output, &mut notes);
+    let seed = seed_drawn(rt);
+    let words = words.as_slice();
+    let status = command_with_seed(alloc, words, seed, &mut input, &mut output, &mut notes);
     Ok(finish(status, &mut output, &mut io::writer(rt)))
 }
 

@@ -19,10 +19,11 @@ use std::convert::AsStr;
 use std::io::{Read, Write, sink};
 
 /// Does what a request asks, and writes what comes of it. A script, and lines, are read from the
-/// input. What is lost where units are joined goes to the notes.
+/// input. What is lost where units are joined goes to the notes; keys are hashed with a seed there.
 fn answer<R: Read, W: Write, N: Write>(
     alloc: Global,
     request: Request<'_>,
+    seed: Option<u128>,
     input: &mut R,
     output: &mut W,
     notes: &mut N,
@@ -30,7 +31,7 @@ fn answer<R: Read, W: Write, N: Write>(
     match request {
         Request::Show(shown) => return show(alloc, shown, input, output),
         Request::Chart => put_chart(alloc, input, output)?,
-        Request::Join(joined) => return join(alloc, joined, input, output, notes),
+        Request::Join(joined) => return join(alloc, joined, seed, input, output, notes),
         Request::Encode(draft) => put_units(alloc, &draft, output)?,
         Request::Split(long) => put_segments(alloc, &long, output)?,
         Request::Play(played) => return play(alloc, played, input, output),
@@ -80,6 +81,29 @@ fn explain<W: Write>(alloc: Global, error: &clap::Error, output: &mut W) -> u8
     if error.exit_code() == 0 { 0 } else { 2 }
 }
 
+/// Does what the words ask, as `command_with_notes` does. Where a seed is given and units are joined,
+/// their keys are hashed with it, so that a sender who does not know it cannot pick keys that are
+/// slow to find. Nothing that is written depends on it.
+pub fn command_with_seed<S: AsStr, R: Read, W: Write, N: Write>(
+    alloc: Global,
+    words: &[S],
+    seed: Option<u128>,
+    input: &mut R,
+    output: &mut W,
+    notes: &mut N,
+) -> u8
+    ensures { result ≤ 3 }
+{
+    match parse_words(alloc, words) {
+        Ok(request) => match answer(alloc, request, seed, input, output, notes) {
+            Ok(Done::Whole) => 0,
+            Ok(Done::Faulty) => 1,
+            Err(fault) => refuse(alloc, request.is_explained(), &fault, output),
+        },
+        Err(error) => explain(alloc, &error, output),
+    }
+}
+
 /// Does what the words ask, the program's name first, and answers the exit status: 0 done, 1
 /// refused input, 2 wrong words, 3 memory or a device. A script is read from the input. The output
 /// is not flushed. Where `join` loses segments and does not tell which, a line that counts them
@@ -93,14 +117,7 @@ pub fn command_with_notes<S: AsStr, R: Read, W: Write, N: Write>(
 ) -> u8
     ensures { result ≤ 3 }
 {
-    match parse_words(alloc, words) {
-        Ok(request) => match answer(alloc, request, input, output, notes) {
-            Ok(Done::Whole) => 0,
-            Ok(Done::Faulty) => 1,
-            Err(fault) => refuse(alloc, request.is_explained(), &fault, output),
-        },
-        Err(error) => explain(alloc, &error, output),
-    }
+    command_with_seed(alloc, words, None, input, output, notes)
 }
 
 /// Does what the words ask, as `command_with_notes` does, without notes.

@@ -4,7 +4,7 @@ ghost use Rattle.std.specs.Prelude.{◌≡◌};
 ghost use Rattle.sms_command.specs.Inside.Clock.{new_clock, first_clock, ticked};
 ghost use Rattle.sms_command.specs.Inside.Clock.{after_first, after_sure, after_row, after_far};
 ghost use Rattle.sms_command.specs.Inside.Clock.{is_far_after, goes_on, is_refuted, standing_after};
-ghost use Rattle.sms_command.specs.Inside.Clock.{is_first, opened_at, is_ahead};
+ghost use Rattle.sms_command.specs.Inside.Clock.{opened_at};
 
 use sms_field::Address;
 
@@ -50,15 +50,6 @@ pub struct Clock {
     /// What it shows, in seconds since the beginning of 2000.
     pub time: u64,
     pub standing: Standing,
-}
-
-/// When a set is opened.
-#[derive(Clone, Copy)]
-pub struct Opening {
-    /// The moment, in seconds since the beginning of 2000.
-    pub moment: u64,
-    /// Whether it may be later than that of a set which is opened afterwards.
-    pub is_ahead: bool,
 }
 
 /// The same address. It takes no memory.
@@ -191,18 +182,6 @@ fn after_far(time: u64, row: &Row, origin: &Address, moment: u64) -> Clock
     after_sure(least, origin, moment)
 }
 
-impl Standing {
-    /// Whether all units with a stamp are of one origin, and few.
-    fn is_first(&self) -> bool
-        ensures { result ≡ is_first self.now }
-    {
-        match self {
-            Standing::First { .. } => true,
-            Standing::Unset | Standing::Sure | Standing::Ahead(_) => false,
-        }
-    }
-}
-
 impl Clock {
     /// The clock before the first unit.
     pub fn new() -> Clock
@@ -231,16 +210,11 @@ impl Clock {
         *self = next;
     }
 
-    /// When a set is opened whose first segment came last, with a stamp of this moment if it has
-    /// one.
-    pub fn opening(&self, moment: Option<u64>) -> Opening
-        ensures moment { result.moment ≡ opened_at self.now moment }
-        ensures ahead { result.is_ahead ≡ is_ahead self.now moment }
+    /// The moment at which a set is opened whose first segment came last, with a stamp of this
+    /// moment if it has one.
+    pub fn opening(&self, moment: Option<u64>) -> u64
+        ensures { result ≡ opened_at self.now moment }
     {
-        let moment = moment.unwrap_or(0).max(self.time);
-        Opening {
-            moment,
-            is_ahead: self.standing.is_first() || self.time < moment,
-        }
+        moment.unwrap_or(0).max(self.time)
     }
 }

@@ -7,7 +7,8 @@ ghost use Rattle.sms_tpdu.specs.Submit.ValidityPeriod.{IsInRange};
 ghost use Rattle.sms_tpdu.specs.declared.user_data.concat.Width.TheVariants.{Eight};
 ghost use Rattle.sms_join.specs.Segments.User.{IsSendable};
 
-use crate::addresses::{bad_address, bad_centre};
+use crate::addresses::bad_centre;
+use crate::data_line::address_of;
 use crate::digits::read_octets;
 use crate::fault::Fault;
 use crate::words::{Draft, DraftKind};
@@ -36,15 +37,6 @@ fn stamp_in(alloc: Global, draft: &Draft<'_>) -> Result<Stamp, Fault> {
     match draft.stamp {
         Some(word) => stamp_of(alloc, word),
         None => Ok(Stamp::new(FIRST_SECOND)),
-    }
-}
-
-/// The address that a text says.
-fn address_of(alloc: Global, text: &str) -> Result<Address, Fault> {
-    match Address::from_text(alloc, text) {
-        Ok(address) => Ok(address),
-        Err(TextFault::Memory) => Err(Fault::Memory),
-        Err(TextFault::Address(_)) => Err(bad_address(alloc, text)),
     }
 }
 

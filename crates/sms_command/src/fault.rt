@@ -3,9 +3,10 @@
 ghost use Rattle.std.specs.Prelude.{◌≤◌};
 
 use crate::digits::Spot;
+use sms_card::RecordFault;
 use sms_page::{Page, PageFault};
 use sms_relay::RelayFault;
-use sms_tpdu::UnitFault;
+use sms_tpdu::{DataFault, UnitFault};
 use sms_world::PlayFault;
 use std::alloc::{AllocError, AllocFailed, Global};
 use std::io;
@@ -21,15 +22,27 @@ pub enum Fault {
     /// where it does.
     #[error("{0}")]
     Message(sms_field::Fault<RelayFault>),
+    /// An octet of a record of a card cannot stand where it does.
+    #[error("{0}")]
+    Record(sms_field::Fault<RecordFault>),
+    /// An octet of user data alone, one for each septet, cannot stand where it does.
+    #[error("{0}")]
+    Septets(sms_field::Fault<DataFault>),
     /// An option was given that the kind of unit does not have.
     #[error("option not for this kind")]
     WrongOption,
+    /// A data coding scheme is no octet in hexadecimal.
+    #[error("bad coding scheme")]
+    BadScheme,
     /// A concatenation reference does not fit its width.
     #[error("reference too large")]
     ReferenceTooLarge,
     /// A word or a line is no hexadecimal text of octets.
     #[error("bad hex")]
     BadHex(Spot),
+    /// A line has other words than it must have.
+    #[error("bad line")]
+    BadLine,
     /// A word is no hexadecimal text of as many octets as there must be.
     #[error("bad hex")]
     BadStamp,
@@ -70,10 +83,12 @@ impl Fault {
     {
         match self {
             Fault::Unit(_) | Fault::Message(_) | Fault::BadHex(_) | Fault::BadStamp => 1,
+            Fault::BadLine => 1,
             Fault::BadAddress(_) | Fault::TextTooLong | Fault::TooManySegments => 1,
             Fault::LineTooLong | Fault::NoText => 1,
+            Fault::Record(_) | Fault::Septets(_) => 1,
             Fault::Play(PlayFault::Script { .. }) => 1,
-            Fault::WrongOption | Fault::ReferenceTooLarge => 2,
+            Fault::WrongOption | Fault::ReferenceTooLarge | Fault::BadScheme => 2,
             Fault::Play(_) => 3,
             Fault::Read | Fault::Write | Fault::Memory => 3,
         }
@@ -117,6 +132,8 @@ impl Fault {
         match self {
             Fault::Unit(fault) => Some(fault.place),
             Fault::Message(fault) => Some(fault.place),
+            Fault::Record(fault) => Some(fault.place),
+            Fault::Septets(fault) => Some(fault.place),
             Fault::BadHex(spot) => Some(spot.place),
             _ => None,
         }
@@ -127,6 +144,8 @@ impl Fault {
         match self {
             Fault::Unit(fault) => fault.why.to_string(alloc),
             Fault::Message(fault) => fault.why.to_string(alloc),
+            Fault::Record(fault) => fault.why.to_string(alloc),
+            Fault::Septets(fault) => fault.why.to_string(alloc),
             _ => self.to_string(alloc),
         }
     }
@@ -171,5 +190,17 @@ impl From<sms_field::Fault<UnitFault>> for Fault {
 impl From<sms_field::Fault<RelayFault>> for Fault {
     fn from(fault: sms_field::Fault<RelayFault>) -> Fault {
         Fault::Message(fault)
+    }
+}
+
+impl From<sms_field::Fault<RecordFault>> for Fault {
+    fn from(fault: sms_field::Fault<RecordFault>) -> Fault {
+        Fault::Record(fault)
+    }
+}
+
+impl From<sms_field::Fault<DataFault>> for Fault {
+    fn from(fault: sms_field::Fault<DataFault>) -> Fault {
+        Fault::Septets(fault)
     }
 }

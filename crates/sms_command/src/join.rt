@@ -1,106 +1,37 @@
 //! Texts that are joined from units, one a line of the input.
 
-ghost use Rattle.std.specs.Prelude.{◌≡◌, true, IfOk};
-ghost use Rattle.std.specs.List.{list_all};
-ghost use Rattle.sms_page.specs.Plain.{is_plain};
+ghost use Rattle.std.specs.Prelude.{◌<◌, IfSome};
 ghost use Rattle.sms_tpdu.specs.UserData.ConcatenationFound.{IsPlace};
 
 use crate::address_text::AddressText;
 use crate::clock::Clock;
-use crate::digits::read_octets;
 use crate::fault::Fault;
 use crate::lines::{Form, Layer, Lines, Printed};
 use crate::losses::Losses;
 use crate::many::{Taker, take_lines};
-use crate::open_texts::{OpenText, OpenTexts, Place};
-use crate::printed::{Escaped, Moment, Number, Numbering, Party, bits_of, put_escaped};
-use crate::show::centre_fault;
+use crate::open_set::put_open;
+use crate::piece::{Piece, Pieces};
+use crate::printed::{Escaped, Moment, Number, Numbering, Party, put_escaped};
 use crate::shown::Done;
 use crate::words::Joined;
-use sms_field::{Address, RpAddressView, Stamp, alphabet_of};
-use sms_join::{Joiner, Offer, OfferFault, Units};
-use sms_page::{Object, Page};
-use sms_tpdu::{Concat, DeliverView, HeaderView};
+use sms_field::{Address, Stamp};
+use sms_join::{Joiner, Offer, OfferFault, read_units};
+use sms_page::Page;
 use std::alloc::{AllocError, Global};
 use std::io::{Read, Write};
 
-/// What a segment, or a message in one piece, has for the joiner.
-#[derive(Drop)]
-struct Piece {
-    /// Whom it is from (TP-OA).
-    origin: Address,
-    /// Its time stamp (TP-SCTS).
-    stamp: Stamp,
-    /// Its place among the segments of its message, if it is one.
-    concat: Option<Concat>,
-    units: Units,
-}
-
-/// The place of a segment that the header tells, if there is one and it tells one.
-fn concat_of(header: &Option<HeaderView<'_>>) -> Option<Concat>
-    ensures { IsPlace result }
-{
-    match header {
-        None => None,
-        Some(header) => header.concat(),
-    }
-}
-
-/// The piece that an SMS-DELIVER has.
-fn piece_of(alloc: Global, octets: &[u8]) -> Result<Piece, Fault>
-    ensures { IfOk result (λ piece. IsPlace piece.concat) }
-{
-    let (deliver, _) = DeliverView::read(octets)?;
-    let concat = concat_of(deliver.user.header());
-    let alphabet = alphabet_of(deliver.dcs);
-    let Some(units) = Units::of_body_view(alloc, alphabet, &deliver.user.body())? else {
-        return Err(Fault::NoText);
-    };
-    Ok(Piece {
-        origin: deliver.origin.to_value(alloc)?,
-        stamp: deliver.stamp,
-        concat,
-        units,
-    })
-}
-
-/// The octets after the address of a service centre.
-fn after_centre(octets: &[u8]) -> Result<&[u8], Fault> {
-    let (_, used) = RpAddressView::read(octets).map_err(centre_fault)?;
-    Ok(&octets[used..])
-}
-
-/// The piece that a line of digits has. Where there is none, the layer is the one at fault.
-fn piece_in(
-    alloc: Global,
-    line: Result<&[u8], Fault>,
-    room: &mut Vec<u8>,
-    has_centre: bool,
-    layer: &mut Layer,
-) -> Result<Piece, Fault>
-    ensures { IfOk result (λ piece. IsPlace piece.concat) }
-{
-    let octets = read_octets(room, line?, true)?;
-    if !has_centre {
-        *layer = Layer::Unit;
-        return piece_of(alloc, octets);
-    }
-    *layer = Layer::Centre;
-    let unit = after_centre(octets)?;
-    *layer = Layer::Unit;
-    piece_of(alloc, unit)
-}
+/// The stamp of a piece that has none: no set is known by it.
+const NO_STAMP: [u8; 7] = [0; 7];
 
 /// Joins the units of lines.
 #[derive(Drop)]
 struct Joining {
     alloc: Global,
-    has_centre: bool,
+    /// How lines have their pieces.
+    pieces: Pieces,
     form: Form,
     is_verbose: bool,
     joiner: Joiner,
-    /// The sets that the joiner has open.
-    open: OpenTexts,
     /// The clock that the stamps set.
     clock: Clock,
     /// What is lost so far.
@@ -160,51 +91,42 @@ impl Joining {
         let before = self.clock.time;
         self.clock.take(origin, moment);
         let now = self.clock.time;
-        if now <= before || !self.open.has_old(now) {
+        if now <= before {
             return Ok(());
         }
+        let told = self.tell_old(now, page);
         let count = self.joiner.open_count();
         self.joiner.age(now);
         self.losses
             .drop_sets(count.saturating_sub(self.joiner.open_count()));
-        self.drop_old(now, page)
+        told
     }
 
-    /// Tells the sets that are old at a moment, and forgets them.
-    fn drop_old(&mut self, now: u64, page: &mut Page) -> Result<(), Fault> {
-        if self.is_verbose {
-            self.open.gather(now);
-            self.tell_old(now, page)?;
-        }
-        self.open.age(now);
-        Ok(())
-    }
-
-    /// Tells the sets that are old at a moment, which come first, in the order of opening.
+    /// Tells the sets that are old at a moment, where that is asked for, in order of opening.
     fn tell_old(&self, now: u64, page: &mut Page) -> Result<(), Fault> {
-        let mut next = self.open.first();
-        for _ in 0..self.open.count() {
-            let Some((place, text)) = next else {
+        if !self.is_verbose {
+            return Ok(());
+        }
+        let mut next = self.joiner.old_from(0, now);
+        for _ in 0..self.joiner.open_count() {
+            let Some(set) = next else {
                 break;
             };
-            if !text.is_old(now) {
-                break;
-            }
-            put_open(self.alloc, self.form, "dropped", place, text, page)?;
-            next = self.open.after(text);
+            put_open(self.alloc, self.form, "dropped", &set, page)?;
+            next = self.joiner.old_from(set.turn().saturating_add(1), now);
         }
         Ok(())
     }
 
-    /// Tells all sets, the one first that was opened first.
+    /// Tells all sets, in order of opening.
     fn tell_open(&self, page: &mut Page) -> Result<(), Fault> {
-        let mut next = self.open.first();
-        for _ in 0..self.open.count() {
-            let Some((place, text)) = next else {
+        let mut next = self.joiner.open_from(0);
+        for _ in 0..self.joiner.open_count() {
+            let Some(set) = next else {
                 break;
             };
-            put_open(self.alloc, self.form, "open", place, text, page)?;
-            next = self.open.after(text);
+            put_open(self.alloc, self.form, "open", &set, page)?;
+            next = self.joiner.open_from(set.turn().saturating_add(1));
         }
         Ok(())
     }
@@ -238,40 +160,55 @@ impl Joining {
             concat,
             units,
         } = piece;
-        let opening = self.clock.opening(moment);
-        let now = opening.moment;
+        let now = self.clock.opening(moment);
+        let stamp = stamp.unwrap_or(Stamp::new(NO_STAMP));
         match self.joiner.offer(now, &origin, stamp, concat, units) {
             Ok(Offer::Finished(text)) => {
                 put_text(self.alloc, self.form, &origin, moment, &text, page)?;
                 drop(text);
-                self.open.close(origin, concat);
             }
-            Ok(Offer::Kept) => self.open.keep(self.alloc, origin, concat, opening)?,
-            Ok(Offer::Repeat) => {
-                drop(origin);
-                self.tell(number, "repeat", page);
-            }
-            Err(OfferFault::TooManyOpen) => {
-                drop(origin);
-                self.turn_away(number, page);
-            }
-            Err(OfferFault::Memory) => {
-                drop(origin);
-                return Err(Fault::Memory);
-            }
+            Ok(Offer::Kept) => {}
+            Ok(Offer::Repeat) => self.tell(number, "repeat", page),
+            Err(OfferFault::TooManyOpen) => self.turn_away(number, page),
+            Err(OfferFault::Memory) => return Err(Fault::Memory),
         }
         Ok(())
+    }
+
+    /// Adds the text of a message in one piece that has no stamp, by which a repeat would be known.
+    fn pass(&mut self, piece: Piece, page: &mut Page) -> Result<(), Fault> {
+        let Piece { origin, units, .. } = piece;
+        let text = read_units(self.alloc, &[units])?;
+        put_text(self.alloc, self.form, &origin, None, &text, page)
     }
 
     /// Takes a piece, after what is old at its moment is dropped.
     fn take_piece(&mut self, number: u64, piece: Piece, page: &mut Page) -> Result<(), Fault>
         requires { IsPlace piece.concat }
     {
-        let moment = piece.stamp.moment();
+        if piece.stamp.is_none() && piece.concat.is_none() {
+            return self.pass(piece, page);
+        }
+        let moment = piece.stamp.and_then(|stamp| stamp.moment());
         let gone = self.go_on(&piece.origin, moment, page);
         let offered = self.offer(number, piece, moment, page);
         gone?;
         offered
+    }
+
+    /// Takes a piece, if a line has one.
+    fn take_found(
+        &mut self,
+        number: u64,
+        found: Option<Piece>,
+        page: &mut Page,
+    ) -> Result<(), Fault>
+        requires { IfSome found (λ piece. IsPlace piece.concat) }
+    {
+        match found {
+            Some(piece) => self.take_piece(number, piece, page),
+            None => Ok(()),
+        }
     }
 }
 
@@ -310,82 +247,6 @@ fn put_values(page: &mut Page, moment: Moment, from: Party<'_>, text: &str) {
     page.put_one(b'\n');
 }
 
-/// A set of segments that is not whole.
-struct OpenSet<'a, 'b, 'c> {
-    from: Party<'a>,
-    place: &'b Place,
-    text: &'c OpenText,
-}
-
-impl Drop for OpenSet<'_, '_, '_> {
-    fn drop(self) {
-        let OpenSet {
-            from: _,
-            place: _,
-            text: _,
-        } = self;
-    }
-}
-
-impl Printed for OpenSet<'_, '_, '_> {
-    fn plain(&self, page: &mut Page) {
-        self.from.plain(page);
-        for number in [
-            bits_of(self.place.width),
-            u64::from(self.place.reference),
-            u64::from(self.place.maximum),
-        ] {
-            page.put_one(b' ');
-            page.put_decimal(number);
-        }
-        page.put(b" missing");
-        for sequence in 1..=self.place.maximum {
-            if !self.text.has(sequence) {
-                page.put_one(b' ');
-                page.put_decimal(u64::from(sequence));
-            }
-        }
-    }
-
-    fn json(&self, object: &mut Object) {
-        object.open();
-        object.name("origin");
-        self.from.json(object);
-        object.number_named("width", bits_of(self.place.width));
-        object.number_named("reference", u64::from(self.place.reference));
-        object.number_named("maximum", u64::from(self.place.maximum));
-        object.name("missing");
-        object.open_list();
-        for sequence in 1..=self.place.maximum {
-            if !self.text.has(sequence) {
-                object.number(u64::from(sequence));
-            }
-        }
-        object.close_list();
-        object.close();
-    }
-}
-
-/// Adds a set that is not whole: what its segments share, and which are missing.
-fn put_open(
-    alloc: Global,
-    form: Form,
-    name: &str,
-    place: &Place,
-    text: &OpenText,
-    page: &mut Page,
-) -> Result<(), Fault>
-    requires { list_all (is_plain 34) name.now ≡ true }
-{
-    let party = AddressText::of(alloc, &place.origin)?;
-    let from = Party::new(party.as_str(), Numbering::of(&place.origin));
-    let mut lines = Lines::new(form, page.take(alloc));
-    lines.put(name, OpenSet { from, place, text });
-    *page = lines.finish();
-    drop(party);
-    Ok(())
-}
-
 impl Taker for Joining {
     fn take(
         &mut self,
@@ -395,8 +256,8 @@ impl Taker for Joining {
     ) -> Result<(), Fault> {
         let mut layer = Layer::Digits;
         let room = &mut self.room;
-        match piece_in(self.alloc, line, room, self.has_centre, &mut layer) {
-            Ok(piece) => self.take_piece(number, piece, page),
+        match self.pieces.take(self.alloc, line, room, &mut layer) {
+            Ok(found) => self.take_found(number, found, page),
             Err(fault) if fault.is_of_input() => self.tell_fault(number, layer, &fault, page),
             Err(fault) => Err(fault),
         }
@@ -408,8 +269,23 @@ impl Taker for Joining {
     }
 
     fn finish(&mut self, page: &mut Page) -> Result<(), Fault> {
-        self.open.gather(u64::MAX);
         self.tell_open(page)
+    }
+}
+
+/// A joiner that holds nothing, whose tables hash with a seed or without.
+fn joiner_of(
+    alloc: Global,
+    open_max: usize,
+    remembered: usize,
+    seed: Option<u128>,
+) -> Result<Joiner, AllocError>
+    requires sets { 0 < open_max }
+    requires keys { 0 < remembered }
+{
+    match seed {
+        Some(seed) => Joiner::with_seed(alloc, open_max, remembered, seed),
+        None => Joiner::new(alloc, open_max, remembered),
     }
 }
 
@@ -418,20 +294,23 @@ impl Taker for Joining {
 pub fn join<R: Read, W: Write, N: Write>(
     alloc: Global,
     joined: Joined,
+    seed: Option<u128>,
     input: &mut R,
     output: &mut W,
     notes: &mut N,
 ) -> Result<Done, Fault> {
+    let Some(pieces) = joined.pieces else {
+        return Err(Fault::WrongOption);
+    };
     if joined.open == 0 || joined.remembered == 0 {
         return Err(Fault::WrongOption);
     }
     let mut joining = Joining {
         alloc,
-        has_centre: joined.has_centre,
+        pieces,
         form: joined.form,
         is_verbose: joined.is_verbose,
-        joiner: Joiner::new(alloc, joined.open, joined.remembered)?,
-        open: OpenTexts::new(alloc),
+        joiner: joiner_of(alloc, joined.open, joined.remembered, seed)?,
         clock: Clock::new(),
         losses: Losses::none(),
         room: Vec::new(alloc),

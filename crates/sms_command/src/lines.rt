@@ -39,6 +39,10 @@ pub enum Layer {
     Relay,
     /// A transfer unit.
     Unit,
+    /// A record of a card.
+    Record,
+    /// User data alone.
+    Data,
 }
 
 impl Layer {
@@ -52,6 +56,8 @@ impl Layer {
             Layer::Connection => "cp",
             Layer::Relay => "rp",
             Layer::Unit => "unit",
+            Layer::Record => "record",
+            Layer::Data => "data",
         }
     }
 }

@@ -19,7 +19,7 @@ use sms_tpdu::{BodyView, DeliverView, HeaderView, SubmitView, UserDataView};
 use std::alloc::{AllocError, Global};
 
 /// The lines of a header: its octets, and the concatenation that it tells.
-fn put_header(lines: &mut Lines, header: &HeaderView<'_>) {
+pub fn put_header(lines: &mut Lines, header: &HeaderView<'_>) {
     if !header.as_slice().is_empty() {
         lines.put("header", HeaderText(header));
     }
@@ -59,7 +59,7 @@ fn put_body(
 }
 
 /// The lines of user data.
-fn put_user(
+pub fn put_user(
     alloc: Global,
     lines: &mut Lines,
     dcs: u8,
@@ -126,15 +126,24 @@ fn put_deliver_front(lines: &mut Lines, deliver: &DeliverView<'_>) {
     lines.put("reply", Answer(deliver.reply));
 }
 
-/// Writes the fields of an SMS-DELIVER.
-fn show_deliver(alloc: Global, octets: &[u8], lines: &mut Lines) -> Result<(), Fault> {
-    let (deliver, used) = DeliverView::read(octets)?;
-    put_deliver_front(lines, &deliver);
+/// The lines of an SMS-DELIVER.
+pub fn put_deliver(
+    alloc: Global,
+    lines: &mut Lines,
+    deliver: &DeliverView<'_>,
+) -> Result<(), Fault> {
+    put_deliver_front(lines, deliver);
     put_party(alloc, lines, "from", &deliver.origin)?;
     lines.put("pid", Octet(deliver.pid));
     lines.put("dcs", Octet(deliver.dcs));
     lines.put("stamp", StampText(deliver.stamp));
-    put_user(alloc, lines, deliver.dcs, &deliver.user)?;
+    put_user(alloc, lines, deliver.dcs, &deliver.user)
+}
+
+/// Writes the fields of an SMS-DELIVER.
+fn show_deliver(alloc: Global, octets: &[u8], lines: &mut Lines) -> Result<(), Fault> {
+    let (deliver, used) = DeliverView::read(octets)?;
+    put_deliver(alloc, lines, &deliver)?;
     lines.put_rest(octets.len() - used);
     Ok(())
 }
@@ -148,15 +157,20 @@ fn put_submit_front(lines: &mut Lines, submit: &SubmitView<'_>) {
     lines.put("reference", Octet(submit.reference));
 }
 
-/// Writes the fields of an SMS-SUBMIT.
-fn show_submit(alloc: Global, octets: &[u8], lines: &mut Lines) -> Result<(), Fault> {
-    let (submit, used) = SubmitView::read(octets)?;
-    put_submit_front(lines, &submit);
+/// The lines of an SMS-SUBMIT.
+pub fn put_submit(alloc: Global, lines: &mut Lines, submit: &SubmitView<'_>) -> Result<(), Fault> {
+    put_submit_front(lines, submit);
     put_party(alloc, lines, "to", &submit.target)?;
     lines.put("pid", Octet(submit.pid));
     lines.put("dcs", Octet(submit.dcs));
     lines.put("validity", ValidityText(submit.validity));
-    put_user(alloc, lines, submit.dcs, &submit.user)?;
+    put_user(alloc, lines, submit.dcs, &submit.user)
+}
+
+/// Writes the fields of an SMS-SUBMIT.
+fn show_submit(alloc: Global, octets: &[u8], lines: &mut Lines) -> Result<(), Fault> {
+    let (submit, used) = SubmitView::read(octets)?;
+    put_submit(alloc, lines, &submit)?;
     lines.put_rest(octets.len() - used);
     Ok(())
 }

@@ -1,11 +1,13 @@
 //! Units that are shown, one or many.
 
+use crate::alone::show_alone;
 use crate::digits::read_octets;
 use crate::fault::Fault;
 use crate::kinds::kind_told;
 use crate::lines::{Form, Layer, Lines};
 use crate::many::{Taker, take_lines};
 use crate::printed::Number;
+use crate::records::show_record;
 use crate::relay::{show_cp, show_rp};
 use crate::show::{show_centre, show_unit};
 use crate::words::{Kind, Shown};
@@ -52,6 +54,14 @@ fn put_kind(
         Kind::Cp => {
             lines.begin(Layer::Connection);
             show_cp(alloc, shown.any, octets, lines)
+        }
+        Kind::Record => {
+            lines.begin(Layer::Record);
+            show_record(alloc, octets, lines)
+        }
+        Kind::Data => {
+            lines.begin(Layer::Data);
+            show_alone(alloc, shown.alone, octets, lines)
         }
     }
 }

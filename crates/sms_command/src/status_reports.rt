@@ -19,15 +19,25 @@ fn put_status_front(lines: &mut Lines, report: &StatusReportView<'_>) {
     lines.put("reference", Octet(report.reference));
 }
 
-/// Writes the fields of an SMS-STATUS-REPORT.
-pub fn show_status_report(alloc: Global, octets: &[u8], lines: &mut Lines) -> Result<(), Fault> {
-    let (report, used) = StatusReportView::read(octets)?;
-    put_status_front(lines, &report);
+/// The lines of an SMS-STATUS-REPORT.
+pub fn put_status_report(
+    alloc: Global,
+    lines: &mut Lines,
+    report: &StatusReportView<'_>,
+) -> Result<(), Fault> {
+    put_status_front(lines, report);
     put_party(alloc, lines, "recipient", &report.recipient)?;
     lines.put("stamp", StampText(report.stamp));
     lines.put("discharged", StampText(report.discharged));
     lines.put("status", StatusText(report.status));
     put_parts(lines, report.pid, report.dcs, &report.user);
+    Ok(())
+}
+
+/// Writes the fields of an SMS-STATUS-REPORT.
+pub fn show_status_report(alloc: Global, octets: &[u8], lines: &mut Lines) -> Result<(), Fault> {
+    let (report, used) = StatusReportView::read(octets)?;
+    put_status_report(alloc, lines, &report)?;
     lines.put_rest(octets.len() - used);
     Ok(())
 }
@@ -43,14 +53,20 @@ fn put_command_front(lines: &mut Lines, view: &CommandView<'_>) {
     lines.put("message", Octet(view.message));
 }
 
-/// Writes the fields of an SMS-COMMAND.
-pub fn show_command(alloc: Global, octets: &[u8], lines: &mut Lines) -> Result<(), Fault> {
-    let (view, used) = CommandView::read(octets)?;
-    put_command_front(lines, &view);
+/// The lines of an SMS-COMMAND.
+pub fn put_command(alloc: Global, lines: &mut Lines, view: &CommandView<'_>) -> Result<(), Fault> {
+    put_command_front(lines, view);
     put_party(alloc, lines, "recipient", &view.target)?;
     let added = view.octets.as_slice();
     lines.put("length", added.len());
     lines.put("data", Hexadecimal(added));
+    Ok(())
+}
+
+/// Writes the fields of an SMS-COMMAND.
+pub fn show_command(alloc: Global, octets: &[u8], lines: &mut Lines) -> Result<(), Fault> {
+    let (view, used) = CommandView::read(octets)?;
+    put_command(alloc, lines, &view)?;
     lines.put_rest(octets.len() - used);
     Ok(())
 }

@@ -1,9 +1,11 @@
 //! What the words of a command line ask for.
 
 use crate::lines::Form;
+use crate::piece::Pieces;
 use clap::builder::ValueParser;
 use clap::error::ErrorKind;
 use clap::{Arg, ArgAction, ArgMatches, Command, Error, value_parser};
+use sms_national::Language;
 use std::alloc::{AllocError, Global};
 use std::convert::AsStr;
 
@@ -56,6 +58,35 @@ pub enum Kind {
     Any,
     Rp,
     Cp,
+    /// A record of a card.
+    Record,
+    /// User data alone.
+    Data,
+}
+
+/// What is told of user data alone. What is `None` was not given.
+#[derive(Clone, Copy)]
+pub struct Alone<'a> {
+    /// The data coding scheme (TP-DCS) in hexadecimal.
+    pub dcs: Option<&'a str>,
+    /// Whether a header comes first.
+    pub has_header: bool,
+    /// Whether septets stand one an octet.
+    pub are_singles: bool,
+    /// The length that a unit has before them (TP-UDL).
+    pub length: Option<u8>,
+}
+
+impl Alone<'_> {
+    /// Whether nothing is told.
+    fn is_empty(&self) -> bool {
+        self.dcs.is_none() && !self.has_header && !self.are_singles && self.length.is_none()
+    }
+
+    /// Whether too little or too much is told of user data.
+    fn is_wrong(&self) -> bool {
+        self.dcs.is_none() || (self.are_singles && self.length.is_some())
+    }
 }
 
 /// A kind of unit that has a text.
@@ -86,16 +117,25 @@ pub struct Shown<'a> {
     pub any: bool,
     /// Whether texts are read under the national language tables that their headers tell.
     pub heeds_languages: bool,
+    /// What is told of user data alone.
+    pub alone: Alone<'a>,
 }
 
 impl Shown<'_> {
-    /// Whether an option was given that the kind does not have.
+    /// Whether an option was given that the kind does not have, or one is missing that it wants.
     pub fn has_wrong_option(&self) -> bool {
         match self.kind {
-            Kind::Unit(_) => self.any || self.sender.is_some(),
-            Kind::Any => self.any,
-            Kind::Rp | Kind::Cp => self.sender.is_some(),
+            Kind::Unit(_) => self.any || self.sender.is_some() || !self.alone.is_empty(),
+            Kind::Any => self.any || !self.alone.is_empty(),
+            Kind::Rp | Kind::Cp => self.sender.is_some() || !self.alone.is_empty(),
+            Kind::Record => self.is_of_unit() || !self.alone.is_empty(),
+            Kind::Data => self.is_of_unit() || self.alone.is_wrong(),
         }
+    }
+
+    /// Whether an option was given that only a unit or what carries one has.
+    fn is_of_unit(&self) -> bool {
+        self.any || self.sender.is_some() || self.has_centre
     }
 }
 
@@ -145,13 +185,45 @@ pub struct LongText<'a> {
     pub reference: u16,
     /// How the segments are written.
     pub form: Form,
+    /// By which national language tables the text may be cut.
+    pub languages: Languages,
+    /// Whether each segment is told as user data alone, with what tells how they are read.
+    pub is_data: bool,
+    /// Whether septets stand one an octet.
+    pub is_single: bool,
+}
+
+/// By which national language tables a text may be cut.
+#[derive(Clone, Copy)]
+pub enum Languages {
+    /// By none.
+    None,
+    /// By those of a language.
+    One(Language),
+    /// By those of every language.
+    All,
+}
+
+/// What a line has that is joined.
+#[derive(Clone, Copy, Debug, PartialEq, Eq)]
+pub enum Carried {
+    /// An SMS-DELIVER.
+    Unit,
+    /// The address of a service centre, and an SMS-DELIVER.
+    Centre,
+    /// A record of a card.
+    Record,
+    /// User data alone, septets packed.
+    Data,
+    /// User data alone, septets one an octet.
+    Septets,
 }
 
 /// How units are joined.
 #[derive(Clone, Copy)]
 pub struct Joined {
-    /// Whether the address of a service centre comes first.
-    pub has_centre: bool,
+    /// How lines have their pieces; none where the options say two ways.
+    pub pieces: Option<Pieces>,
     /// How many sets of segments may be open.
     pub open: usize,
     /// How many that are whole are remembered.
@@ -258,8 +330,10 @@ static SUBCOMMANDS: [Subcommand; 6] = [
                     "rp",
                     "cp",
                     "any",
+                    "record",
+                    "data",
                 ]),
-                help: "What the octets are; any: what the first octet tells",
+                help: "What the octets are; any: what the first octet tells; record: of a card; data: user data alone",
             },
             Word {
                 name: "HEX",
@@ -300,6 +374,26 @@ static SUBCOMMANDS: [Subcommand; 6] = [
                 name: "languages",
                 form: WordForm::Flag,
                 help: "Texts are read under the national language tables that their headers tell",
+            },
+            Word {
+                name: "dcs",
+                form: WordForm::Value("XX"),
+                help: "data: TP-DCS in hexadecimal, which must be given",
+            },
+            Word {
+                name: "header",
+                form: WordForm::Flag,
+                help: "data: a header comes first",
+            },
+            Word {
+                name: "septets",
+                form: WordForm::Flag,
+                help: "data: septets stand one an octet",
+            },
+            Word {
+                name: "udl",
+                form: WordForm::Octet,
+                help: "data: TP-UDL; else as many septets as fit whole, or all octets",
             },
         ],
         example: None,
@@ -401,6 +495,21 @@ static SUBCOMMANDS: [Subcommand; 6] = [
                 help: "The concatenation reference: to 255, with --wide to 65535; 0 unless given",
             },
             Word {
+                name: "language",
+                form: WordForm::Choice(&["turkish", "spanish", "portuguese", "auto"]),
+                help: "National language tables are used where they take fewer segments; auto: of any language",
+            },
+            Word {
+                name: "data",
+                form: WordForm::Flag,
+                help: "Each segment as user data alone: the coding scheme, whether a header stands in front, the length, the octets",
+            },
+            Word {
+                name: "septets",
+                form: WordForm::Flag,
+                help: "--data: septets stand one an octet",
+            },
+            Word {
                 name: "json",
                 form: WordForm::Flag,
                 help: "A line has an object in JSON for each segment",
@@ -416,6 +525,26 @@ static SUBCOMMANDS: [Subcommand; 6] = [
                 name: "sca",
                 form: WordForm::Flag,
                 help: "The address of a service centre comes first",
+            },
+            Word {
+                name: "record",
+                form: WordForm::Flag,
+                help: "Each line is a record of a card; what is no SMS-DELIVER there is passed over",
+            },
+            Word {
+                name: "data",
+                form: WordForm::Flag,
+                help: "A line has user data alone: ORIGIN DCS HEADER HEX, HEADER 1 where one stands in front, else 0",
+            },
+            Word {
+                name: "septets",
+                form: WordForm::Flag,
+                help: "--data: septets stand one an octet",
+            },
+            Word {
+                name: "languages",
+                form: WordForm::Flag,
+                help: "Texts are read under the national language tables that their headers tell",
             },
             Word {
                 name: "open",
@@ -546,6 +675,8 @@ fn kind_of(word: &str) -> Option<Kind> {
         "command" => Some(Kind::Unit(UnitKind::Command)),
         "rp" => Some(Kind::Rp),
         "cp" => Some(Kind::Cp),
+        "record" => Some(Kind::Record),
+        "data" => Some(Kind::Data),
         _ => None,
     }
 }
@@ -577,6 +708,16 @@ fn form_found(found: &ArgMatches<'_>) -> Form {
     }
 }
 
+/// What is told of user data alone.
+fn alone_found<'a>(found: &ArgMatches<'a>) -> Alone<'a> {
+    Alone {
+        dcs: found.get_str("dcs"),
+        has_header: found.get_flag("header"),
+        are_singles: found.get_flag("septets"),
+        length: found.get_one::<u8>("udl"),
+    }
+}
+
 /// What is shown, or `None` where its kind is unknown.
 fn shown_of<'a>(found: &ArgMatches<'a>) -> Option<Request<'a>> {
     Some(Request::Show(Shown {
@@ -589,6 +730,7 @@ fn shown_of<'a>(found: &ArgMatches<'a>) -> Option<Request<'a>> {
         is_explained: found.get_flag("explain"),
         any: found.get_flag("any"),
         heeds_languages: found.get_flag("languages"),
+        alone: alone_found(found),
     }))
 }
 
@@ -612,6 +754,17 @@ fn draft_of<'a>(found: &ArgMatches<'a>) -> Option<Request<'a>> {
     }))
 }
 
+/// The national language tables that a word names.
+fn languages_of(word: Option<&str>) -> Languages {
+    match word {
+        Some("turkish") => Languages::One(Language::Turkish),
+        Some("spanish") => Languages::One(Language::Spanish),
+        Some("portuguese") => Languages::One(Language::Portuguese),
+        Some(_) => Languages::All,
+        None => Languages::None,
+    }
+}
+
 /// What is split.
 fn long_text_of<'a>(found: &ArgMatches<'a>) -> Option<Request<'a>> {
     Some(Request::Split(LongText {
@@ -619,13 +772,49 @@ fn long_text_of<'a>(found: &ArgMatches<'a>) -> Option<Request<'a>> {
         wide: found.get_flag("wide"),
         reference: found.get_one::<u16>("ref").unwrap_or(0),
         form: form_found(found),
+        languages: languages_of(found.get_str("language")),
+        is_data: found.get_flag("data"),
+        is_single: found.get_flag("septets"),
     }))
+}
+
+/// What a line with user data alone has; none where the options say two things.
+fn data_carried(found: &ArgMatches<'_>) -> Option<Carried> {
+    if found.get_flag("sca") || found.get_flag("record") {
+        return None;
+    }
+    Some(if found.get_flag("septets") {
+        Carried::Septets
+    } else {
+        Carried::Data
+    })
+}
+
+/// What a line has that is joined; none where the options say two things.
+fn carried_of(found: &ArgMatches<'_>) -> Option<Carried> {
+    if found.get_flag("data") {
+        return data_carried(found);
+    }
+    match (
+        found.get_flag("sca"),
+        found.get_flag("record"),
+        found.get_flag("septets"),
+    ) {
+        (false, false, false) => Some(Carried::Unit),
+        (true, false, false) => Some(Carried::Centre),
+        (false, true, false) => Some(Carried::Record),
+        _ => None,
+    }
 }
 
 /// How units are joined.
 fn joined_of<'a>(found: &ArgMatches<'_>) -> Option<Request<'a>> {
+    let heeds_languages = found.get_flag("languages");
     Some(Request::Join(Joined {
-        has_centre: found.get_flag("sca"),
+        pieces: carried_of(found).map(|carried| Pieces {
+            carried,
+            heeds_languages,
+        }),
         open: found.get_one::<usize>("open").unwrap_or(16),
         remembered: found.get_one::<usize>("remembered").unwrap_or(32),
         form: form_found(found),

@@ -4,11 +4,15 @@
 #[cfg(test)]
 mod accepted;
 #[cfg(test)]
+mod alone;
+#[cfg(test)]
 mod arrivals;
 #[cfg(test)]
 mod charts;
 #[cfg(test)]
 mod clocks;
+#[cfg(test)]
+mod data_lines;
 #[cfg(test)]
 mod dated;
 #[cfg(test)]
@@ -38,6 +42,8 @@ mod lines;
 #[cfg(test)]
 mod made;
 #[cfg(test)]
+mod nationals;
+#[cfg(test)]
 mod notes;
 #[cfg(test)]
 mod objects;
@@ -54,11 +60,15 @@ mod parts;
 #[cfg(test)]
 mod plays;
 #[cfg(test)]
+mod records;
+#[cfg(test)]
 mod relays;
 #[cfg(test)]
 mod reports;
 #[cfg(test)]
 mod rooms;
+#[cfg(test)]
+mod seeds;
 #[cfg(test)]
 mod splits;
 #[cfg(test)]

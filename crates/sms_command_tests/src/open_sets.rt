@@ -227,7 +227,7 @@ pub fn stamp_of(alloc: Global, moment: Option<u64>) -> Result<String, Fail> {
 }
 
 /// The line of a segment, whose sequence counts from 0.
-fn line_of(
+pub fn line_of(
     alloc: Global,
     reference: usize,
     sequence: usize,

@@ -98,14 +98,3 @@ ticked clock origin moment = after clock.standing clock.time origin moment
 -- the clock.
 abbrev pub opened_at : Clock → Option ℕ → ℕ
 opened_at clock moment = max (unwrap_or moment 0) clock.time
-
--- the clock rests on the first origin alone
-abbrev pub is_first : Standing → Bool
-is_first Unset = false
-is_first (First first count) = true
-is_first Sure = false
-is_first (Ahead row) = false
-
--- A set is opened ahead of a clock, or at one that may go back.
-abbrev pub is_ahead : Clock → Option ℕ → Bool
-is_ahead clock moment = is_first clock.standing || nat_lt clock.time (opened_at clock moment)

@@ -2,7 +2,7 @@
 use Rattle.std.specs.Prelude.{◌≡◌, ℕ, ◌==◌, ◌&&◌, Bool, List, [], length, get_or, Option, Result, Ok, Err, ⊤, if◌then◌else◌}
 use Rattle.sms_page.specs.Hexadecimal.{octets_of}
 use Rattle.sms_command.specs.declared.fault.Fault.{Fault}
-use Rattle.sms_command.specs.declared.fault.Fault.TheVariants.{Unit, Message, WrongOption, ReferenceTooLarge, BadHex, BadStamp, BadAddress, TextTooLong, TooManySegments, Play, NoText, LineTooLong, Read, Write, Memory}
+use Rattle.sms_command.specs.declared.fault.Fault.TheVariants.{Unit, Message, WrongOption, ReferenceTooLarge, BadHex, Record, Septets, BadScheme, BadLine, BadStamp, BadAddress, TextTooLong, TooManySegments, Play, NoText, LineTooLong, Read, Write, Memory}
 
 -- a hyphen, which says no octets
 abbrev pub is_hyphen : List ℕ → Bool
@@ -19,6 +19,10 @@ Tells (Message fault) said = ⊥
 Tells WrongOption said = ⊥
 Tells ReferenceTooLarge said = ⊥
 Tells (BadHex spot) said = said ≡ Err spot.place
+Tells (Record fault) said = ⊥
+Tells (Septets fault) said = ⊥
+Tells BadScheme said = ⊥
+Tells BadLine said = ⊥
 Tells BadStamp said = ⊥
 Tells (BadAddress spot) said = ⊥
 Tells TextTooLong said = ⊥

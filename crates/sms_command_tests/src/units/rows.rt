@@ -356,7 +356,7 @@ pub static WHOLE_WORDS: [Explained; 8] = [
     Explained {
         words: &["sms", "show", "-h"],
         status: 0,
-        part: "[possible values: deliver, submit, submit-ack, submit-error, deliver-ack, deliver-error, status-report, command, rp, cp, any]",
+        part: "[possible values: deliver, submit, submit-ack, submit-error, deliver-ack, deliver-error, status-report, command, rp, cp, any, record, data]",
     },
     Explained {
         words: &["sms", "encode", "--help"],
