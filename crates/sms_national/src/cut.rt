@@ -71,7 +71,8 @@ pub fn cut_under(
         (septets_under tables (chars text.now) ≡ None)
         (λ cut. (cut.tables ≡ tables) × (cut.width ≡ width)
         × IsCutUnder width tables (chars text.now) cut.pieces)) }
-    ensures few { IfOk result (λ found. IfSome found (λ cut. length cut.pieces ≤ SEGMENTS_MAX)) }
+    ensures few { IfOk result (λ found.
+        IfSome found (λ cut. length cut.pieces ≤ SEGMENTS_MAX)) }
     ensures too_many { result ≡ Err TooManySegments
         → (pieces : List (List ℕ)) × IsCutUnder width tables (chars text.now) pieces
         × (SEGMENTS_MAX < length pieces) }
