@@ -637,9 +637,16 @@ fn form_of<'a>(arg: Arg<'a>, word: &Word) -> Arg<'a> {
     }
 }
 
-/// A subcommand with its words.
-fn subcommand_of<'a>(alloc: Global, sub: &Subcommand) -> Result<Command<'a>, AllocError> {
+/// A subcommand, with its words where it is named.
+fn subcommand_of<'a>(
+    alloc: Global,
+    sub: &Subcommand,
+    is_named: bool,
+) -> Result<Command<'a>, AllocError> {
     let mut command = Command::new(alloc, sub.name).about(sub.about);
+    if !is_named {
+        return Ok(command);
+    }
     if let Some(example) = sub.example {
         command = command.after_help(example);
     }
@@ -649,14 +656,21 @@ fn subcommand_of<'a>(alloc: Global, sub: &Subcommand) -> Result<Command<'a>, All
     Ok(command)
 }
 
-/// The command with its subcommands.
-fn whole_command<'a>(alloc: Global) -> Result<Command<'a>, AllocError> {
+/// Whether a word is the name of a subcommand.
+fn is_named<S: AsStr>(words: &[S], sub: &Subcommand) -> bool {
+    words.iter().any(|word| word.as_str() == sub.name)
+}
+
+/// The command with its subcommands. Those that no word names have no words of their own, which
+/// nothing would ask for.
+fn whole_command<'a, S: AsStr>(alloc: Global, words: &[S]) -> Result<Command<'a>, AllocError> {
     let mut command = Command::new(alloc, "sms")
         .about("Reads and writes short messages")
         .version(VERSION)
         .subcommand_required(true);
     for sub in SUBCOMMANDS.as_slice() {
-        command = command.subcommand(subcommand_of(alloc, sub)?)?;
+        let named = is_named(words, sub);
+        command = command.subcommand(subcommand_of(alloc, sub, named)?)?;
     }
     Ok(command)
 }
@@ -862,6 +876,6 @@ fn asked_of<'a, S: AsStr>(command: &mut Command<'a>, words: &'a [S]) -> Result<R
 
 /// What the words ask for, the program's name first.
 pub fn parse_words<'a, S: AsStr>(alloc: Global, words: &'a [S]) -> Result<Request<'a>, Error> {
-    let mut command = whole_command(alloc)?;
+    let mut command = whole_command(alloc, words)?;
     asked_of(&mut command, words)
 }
