@@ -1,0 +1,17 @@
+mod SeenKeys
+mod TakenFields
+mod Numbers
+mod Strings
+mod Items
+mod Keys
+mod Places
+mod Loop
+mod Sets
+mod Judged
+mod JudgedLoop
+mod Passed
+mod Noted
+mod LimitsRead
+mod Whole
+mod Told
+mod Changed

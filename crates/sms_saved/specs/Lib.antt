@@ -1,0 +1,6 @@
+pub mod Value
+pub mod Views
+pub mod Spelling
+pub mod Fits
+pub mod Reading
+pub mod Inside
