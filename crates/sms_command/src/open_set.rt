@@ -124,6 +124,13 @@ pub fn put_open(
             reference,
             ..
         } => put_told(alloc, form, name, origin, (*width, *reference), set, page),
+        Key::SegmentedTo {
+            origin,
+            width,
+            reference,
+            ..
+        } => put_told(alloc, form, name, origin, (*width, *reference), set, page),
         Key::Single { .. } => Ok(()),
+        Key::SingleTo { .. } => Ok(()),
     }
 }

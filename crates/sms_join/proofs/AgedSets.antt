@@ -3,23 +3,24 @@ use Rattle.std.proofs.Common.{◌≡◌, ℕ, ◌+◌, Bool, true, false, cond, 
 use Rattle.std.proofs.lemmas.Bool.{or_parts}
 use Rattle.std.proofs.lemmas.List.{append_assoc}
 use Rattle.std.specs.List.{filter}
+use Rattle.sms_join.specs.declared.age.Age.{Age}
 use Rattle.sms_join.specs.declared.key.Key.{Key}
 use Rattle.sms_join.specs.declared.units.Units.{Units}
 use Rattle.sms_join.specs.Key.{same_key, maximum_of}
 use Rattle.sms_join.specs.Piece.{Piece}
 use Rattle.sms_join.specs.Joiner.Sets.{opened_at}
-use Rattle.sms_join.specs.Joiner.Aging.{is_old, young}
+use Rattle.sms_join.specs.Joiner.Aging.{is_old_after, young}
 use Rattle.sms_join.specs.OpenSets.{SetValue, AreOpen, pieces_with, pieces_in, all_pieces, has_set}
 use Rattle.sms_join.proofs.Outcomes.{between}
 use Rattle.sms_join.proofs.OneSet.{open_of, opened_of}
 
 -- the set may stay open
-abbrev pub stays : ℕ → SetValue → Bool
-stays now s = not (leb (s.opened + 604800) now)
+abbrev pub stays : Age → SetValue → Bool
+stays age s = not (leb (s.opened + age.longest) age.now)
 
-abbrev Agree : (Key → Bool) → ℕ → List SetValue → Type 0
-Agree old now [] = Unit {0}
-Agree old now (s ∷ ss) = (old s.key ≡ leb (s.opened + 604800) now) × Agree old now ss
+abbrev Agree : (Key → Bool) → Age → List SetValue → Type 0
+Agree old age [] = Unit {0}
+Agree old age (s ∷ ss) = (old s.key ≡ leb (s.opened + age.longest) age.now) × Agree old age ss
 
 young_set : (old : Key → Bool) (k : Key) (opened : ℕ) (ns : List ℕ) (us : List Units) (rest : List Piece)
     → young old (pieces_with k opened ns us ++ rest) ≡ cond (old k) (young old rest) (pieces_with k opened ns us ++ young old rest)
@@ -41,33 +42,33 @@ young_set old k opened (n ∷ ns) (u ∷ us) rest = go (old k) (young_set old k 
     go true ih = ih
     go false ih = ap (λ l. record { key = k; maximum = maximum_of k; sequence = n; units = u; moment = opened } ∷ l) ih
 
-young_sets : (old : Key → Bool) (now : ℕ) (ss : List SetValue) → Agree old now ss → young old (all_pieces ss) ≡ all_pieces (filter (stays now) ss)
-young_sets old now [] h = refl
-young_sets old now (s ∷ ss) h =
+young_sets : (old : Key → Bool) (age : Age) (ss : List SetValue) → Agree old age ss → young old (all_pieces ss) ≡ all_pieces (filter (stays age) ss)
+young_sets old age [] h = refl
+young_sets old age (s ∷ ss) h =
     young_set old s.key s.opened s.sequences s.units (all_pieces ss) ∙ (ap (λ b. cond b (young old (all_pieces ss)) (pieces_in s ++ young old (all_pieces ss))) h.0
-    ∙ go (leb (s.opened + 604800) now) (young_sets old now ss h.1))
+    ∙ go (leb (s.opened + age.longest) age.now) (young_sets old age ss h.1))
   where
-    go : (b : Bool) → young old (all_pieces ss) ≡ all_pieces (filter (stays now) ss)
+    go : (b : Bool) → young old (all_pieces ss) ≡ all_pieces (filter (stays age) ss)
         → cond b (young old (all_pieces ss)) (pieces_in s ++ young old (all_pieces ss))
-        ≡ all_pieces (cond (not b) (s ∷ filter (stays now) ss) (filter (stays now) ss))
+        ≡ all_pieces (cond (not b) (s ∷ filter (stays age) ss) (filter (stays age) ss))
     go true ih = ih
     go false ih = ap (λ l. pieces_in s ++ l) ih
 
-agree : (now : ℕ) (ls ss : List SetValue) → AreOpen (ls ++ ss) → Agree (is_old now (all_pieces (ls ++ ss))) now ss
-agree now ls [] o = tt
-agree now ls (s ∷ ss) o = (
+agree : (age : Age) (ls ss : List SetValue) → AreOpen (ls ++ ss) → Agree (is_old_after age.longest age.now (all_pieces (ls ++ ss))) age ss
+agree age ls [] o = tt
+agree age ls (s ∷ ss) o = (
   (let b = between ls s ss o in
-      ap (λ v. v && leb (opened_at (all_pieces (ls ++ s ∷ ss)) s.key + 604800) now) (open_of ls s ss b.open_set.is_set.as_many b.open_set.some)
-      ∙ ap (λ n. leb (n + 604800) now) (opened_of ls s ss b.before b.after b.open_set.is_set.as_many b.open_set.some)),
-  subst (λ l. Agree (is_old now (all_pieces l)) now ss) same (agree now (ls ++ s ∷ []) ss (subst AreOpen (sym same) o)),
+      ap (λ v. v && leb (opened_at (all_pieces (ls ++ s ∷ ss)) s.key + age.longest) age.now) (open_of ls s ss b.open_set.is_set.as_many b.open_set.some)
+      ∙ ap (λ n. leb (n + age.longest) age.now) (opened_of ls s ss b.before b.after b.open_set.is_set.as_many b.open_set.some)),
+  subst (λ l. Agree (is_old_after age.longest age.now (all_pieces l)) age ss) same (agree age (ls ++ s ∷ []) ss (subst AreOpen (sym same) o)),
 )
   where
     same : (ls ++ s ∷ []) ++ ss ≡ ls ++ s ∷ ss
     same = append_assoc ls (s ∷ []) ss
 
 -- what is kept are the pieces of the sets that may stay open
-pub sets_age : (now : ℕ) (ss : List SetValue) → AreOpen ss → all_pieces (filter (stays now) ss) ≡ young (is_old now (all_pieces ss)) (all_pieces ss)
-sets_age now ss o = sym (young_sets (is_old now (all_pieces ss)) now ss (agree now [] ss o))
+pub sets_age : (age : Age) (ss : List SetValue) → AreOpen ss → all_pieces (filter (stays age) ss) ≡ young (is_old_after age.longest age.now (all_pieces ss)) (all_pieces ss)
+sets_age age ss o = sym (young_sets (is_old_after age.longest age.now (all_pieces ss)) age ss (agree age [] ss o))
 
 has_fewer : (t : SetValue → Bool) (ss : List SetValue) (k : Key) → has_set ss k ≡ false → has_set (filter t ss) k ≡ false
 has_fewer t [] k h = refl

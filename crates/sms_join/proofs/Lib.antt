@@ -30,6 +30,8 @@ pub mod TextUnits
 pub mod SegmentTexts
 pub mod Sendable
 pub mod Places
+mod Placed
+mod PuttingBack
 pub mod RingPlaces
 pub mod RingChains
 pub mod RingTurns
@@ -41,7 +43,13 @@ pub mod RingRelinked
 pub mod KeyTags
 pub mod MostSets
 pub mod Swapped
+pub mod MetKeys
+pub mod KeptAged
+pub mod Offering
+pub mod FallingMoments
+pub mod InTimes
 pub mod Offers
+pub mod DistinctKeys
 pub mod Finishing
 pub mod Few
 pub mod Turns
@@ -56,3 +64,8 @@ pub mod Telling
 pub mod OldTold
 pub mod Since
 pub mod Walking
+pub mod ForRecipients
+pub mod OwnParts
+pub mod WithoutRecipients
+pub mod Gateways
+pub mod Recalled

@@ -14,7 +14,7 @@ use Rattle.sms_join.specs.declared.units.Units.{Units}
 use Rattle.sms_join.specs.declared.offer.Offer.TheVariants as offers
 use Rattle.sms_join.specs.declared.offer.OfferFault.TheVariants as faults
 use Rattle.sms_join.specs.Key.{same_key, maximum_of}
-use Rattle.sms_join.specs.Piece.{Piece, piece_of, key_of, size_of}
+use Rattle.sms_join.specs.Piece.{Piece, piece_to, key_to, size_of}
 use Rattle.sms_tpdu.specs.UserData.ConcatenationFound.{IsPlace}
 use Rattle.sms_join.specs.Joiner.Sets.{is_open}
 use Rattle.sms_join.specs.Joiner.{Joiner, Answer, Repeat, Kept, Finished, TooManyOpen, is_among, is_repeat, answer, offered}
@@ -33,13 +33,18 @@ use Rattle.sms_join.proofs.Places.{split_at, set_at, none_open}
 use Rattle.sms_join.proofs.Swapped.{Left, swapped}
 use Rattle.sms_join.proofs.Outcomes.{joiner_of, Between, between, are_open_without, are_open_with, are_open_more, says_repeat, InPlace, there_repeats, keeps_more, finishes_set, finishes_alone, opens_set, too_many}
 
-pub in_place : (now : ℕ) (origin : AddressValue) (stamp : List ℕ) (concat : Option Concat) (units : Units) → IsPlace concat → InPlace (piece_of now origin stamp concat units)
-in_place now origin stamp None units h = record { maximum = refl; from_one = omega arith; within = omega arith }
-in_place now origin stamp (Some c) units h = record { maximum = refl; from_one = h.0; within = h.1 }
+pub in_place : (now : ℕ) (to : Option AddressValue) (origin : AddressValue) (stamp : List ℕ) (concat : Option Concat) (units : Units) → IsPlace concat
+    → InPlace (piece_to now to origin stamp concat units)
+in_place now None origin stamp None units h = record { maximum = refl; from_one = omega arith; within = omega arith }
+in_place now None origin stamp (Some c) units h = record { maximum = refl; from_one = h.0; within = h.1 }
+in_place now (Some r) origin stamp None units h = record { maximum = refl; from_one = omega arith; within = omega arith }
+in_place now (Some r) origin stamp (Some c) units h = record { maximum = refl; from_one = h.0; within = h.1 }
 
-pub size_is : (origin : AddressValue) (stamp : List ℕ) (concat : Option Concat) → size_of concat ≡ maximum_of (key_of origin stamp concat)
-size_is origin stamp None = refl
-size_is origin stamp (Some c) = refl
+pub size_is : (to : Option AddressValue) (origin : AddressValue) (stamp : List ℕ) (concat : Option Concat) → size_of concat ≡ maximum_of (key_to to origin stamp concat)
+size_is None origin stamp None = refl
+size_is None origin stamp (Some c) = refl
+size_is (Some r) origin stamp None = refl
+size_is (Some r) origin stamp (Some c) = refl
 
 -- an answer that is said
 

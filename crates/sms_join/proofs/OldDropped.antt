@@ -3,8 +3,9 @@ use Rattle.std.proofs.Common.{◌≡◌, ℕ, zero, suc, ◌+◌, ◌≤◌, inl
 use Rattle.std.proofs.lemmas.Bool.{eqb-true, le-leb, leb-true}
 use Rattle.std.proofs.lemmas.Option.{get_or_from_slice_get}
 use Rattle.std.specs.List.{filter, remove, swap_remove}
+use Rattle.sms_join.specs.declared.age.Age.{Age}
 use Rattle.sms_join.specs.OpenSets.{SetValue, AreOpen}
-use Rattle.sms_join.specs.OpenSets.Told.{young_sets}
+use Rattle.sms_join.specs.Inside.Ages.{young_of}
 use Rattle.sms_join.specs.Inside.Turns.{HaveTurns, arranged}
 use Rattle.sms_join.specs.Inside.Lines.{AreInTime}
 use Rattle.sms_join.specs.Inside.Dropping.{Drops, DropsMany, DropsOld}
@@ -29,19 +30,19 @@ open_without ss i s o there = are_open_without (take i ss) s (drop (suc i) ss) (
     split : ss ≡ take i ss ++ s ∷ drop (suc i) ss
     split = split_at ss i s (got_within ss i s there) ∙ ap (λ v. take i ss ++ v ∷ drop (suc i) ss) (get_or_from_slice_get ss i s s there)
 
-turns_drop : (now t : ℕ) (ss ts : List SetValue) → Drops now ss ts → HaveTurns t ss → HaveTurns t ts
-turns_drop now t ss ts d h = subst (HaveTurns t) (sym d.is) (turns_gone t ss d.index d.own d.there (got_within ss d.index d.own d.there) h)
+turns_drop : (age : Age) (t : ℕ) (ss ts : List SetValue) → Drops age ss ts → HaveTurns t ss → HaveTurns t ts
+turns_drop age t ss ts d h = subst (HaveTurns t) (sym d.is) (turns_gone t ss d.index d.own d.there (got_within ss d.index d.own d.there) h)
 
-open_drop : (now : ℕ) (ss ts : List SetValue) → Drops now ss ts → AreOpen ss → AreOpen ts
-open_drop now ss ts d o =
+open_drop : (age : Age) (ss ts : List SetValue) → Drops age ss ts → AreOpen ss → AreOpen ts
+open_drop age ss ts d o =
     let l = got_within ss d.index d.own d.there in
     subst AreOpen (sym d.is) (swapped ss d.index d.own [] l (open_without ss d.index d.own o d.there)).are_open
 
-fewer_drop : (now : ℕ) (ss ts : List SetValue) (most : ℕ) → Drops now ss ts → length ss ≤ most → length ts ≤ most
-fewer_drop now ss ts most d few = fewer_after ss d.index ts most d.there (λ s there. d.is ∙ ap (swap_remove ss d.index) (some_same d.own s (sym d.there ∙ there))) few
+fewer_drop : (age : Age) (ss ts : List SetValue) (most : ℕ) → Drops age ss ts → length ss ≤ most → length ts ≤ most
+fewer_drop age ss ts most d few = fewer_after ss d.index ts most d.there (λ s there. d.is ∙ ap (swap_remove ss d.index) (some_same d.own s (sym d.there ∙ there))) few
 
-time_drop : (now latest : ℕ) (ss ts : List SetValue) → Drops now ss ts → AreInTime latest ss → AreInTime latest ts
-time_drop now latest ss ts d h = subst (AreInTime latest) (sym d.is) (record {
+time_drop : (age : Age) (latest : ℕ) (ss ts : List SetValue) → Drops age ss ts → AreInTime latest ss → AreInTime latest ts
+time_drop age latest ss ts d h = subst (AreInTime latest) (sym d.is) (record {
   past = λ i s there. let c = from i s there in h.past c.from s c.there;
   order = λ i j s t a b less. let c = from i s a in let e = from j t b in h.order c.from e.from s t c.there e.there less;
 })
@@ -68,19 +69,19 @@ all_stay : (t : SetValue → Bool) (xs : List SetValue) → ((x : SetValue) → 
 all_stay t [] h = refl
 all_stay t (x ∷ xs) h = ap (λ (b : Bool). cond b (x ∷ filter t xs) (filter t xs)) (h x (inl refl)) ∙ ap (λ l. x ∷ l) (all_stay t xs (λ y a. h y (inr a)))
 
-told_drop : (now t : ℕ) (ss ts : List SetValue) → HaveTurns t ss → Drops now ss ts → young_sets now (arranged ts) ≡ young_sets now (arranged ss)
-told_drop now t ss ts h d =
-    ap (λ l. young_sets now (arranged l)) d.is
-    ∙ (ap (young_sets now) (arranged_gone t ss d.index d.own d.there (got_within ss d.index d.own d.there) h)
-    ∙ skipped (stays now) (λ (x : SetValue). not (eqb x.turn d.own.turn)) (arranged ss) old)
+told_drop : (age : Age) (t : ℕ) (ss ts : List SetValue) → HaveTurns t ss → Drops age ss ts → young_of age (arranged ts) ≡ young_of age (arranged ss)
+told_drop age t ss ts h d =
+    ap (λ l. young_of age (arranged l)) d.is
+    ∙ (ap (young_of age) (arranged_gone t ss d.index d.own d.there (got_within ss d.index d.own d.there) h)
+    ∙ skipped (stays age) (λ (x : SetValue). not (eqb x.turn d.own.turn)) (arranged ss) old)
   where
-    old : (x : SetValue) → Among x (arranged ss) → not (eqb x.turn d.own.turn) ≡ false → stays now x ≡ false
+    old : (x : SetValue) → Among x (arranged ss) → not (eqb x.turn d.own.turn) ≡ false → stays age x ≡ false
     old x a e =
         let m = among_at ss x (arranged_among ss x a) in
         let same_turn : x.turn ≡ d.own.turn = eqb-true x.turn d.own.turn (flip (eqb x.turn d.own.turn) e) in
         let at : m.0 ≡ d.index = apart_at ss m.0 d.index x d.own h.apart m.1 d.there same_turn in
         let own : x ≡ d.own = some_same x d.own (sym m.1 ∙ (ap (slice_get ss) at ∙ d.there)) in
-        ap not (le-leb (x.opened + 604800) now (subst (λ (v : SetValue). v.opened + 604800 ≤ now) (sym own) d.old))
+        ap not (le-leb (x.opened + age.longest) age.now (subst (λ (v : SetValue). v.opened + age.longest ≤ age.now) (sym own) d.old))
       where
         flip : (b : Bool) → not b ≡ false → b ≡ true
         flip true e = refl
@@ -88,46 +89,46 @@ told_drop now t ss ts h d =
 
 -- ---- many go
 
-pub turns_many : (now n t : ℕ) (ss ts : List SetValue) → DropsMany now n ss ts → HaveTurns t ss → HaveTurns t ts
-turns_many now zero t ss ts d h = subst (HaveTurns t) d h
-turns_many now (suc n) t ss ts d h = turns_drop now t d.0 ts d.2 (turns_many now n t ss d.0 d.1 h)
+pub turns_many : (age : Age) (n t : ℕ) (ss ts : List SetValue) → DropsMany age n ss ts → HaveTurns t ss → HaveTurns t ts
+turns_many age zero t ss ts d h = subst (HaveTurns t) d h
+turns_many age (suc n) t ss ts d h = turns_drop age t d.0 ts d.2 (turns_many age n t ss d.0 d.1 h)
 
-pub time_many : (now n latest : ℕ) (ss ts : List SetValue) → DropsMany now n ss ts → AreInTime latest ss → AreInTime latest ts
-time_many now zero latest ss ts d h = subst (AreInTime latest) d h
-time_many now (suc n) latest ss ts d h = time_drop now latest d.0 ts d.2 (time_many now n latest ss d.0 d.1 h)
+pub time_many : (age : Age) (n latest : ℕ) (ss ts : List SetValue) → DropsMany age n ss ts → AreInTime latest ss → AreInTime latest ts
+time_many age zero latest ss ts d h = subst (AreInTime latest) d h
+time_many age (suc n) latest ss ts d h = time_drop age latest d.0 ts d.2 (time_many age n latest ss d.0 d.1 h)
 
-open_many : (now n : ℕ) (ss ts : List SetValue) → DropsMany now n ss ts → AreOpen ss → AreOpen ts
-open_many now zero ss ts d h = subst AreOpen d h
-open_many now (suc n) ss ts d h = open_drop now d.0 ts d.2 (open_many now n ss d.0 d.1 h)
+open_many : (age : Age) (n : ℕ) (ss ts : List SetValue) → DropsMany age n ss ts → AreOpen ss → AreOpen ts
+open_many age zero ss ts d h = subst AreOpen d h
+open_many age (suc n) ss ts d h = open_drop age d.0 ts d.2 (open_many age n ss d.0 d.1 h)
 
-fewer_many : (now n most : ℕ) (ss ts : List SetValue) → DropsMany now n ss ts → length ss ≤ most → length ts ≤ most
-fewer_many now zero most ss ts d h = subst (λ l. length l ≤ most) d h
-fewer_many now (suc n) most ss ts d h = fewer_drop now d.0 ts most d.2 (fewer_many now n most ss d.0 d.1 h)
+fewer_many : (age : Age) (n most : ℕ) (ss ts : List SetValue) → DropsMany age n ss ts → length ss ≤ most → length ts ≤ most
+fewer_many age zero most ss ts d h = subst (λ l. length l ≤ most) d h
+fewer_many age (suc n) most ss ts d h = fewer_drop age d.0 ts most d.2 (fewer_many age n most ss d.0 d.1 h)
 
-told_many : (now n t : ℕ) (ss ts : List SetValue) → HaveTurns t ss → DropsMany now n ss ts → young_sets now (arranged ts) ≡ young_sets now (arranged ss)
-told_many now zero t ss ts h d = ap (λ l. young_sets now (arranged l)) (sym d)
-told_many now (suc n) t ss ts h d = told_drop now t d.0 ts (turns_many now n t ss d.0 d.1 h) d.2 ∙ told_many now n t ss d.0 h d.1
+told_many : (age : Age) (n t : ℕ) (ss ts : List SetValue) → HaveTurns t ss → DropsMany age n ss ts → young_of age (arranged ts) ≡ young_of age (arranged ss)
+told_many age zero t ss ts h d = ap (λ l. young_of age (arranged l)) (sym d)
+told_many age (suc n) t ss ts h d = told_drop age t d.0 ts (turns_many age n t ss d.0 d.1 h) d.2 ∙ told_many age n t ss d.0 h d.1
 
 -- ---- and no old one is left
 
-pub open_dropped : (now : ℕ) (ss ts : List SetValue) → DropsOld now ss ts → AreOpen ss → AreOpen ts
-open_dropped now ss ts d o = open_many now d.count ss ts d.many o
+pub open_dropped : (age : Age) (ss ts : List SetValue) → DropsOld age ss ts → AreOpen ss → AreOpen ts
+open_dropped age ss ts d o = open_many age d.count ss ts d.many o
 
-pub fewer_dropped : (now : ℕ) (ss ts : List SetValue) (most : ℕ) → DropsOld now ss ts → length ss ≤ most → length ts ≤ most
-fewer_dropped now ss ts most d l = fewer_many now d.count most ss ts d.many l
+pub fewer_dropped : (age : Age) (ss ts : List SetValue) (most : ℕ) → DropsOld age ss ts → length ss ≤ most → length ts ≤ most
+fewer_dropped age ss ts most d l = fewer_many age d.count most ss ts d.many l
 
-pub told_dropped : (now t : ℕ) (ss ts : List SetValue) → HaveTurns t ss → DropsOld now ss ts → arranged ts ≡ young_sets now (arranged ss)
-told_dropped now t ss ts h d = sym (all_stay (stays now) (arranged ts) young) ∙ told_many now d.count t ss ts h d.many
+pub told_dropped : (age : Age) (t : ℕ) (ss ts : List SetValue) → HaveTurns t ss → DropsOld age ss ts → arranged ts ≡ young_of age (arranged ss)
+told_dropped age t ss ts h d = sym (all_stay (stays age) (arranged ts) young) ∙ told_many age d.count t ss ts h d.many
   where
-    young : (x : SetValue) → Among x (arranged ts) → stays now x ≡ true
+    young : (x : SetValue) → Among x (arranged ts) → stays age x ≡ true
     young x a =
         let m = among_at ts x (arranged_among ts x a) in
-        go (leb (x.opened + 604800) now) refl m
+        go (leb (x.opened + age.longest) age.now) refl m
       where
-        go : (b : Bool) → leb (x.opened + 604800) now ≡ b → (i : ℕ) × (slice_get ts i ≡ Some x) → not b ≡ true
+        go : (b : Bool) → leb (x.opened + age.longest) age.now ≡ b → (i : ℕ) × (slice_get ts i ≡ Some x) → not b ≡ true
         go true e m = absurd (d.rest m.0 x m.1 (leb-true _ _ e))
         go false e m = refl
 
 -- a set goes after many
-pub many_more : (now n : ℕ) (rs ss ts : List SetValue) → DropsMany now n rs ss → Drops now ss ts → DropsMany now (suc n) rs ts
-many_more now n rs ss ts m d = (ss, m, d)
+pub many_more : (age : Age) (n : ℕ) (rs ss ts : List SetValue) → DropsMany age n rs ss → Drops age ss ts → DropsMany age (suc n) rs ts
+many_more age n rs ss ts m d = (ss, m, d)

@@ -1,4 +1,4 @@
--- What an opening and an age do to the order of opening. Nothing cites it yet.
+-- What an opening and an age do to the order of opening.
 use Rattle.std.proofs.Common.{◌≡◌, ℕ, suc, ◌<◌, ◌⊎◌, inl, inr, Bool, true, false, cond, List, [], ◌∷◌, ◌++◌, take, drop, length, slice_get, Some, not, eqb, ◌-◌, refl, sym, ap, ◌∙◌, subst, arith}
 use Rattle.std.proofs.lemmas.Bool.{eqb-false, not-true, or_parts}
 use Rattle.std.proofs.lemmas.List.{append-nil}

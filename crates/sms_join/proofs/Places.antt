@@ -1,7 +1,7 @@
 -- Lists around one of their places.
 use Rattle.std.proofs.Common.{◌≡◌, ℕ, zero, suc, ◌+◌, ◌-◌, ◌<◌, ◌≤◌, ◌⊎◌, inl, inr, Bool, true, false, cond, not, ◌||◌, ltb, List, [], ◌∷◌, ◌++◌, take, drop, length, reverse, get_or, Some, None, refl, sym, ap, ◌∙◌, arith, length-drop}
 use Rattle.std.proofs.Math.ListN.{set}
-use Rattle.std.proofs.lemmas.Bool.{ltb-false, cases_lt}
+use Rattle.std.proofs.lemmas.Bool.{ltb-false, cases_lt, or_parts}
 use Rattle.std.proofs.lemmas.List.{take_all, take_at, take-append-drop, length-reverse, reverse-append}
 use Rattle.std.specs.List.{position, position_or_len, prefix_len, list_any}
 use Rattle.circular_buffer.specs.Buffer.{Buffer, buffer, keep_last}
@@ -83,8 +83,16 @@ among_reversed (x ∷ xs) k =
     swap false true = refl
     swap false false = refl
 
+-- nor is it among the first ones
+pub among_taken : (n : ℕ) (ks : List Key) (k : Key) → is_among ks k ≡ false → is_among (take n ks) k ≡ false
+among_taken zero ks k h = refl
+among_taken (suc n) [] k h = refl
+among_taken (suc n) (x ∷ ks) k h =
+    let q = or_parts (same_key x k) (is_among ks k) h in
+    rw q.0 (among_taken n ks k q.1)
+
 -- the last of a list are the first of the reversed one
-last_first : {X : Type 0} (n : ℕ) (ys : List X) → reverse (drop (length ys - n) ys) ≡ take n (reverse ys)
+pub last_first : {X : Type 0} (n : ℕ) (ys : List X) → reverse (drop (length ys - n) ys) ≡ take n (reverse ys)
 last_first n ys = go (cases_lt (length ys) n)
   where
     go : (length ys < n) ⊎ (n ≤ length ys) → reverse (drop (length ys - n) ys) ≡ take n (reverse ys)

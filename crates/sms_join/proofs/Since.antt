@@ -5,6 +5,7 @@ use Rattle.std.proofs.lemmas.Bool.{leb-false}
 use Rattle.std.specs.List.{swap_remove, fold}
 use Rattle.std.specs.Map.{values_of}
 use Rattle.sms_join.specs.declared.key.Key.{Key}
+use Rattle.sms_join.specs.declared.age.Age.{Age}
 use Rattle.sms_join.specs.OpenSets.{SetValue}
 use Rattle.sms_join.specs.Inside.Dropping.{Drops, DropsMany, DropsOld}
 use Rattle.sms_join.specs.Inside.Lines.{AreSince}
@@ -24,11 +25,11 @@ pub since_left : (n : ℕ) (ss ts : List SetValue) (i : ℕ) (s : SetValue) → 
 since_left n ss ts i s l is h =
     subst (AreSince n) (sym is) (λ j u at. let c = comes ss i j s u l at in h c.from u c.there)
 
-pub since_many : (now k n : ℕ) (ss ts : List SetValue) → DropsMany now k ss ts → AreSince n ss → AreSince n ts
-since_many now zero n ss ts d h = subst (AreSince n) d h
-since_many now (suc k) n ss ts d h =
+pub since_many : (age : Age) (k n : ℕ) (ss ts : List SetValue) → DropsMany age k ss ts → AreSince n ss → AreSince n ts
+since_many age zero n ss ts d h = subst (AreSince n) d h
+since_many age (suc k) n ss ts d h =
     let one = d.2 in
-    since_left n d.0 ts one.index one.own (got_within d.0 one.index one.own one.there) one.is (since_many now k n ss d.0 d.1 h)
+    since_left n d.0 ts one.index one.own (got_within d.0 one.index one.own one.there) one.is (since_many age k n ss d.0 d.1 h)
 
 pub since_more : (n m : ℕ) (ss new : List SetValue) (v : SetValue) → new ≡ ss ++ v ∷ [] → n ≤ v.opened → (0 < length ss → n ≤ m) → AreSince m ss → AreSince n new
 since_more n m ss new v is low before h = subst (AreSince n) (sym is) (λ i s at. elim (got_more ss v i s at) [
@@ -37,11 +38,11 @@ since_more n m ss new v is low before h = subst (AreSince n) (sym is) (λ i s at
 ])
 
 -- where the bound is not old, no set is
-pub none_past : (n now : ℕ) (ss : List SetValue) → AreSince n ss → leb (n + 604800) now ≡ false → DropsOld now ss ss
-none_past n now ss h e = record {
+pub none_past : (n : ℕ) (age : Age) (ss : List SetValue) → AreSince n ss → leb (n + age.longest) age.now ≡ false → DropsOld age ss ss
+none_past n age ss h e = record {
   count = 0;
   many = refl;
-  rest = λ i s at old. let l = h i s at in let b = leb-false (n + 604800) now e in omega arith;
+  rest = λ i s at old. let l = h i s at in let b = leb-false (n + age.longest) age.now e in omega arith;
 }
 
 least_low : (es : List (Key × SlotValue)) (n : ℕ) → fold (λ l (s : SlotValue). min l s.opened) n (values_of es) ≤ n

@@ -9,9 +9,10 @@ use Rattle.indexmap.specs.IndexMap.{set_value_at, insert_entry}
 use Rattle.sms_join.specs.declared.key.Key.{Key}
 use Rattle.sms_join.specs.declared.units.Units.{Units}
 use Rattle.sms_join.specs.Key.{same_key, maximum_of}
-use Rattle.sms_join.specs.OpenSets.{SetValue, has_set, is_in, place_of, with_piece}
+use Rattle.sms_join.specs.OpenSets.{SetValue, has_set, is_in, units_for, place_of, with_piece}
 use Rattle.sms_join.specs.Joiner.Finishing.{lacks_only}
-use Rattle.sms_join.specs.Inside.Slots.{SlotValue, At, HasPlace, AreSlots, key_eq, filled, filled_from, filled_with, first_places, set_of, sets_of}
+use Rattle.sms_join.specs.OpenSets.Places.{filled, filled_from}
+use Rattle.sms_join.specs.Inside.Slots.{SlotValue, At, HasPlace, AreSlots, key_eq, filled_with, first_places, set_of, sets_of}
 use Rattle.sms_join.proofs.Same.{key_turned}
 
 -- ---- places
@@ -30,6 +31,23 @@ lower : (n m : ℕ) (ps : List (Option Units)) → m < n → is_in m (filled_fro
 lower n m [] l = refl
 lower n m (None ∷ ps) l = lower (suc n) m ps (omega arith)
 lower n m (Some u ∷ ps) l = rw (ne_eqb n m (λ e. omega arith)) (lower (suc n) m ps (omega arith))
+
+units_lower : (low n : ℕ) (ps : List (Option Units)) → n < low → units_for n (filled_from low ps) (filled ps) ≡ None
+units_lower low n [] l = refl
+units_lower low n (None ∷ ps) l = units_lower (suc low) n ps (omega arith)
+units_lower low n (Some u ∷ ps) l =
+    ap (λ b. cond b (Some u) (units_for n (filled_from (suc low) ps) (filled ps))) (ne_eqb low n (λ e. omega (arith, e))) ∙ units_lower (suc low) n ps (omega arith)
+
+-- the units of a place
+pub units_place : (low n : ℕ) (ps : List (Option Units)) (i : ℕ) → n ≡ low + i → units_for n (filled_from low ps) (filled ps) ≡ get_or ps i None
+units_place low n [] i e = refl
+units_place low n (None ∷ ps) zero e = units_lower (suc low) n ps (omega arith)
+units_place low n (None ∷ ps) (suc i) e = units_place (suc low) n ps i (omega arith)
+units_place low n (Some u ∷ ps) zero e =
+    ap (λ b. cond b (Some u) (units_for n (filled_from (suc low) ps) (filled ps))) (eq-eqb low n (omega arith))
+units_place low n (Some u ∷ ps) (suc i) e =
+    ap (λ b. cond b (Some u) (units_for n (filled_from (suc low) ps) (filled ps))) (ne_eqb low n (λ f. omega (arith, f)))
+    ∙ units_place (suc low) n ps i (omega arith)
 
 -- a sequence has come where its place is filled
 pub in_place : (low n : ℕ) (ps : List (Option Units)) (i : ℕ) → n ≡ low + i → is_in n (filled_from low ps) ≡ is_some (get_or ps i None)

@@ -5,22 +5,12 @@ use Rattle.sms_join.specs.declared.line.Opening.{Opening}
 use Rattle.sms_join.specs.OpenSets.{SetValue}
 use Rattle.sms_join.specs.OpenSets.Told.{AreAbove, RiseInTurn, first_from}
 use Rattle.sms_join.specs.Inside.Turns.{arranged}
-use Rattle.sms_join.specs.Inside.Lines.{AreAfter, Climbs, AreFrom, Splits, IsNoted, has_number, lies, first_index, InLine}
+use Rattle.sms_join.specs.Inside.Lines.{AreAfter, Climbs, AreFrom, Splits, IsNoted, has_number, lies, of_number, walked, InLine}
 use Rattle.sms_join.proofs.InLine.{opening}
 use Rattle.sms_join.proofs.Told.{Among, one_climbs, arranged_among, among_arranged, arranged_climbs}
 
 some_same : {X : Type 0} (x y : X) → Some x ≡ Some y → x ≡ y
 some_same x y e = cc
-
--- the set, where it is of this number
-abbrev pub of_number : Option SetValue → ℕ → List SetValue → List SetValue
-of_number None n rest = rest
-of_number (Some s) n rest = cond (eqb s.turn n) (s ∷ rest) rest
-
--- the sets that lie where they were noted
-abbrev pub walked : List SetValue → List Opening → List SetValue
-walked ss [] = []
-walked ss (o ∷ os) = of_number (slice_get ss o.index) o.turn (walked ss os)
 
 above_walked : (n : ℕ) (ss : List SetValue) (os : List Opening) → AreAfter n os → AreAbove n (walked ss os)
 above_walked n ss [] h = tt
@@ -94,26 +84,9 @@ walked_is t os ss h =
 
 -- ---- the first from a number on
 
-abbrev head : List SetValue → Option SetValue
+abbrev pub head : List SetValue → Option SetValue
 head [] = None
 head (s ∷ ss) = Some s
-
--- the set that lies there
-abbrev pub at_index : List SetValue → Option ℕ → Option SetValue
-at_index ss None = None
-at_index ss (Some i) = slice_get ss i
-
-head_walked : (ss : List SetValue) (os : List Opening) → head (walked ss os) ≡ at_index ss (first_index ss os)
-head_walked ss [] = refl
-head_walked ss (o ∷ os) = go (slice_get ss o.index) refl (head_walked ss os)
-  where
-    go : (r : Option SetValue) → slice_get ss o.index ≡ r → head (walked ss os) ≡ at_index ss (first_index ss os) → head (of_number r o.turn (walked ss os)) ≡ at_index ss (cond (has_number r o.turn) (Some o.index) (first_index ss os))
-    go None e ih = ih
-    go (Some s) e ih = which (eqb s.turn o.turn)
-      where
-        which : (b : Bool) → head (cond b (s ∷ walked ss os) (walked ss os)) ≡ at_index ss (cond b (Some o.index) (first_index ss os))
-        which true = sym e
-        which false = ih
 
 from_walked : (n : ℕ) (ss : List SetValue) (os : List Opening) → AreFrom n os → first_from n (walked ss os) ≡ head (walked ss os)
 from_walked n ss [] h = refl
@@ -144,10 +117,8 @@ split_walked n (suc p) ss (o ∷ os) h = go (slice_get ss o.index) (split_walked
             later true f = let l = leb-true n s.turn f in let k = h.0 in let g = eqb-true s.turn o.turn e in absurd (omega arith)
         which false e = ih
 
-pub told_first : (t n p : ℕ) (os : List Opening) (ss : List SetValue) → InLine t os ss → Splits n p os → at_index ss (first_index ss (drop p os)) ≡ first_from n (arranged ss)
-told_first t n p os ss h s =
-    sym (head_walked ss (drop p os))
-    ∙ (sym (split_walked n p ss os s) ∙ ap (first_from n) (walked_is t os ss h))
+pub told_first : (t n p : ℕ) (os : List Opening) (ss : List SetValue) → InLine t os ss → Splits n p os → head (walked ss (drop p os)) ≡ first_from n (arranged ss)
+told_first t n p os ss h s = sym (split_walked n p ss os s) ∙ ap (first_from n) (walked_is t os ss h)
 
 -- ---- one opening of the line is looked at
 
@@ -162,23 +133,36 @@ drop_got p xs x l e = go p xs l e ∙ ap (λ n. x ∷ drop n xs) (next p)
     go zero (z ∷ ys) l e = ap (λ v. v ∷ ys) (sym e)
     go (suc n) (z ∷ ys) l e = go n ys (omega arith) e
 
-pub index_passed : (ss : List SetValue) (p : ℕ) (os : List Opening) (o : Opening) → p < length os → o ≡ get_or os p o → lies ss o ≡ false
-    → first_index ss (drop p os) ≡ first_index ss (drop (p + 1) os)
-index_passed ss p os o l e f =
-    ap (first_index ss) (drop_got p os o l e)
-    ∙ ap (λ (b : Bool). cond b (Some o.index) (first_index ss (drop (p + 1) os))) f
+-- its set has gone
+pub walk_passed : (ss : List SetValue) (p : ℕ) (os : List Opening) (o : Opening) → p < length os → o ≡ get_or os p o → lies ss o ≡ false
+    → walked ss (drop p os) ≡ walked ss (drop (p + 1) os)
+walk_passed ss p os o l e f = ap (walked ss) (drop_got p os o l e) ∙ go (slice_get ss o.index) f
+  where
+    go : (r : Option SetValue) → has_number r o.turn ≡ false → of_number r o.turn (walked ss (drop (p + 1) os)) ≡ walked ss (drop (p + 1) os)
+    go None h = refl
+    go (Some s) h = ap (λ (b : Bool). cond b (s ∷ walked ss (drop (p + 1) os)) (walked ss (drop (p + 1) os))) h
 
-pub index_found : (ss : List SetValue) (p : ℕ) (os : List Opening) (o : Opening) → p < length os → o ≡ get_or os p o → lies ss o ≡ true
-    → first_index ss (drop p os) ≡ Some o.index
-index_found ss p os o l e f =
-    ap (first_index ss) (drop_got p os o l e)
-    ∙ ap (λ (b : Bool). cond b (Some o.index) (first_index ss (drop (p + 1) os))) f
+-- its set is there
+pub walk_found : (ss : List SetValue) (p : ℕ) (os : List Opening) (o : Opening) (s : SetValue) → p < length os → o ≡ get_or os p o → lies ss o ≡ true
+    → slice_get ss o.index ≡ Some s → walked ss (drop p os) ≡ s ∷ walked ss (drop (p + 1) os)
+walk_found ss p os o s l e f there =
+    ap (walked ss) (drop_got p os o l e)
+    ∙ (ap (λ (r : Option SetValue). of_number r o.turn (walked ss (drop (p + 1) os))) there
+    ∙ ap (λ (b : Bool). cond b (s ∷ walked ss (drop (p + 1) os)) (walked ss (drop (p + 1) os)))
+    (ap (λ (r : Option SetValue). has_number r o.turn) (sym there) ∙ f))
 
-pub index_none : (ss : List SetValue) (p : ℕ) (os : List Opening) → length os ≤ p → first_index ss (drop p os) ≡ None
-index_none ss p os l = ap (first_index ss) (go p os l)
+-- no opening is left
+pub walk_none : (ss : List SetValue) (p : ℕ) (os : List Opening) → length os ≤ p → walked ss (drop p os) ≡ []
+walk_none ss p os l = ap (walked ss) (go p os l)
   where
     go : (n : ℕ) (ls : List Opening) → length ls ≤ n → drop n ls ≡ []
     go zero [] l = refl
     go (suc n) [] l = refl
     go zero (x ∷ ls) l = absurd (omega arith)
     go (suc n) (x ∷ ls) l = go n ls (omega arith)
+
+-- what is read at a place stands there
+pub got : (os : List Opening) (p : ℕ) (o : Opening) → p < length os → o ≡ get_or os p o → slice_get os p ≡ Some o
+got [] p o l e = absurd (omega arith)
+got (x ∷ os) zero o l e = ap (λ (v : Opening). Some v) (sym e)
+got (x ∷ os) (suc p) o l e = got os p o (omega arith) e

@@ -1,5 +1,6 @@
 -- What a reader may pass by: no public contract cites it.
 pub mod KeyHashes
+pub mod KeyParts
 pub mod KeyRings
 pub mod KeyTags
 pub mod LastKeys
@@ -11,5 +12,7 @@ pub mod Slots
 pub mod Turns
 pub mod Keeping
 pub mod Lines
+pub mod Ages
 pub mod Dropping
 pub mod Hashings
+pub mod Gateways

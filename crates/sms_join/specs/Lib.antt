@@ -3,6 +3,7 @@ pub mod Piece
 pub mod OpenSets
 pub mod Joiner
 pub mod Arrivals
+pub mod Gateway
 pub mod UnitsOfText
 pub mod BodyUnits
 pub mod Cut

@@ -1,6 +1,8 @@
 -- The open sets, each with its pieces in order of sequence.
+pub mod Offered
+pub mod Places
 pub mod Told
-use Rattle.std.specs.Prelude.{◌≡◌, ℕ, suc, ◌<◌, ◌≤◌, Bool, false, ◌||◌, if◌then◌else◌, ◌==◌, nat_lt, List, [], ◌∷◌, ◌++◌, length}
+use Rattle.std.specs.Prelude.{◌≡◌, ℕ, suc, ◌<◌, ◌≤◌, Bool, false, ◌||◌, if◌then◌else◌, ◌==◌, nat_lt, List, [], ◌∷◌, ◌++◌, length, Option, None, Some}
 use Rattle.std.specs.List.{insert}
 use Rattle.sms_join.specs.declared.key.Key.{Key}
 use Rattle.sms_join.specs.declared.units.Units.{Units}
@@ -59,6 +61,12 @@ AreOpen (s ∷ ss) = IsOpen s × (has_set ss s.key ≡ false) × AreOpen ss
 abbrev pub is_in : ℕ → List ℕ → Bool
 is_in n [] = false
 is_in n (m ∷ ms) = m == n || is_in n ms
+
+-- the units of the piece of this sequence, where it has come
+abbrev pub units_for : ℕ → List ℕ → List Units → Option Units
+units_for n [] us = None
+units_for n (m ∷ ms) [] = None
+units_for n (m ∷ ms) (u ∷ us) = if m == n then Some u else units_for n ms us
 
 -- before which index this sequence belongs
 abbrev pub place_of : ℕ → List ℕ → ℕ

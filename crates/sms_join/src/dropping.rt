@@ -6,6 +6,7 @@ ghost use Rattle.sms_join.specs.Inside.Slots.{At, AreSlots, sets_of};
 ghost use Rattle.sms_join.specs.Inside.Lines.{InLine, AreInTime, noted_at};
 ghost use Rattle.sms_join.specs.Inside.Dropping.{DropsOld};
 
+use crate::age::Age;
 use crate::hashing::Hashing;
 use crate::key::Key;
 use crate::line::{Opening, lies, note};
@@ -39,7 +40,7 @@ pub(crate) fn drop_at(
 pub(crate) fn drop_old(
     slots: &mut IndexMap<Key, Slot, Hashing>,
     line: &mut VecDeque<Opening>,
-    now: u64,
+    age: Age,
     in_time: bool,
 )
     requires slots { AreSlots slots.old.entries }
@@ -49,13 +50,13 @@ pub(crate) fn drop_old(
     ensures slots { AreSlots slots.new.entries }
     ensures line { (t : ℕ) → InLine t line.old.items (sets_of slots.old.entries)
         → InLine t line.new.items (sets_of slots.new.entries) }
-    ensures sets { DropsOld now (sets_of slots.old.entries) (sets_of slots.new.entries) }
+    ensures sets { DropsOld age (sets_of slots.old.entries) (sets_of slots.new.entries) }
 {
     let mut place = 0;
     while place < line.len() {
         let opening = line[place];
         if lies(slots, opening) {
-            if slots[opening.index].is_old(now) {
+            if slots[opening.index].is_old(age) {
                 drop_at(slots, line, opening.index);
             } else if in_time {
                 return;

@@ -1,6 +1,6 @@
 //! A joiner of segments.
 
-ghost use Rattle.std.specs.Prelude.{◌≡◌, ℕ, ◌<◌, ◌≤◌, [], IfOk, OnOk, OnErr};
+ghost use Rattle.std.specs.Prelude.{◌≡◌, ℕ, ◌<◌, ◌≤◌, [], None, IfOk, OnOk, OnErr};
 ghost use Rattle.sms_join.specs.declared.units.Units.{Units as TheUnits};
 ghost use Rattle.sms_join.specs.Joiner.Aging.{aged};
 ghost use Rattle.sms_join.specs.Joiner.Finishing.{would_finish};
@@ -12,12 +12,15 @@ ghost use Rattle.sms_join.specs.Joiner.Value.{SameLimits};
 ghost use Rattle.sms_join.specs.Joiner.Same.{IsSame};
 ghost use Rattle.sms_join.specs.Joiner.Offering.{Says};
 ghost use Rattle.sms_join.specs.OpenSets.{all_pieces, AreOpen};
-ghost use Rattle.sms_join.specs.OpenSets.Told.{first_from, old_sets, young_sets, RiseInTurn};
+ghost use Rattle.sms_join.specs.OpenSets.Offered.{TellsOffer};
+ghost use Rattle.sms_join.specs.OpenSets.Told.{first_from, old_sets, young_sets, AreFor, RiseInTurn};
 
+use crate::age::Age;
 use crate::hashing::Hashing;
 use crate::keeper::Keeper;
 use crate::offer::{Offer, OfferFault};
 use crate::open_set::OpenSet;
+use crate::told_sets::ToldSets;
 use crate::units::Units;
 use sms_field::{Address, Stamp};
 use sms_tpdu::Concat;
@@ -35,11 +38,14 @@ pub struct Joiner {
 
 impl Model for Joiner {
     ghost use Rattle.sms_join.specs.Joiner.Value.{JoinerValue};
-    ghost use Rattle.sms_join.specs.Inside.Keeping.{in_order};
+    ghost use Rattle.std.specs.Prelude.{None};
+    ghost use Rattle.sms_join.specs.Inside.Keeping.{in_order, AreKeptFor};
 
     ghost Value = { JoinerValue };
 
     ghost view = { λ j. in_order j.keeper };
+
+    ghost invariant = { λ j. AreKeptFor None j.keeper.holds.kept };
 }
 
 impl Joiner {
@@ -106,11 +112,13 @@ impl Joiner {
         ensures holds { let piece = piece_of now origin.now stamp concat units in
             OnOk result (IsSame self.new.holds
             (offered self.old.open_max self.old.remembered self.old.holds piece)) }
+        ensures told { let piece = piece_of now origin.now stamp concat units in
+            IfOk result (TellsOffer self.old.told self.new.told piece) }
         ensures limits { SameLimits self.new self.old }
         ensures refused { OnErr result (self.new ≡ self.old) }
     {
         self.keeper.have_kept();
-        let answer = self.keeper.offer(now, origin, stamp, concat, units);
+        let answer = self.keeper.offer(now, None, origin, stamp, concat, units);
         self.keeper.have_kept();
         answer
     }
@@ -124,6 +132,18 @@ impl Joiner {
         self.keeper.open_count()
     }
 
+    /// The open sets, one after another as they were opened. It takes no memory.
+    pub fn open_sets(&self) -> ToldSets<'_>
+        ensures told { result ≡ self.now.told }
+        ensures pieces { all_pieces self.now.told ≡ self.now.holds.kept }
+        ensures open { AreOpen self.now.told }
+        ensures rise { RiseInTurn self.now.told }
+        ensures recipients { AreFor None self.now.told }
+    {
+        self.keeper.have_kept();
+        self.keeper.told()
+    }
+
     /// The first open set, in order of opening, whose number of opening is this one or above: none
     /// where there is none. From 0 on it is the first of all, and from the number of a set and one
     /// more the one that was opened next. It takes no memory.
@@ -132,6 +152,7 @@ impl Joiner {
         ensures pieces { all_pieces self.now.told ≡ self.now.holds.kept }
         ensures open { AreOpen self.now.told }
         ensures rise { RiseInTurn self.now.told }
+        ensures recipients { AreFor None self.now.told }
     {
         self.keeper.have_kept();
         self.keeper.open_from(turn)
@@ -143,7 +164,7 @@ impl Joiner {
         ensures { result ≡ first_from turn (old_sets now self.now.told) }
     {
         self.keeper.have_kept();
-        self.keeper.old_from(turn, now)
+        self.keeper.old_from(turn, Age::week(now))
     }
 
     /// Whether such a message or segment would finish its set. Its place, if it has one, is as for
@@ -155,7 +176,7 @@ impl Joiner {
             ≡ would_finish self.now.holds (piece_of now origin.now stamp concat units) }
     {
         self.keeper.have_kept();
-        self.keeper.would_finish(origin, stamp, concat)
+        self.keeper.would_finish(None, origin, stamp, concat)
     }
 
     /// Drops the sets whose first piece came 604,800 seconds before the moment, or earlier. It
@@ -167,7 +188,7 @@ impl Joiner {
         ensures limits { SameLimits self.new self.old }
     {
         self.keeper.have_kept();
-        self.keeper.age(now);
+        self.keeper.age(Age::week(now));
         self.keeper.have_kept();
     }
 }

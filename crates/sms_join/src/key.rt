@@ -1,8 +1,9 @@
 //! The identity of a set of segments.
 
-ghost use Rattle.std.specs.Prelude.{◌≡◌};
-ghost use Rattle.sms_join.specs.Key.{same_key, origin_of, maximum_of};
-ghost use Rattle.sms_join.specs.Piece.{key_of};
+ghost use Rattle.std.specs.Prelude.{◌≡◌, option_copied};
+ghost use Rattle.sms_join.specs.Key.{same_key, is_for, origin_of, recipient_of, maximum_of};
+ghost use Rattle.sms_join.specs.Piece.{key_to};
+ghost use Rattle.sms_join.specs.Inside.KeyParts.{same_place, has_numbers};
 
 use sms_field::{Address, Stamp};
 use sms_tpdu::{Concat, Width};
@@ -30,14 +31,44 @@ pub enum Key {
         /// The maximum number of short messages in the concatenated short message.
         maximum: u8,
     },
+    /// A message in one piece for a recipient.
+    SingleTo {
+        /// For whom it is, as the gateway says.
+        recipient: Address,
+        /// Whom it is from (TP-OA).
+        origin: Address,
+        /// Its time stamp (TP-SCTS).
+        stamp: Stamp,
+    },
+    /// A message in segments for a recipient.
+    SegmentedTo {
+        /// For whom it is, as the gateway says.
+        recipient: Address,
+        /// Whom it is from (TP-OA).
+        origin: Address,
+        /// Which element it is: of 00 the reference has eight bits, of 08 sixteen.
+        width: Width,
+        /// The reference number of the concatenated short message.
+        reference: u16,
+        /// The maximum number of short messages in the concatenated short message.
+        maximum: u8,
+    },
+}
+
+/// Whether these are the numbers of a place.
+#[inline(always)]
+#[tactic(auto, unfolding(crate::specs::Key::same_width))]
+fn are_of(width: Width, reference: u16, maximum: u8, place: Concat) -> bool
+    ensures { result ≡ same_place width reference maximum place }
+{
+    reference == place.reference && maximum == place.maximum && width == place.width
 }
 
 impl Key {
-    /// The key of a message, or of the message that a segment is of. It takes no memory.
-    pub(crate) fn of(alloc: Global, origin: &Address, stamp: Stamp, concat: Option<Concat>) -> Key
-        ensures { result ≡ key_of origin.now stamp concat }
+    /// The key of a message without a recipient, or of the message that a segment is of.
+    fn alone(origin: Address, stamp: Stamp, concat: Option<Concat>) -> Key
+        ensures { result ≡ key_to None origin stamp concat }
     {
-        let origin = origin.copy(alloc).unwrap();
         match concat {
             None => Key::Single { origin, stamp },
             Some(concat) => Key::Segmented {
@@ -49,36 +80,102 @@ impl Key {
         }
     }
 
-    /// Whether it is the key of such a message or segment. The numbers are compared first: they
-    /// differ more often than origins, and in less time.
-    #[tactic(auto, unfolding(crate::specs::Key::same_key, crate::specs::Key::same_width))]
-    pub(crate) fn is_of(&self, origin: &Address, stamp: Stamp, concat: Option<Concat>) -> bool
-        ensures { result ≡ same_key self.now (key_of origin.now stamp concat) }
+    /// The same for a recipient.
+    fn to(recipient: Address, origin: Address, stamp: Stamp, concat: Option<Concat>) -> Key
+        ensures { result ≡ key_to (Some recipient) origin stamp concat }
+    {
+        match concat {
+            None => Key::SingleTo {
+                recipient,
+                origin,
+                stamp,
+            },
+            Some(concat) => Key::SegmentedTo {
+                recipient,
+                origin,
+                width: concat.width,
+                reference: concat.reference,
+                maximum: concat.maximum,
+            },
+        }
+    }
+
+    /// The key of a message, or of the message that a segment is of. It takes no memory.
+    pub(crate) fn of(
+        alloc: Global,
+        to: Option<&Address>,
+        origin: &Address,
+        stamp: Stamp,
+        concat: Option<Concat>,
+    ) -> Key
+        ensures { result ≡ key_to (option_copied to.entry) origin.now stamp concat }
+    {
+        let origin = origin.copy(alloc).unwrap();
+        match to {
+            None => Key::alone(origin, stamp, concat),
+            Some(recipient) => { Key::to(recipient.copy(alloc).unwrap(), origin, stamp, concat) }
+        }
+    }
+
+    /// Whether it has the time stamp of such a message, or the numbers of such a segment.
+    #[inline(always)]
+    fn has_numbers(&self, stamp: Stamp, concat: Option<Concat>) -> bool
+        ensures { result ≡ has_numbers self.now stamp concat }
     {
         match (self, concat) {
-            (
-                Key::Single {
-                    origin: own,
-                    stamp: from,
-                },
-                None,
-            ) => { *from == stamp && own.is_same(origin) }
+            (Key::Single { stamp: own, .. }, None) => *own == stamp,
+            (Key::SingleTo { stamp: own, .. }, None) => *own == stamp,
             (
                 Key::Segmented {
-                    origin: sender,
                     width,
                     reference,
                     maximum,
+                    ..
                 },
-                Some(concat),
-            ) => {
-                *reference == concat.reference
-                    && *maximum == concat.maximum
-                    && *width == concat.width
-                    && sender.is_same(origin)
-            }
+                Some(place),
+            ) => are_of(*width, *reference, *maximum, place),
+            (
+                Key::SegmentedTo {
+                    width,
+                    reference,
+                    maximum,
+                    ..
+                },
+                Some(place),
+            ) => are_of(*width, *reference, *maximum, place),
             _ => false,
         }
+    }
+
+    /// Whether it is for this recipient, or for none.
+    #[inline(always)]
+    #[tactic(auto, unfolding(crate::specs::Key::same_recipient))]
+    fn is_to(&self, to: Option<&Address>) -> bool
+        ensures { result ≡ is_for (option_copied to.entry) self.now }
+    {
+        match (self.recipient(), to) {
+            (None, None) => true,
+            (Some(own), Some(to)) => own.is_same(to),
+            _ => false,
+        }
+    }
+
+    /// Whether it is the key of such a message or segment. The numbers are compared first: they
+    /// differ more often than addresses, and in less time.
+    pub(crate) fn is_of(
+        &self,
+        to: Option<&Address>,
+        origin: &Address,
+        stamp: Stamp,
+        concat: Option<Concat>,
+    ) -> bool
+        ensures { result
+            ≡ same_key self.now (key_to (option_copied to.entry) origin.now stamp concat) }
+    {
+        if !self.has_numbers(stamp, concat) {
+            return false;
+        }
+        self.is_to(to) && self.origin().is_same(origin)
     }
 
     /// Whom its pieces are from (TP-OA).
@@ -88,6 +185,20 @@ impl Key {
         match self {
             Key::Single { origin, .. } => origin,
             Key::Segmented { origin, .. } => origin,
+            Key::SingleTo { origin, .. } => origin,
+            Key::SegmentedTo { origin, .. } => origin,
+        }
+    }
+
+    /// For whom they are, as the gateway says, where it says so.
+    pub fn recipient(&self) -> Option<&Address>
+        ensures { option_copied result ≡ recipient_of self.now }
+    {
+        match self {
+            Key::Single { .. } => None,
+            Key::Segmented { .. } => None,
+            Key::SingleTo { recipient, .. } => Some(recipient),
+            Key::SegmentedTo { recipient, .. } => Some(recipient),
         }
     }
 
@@ -98,6 +209,8 @@ impl Key {
         match self {
             Key::Single { .. } => 1,
             Key::Segmented { maximum, .. } => *maximum,
+            Key::SingleTo { .. } => 1,
+            Key::SegmentedTo { maximum, .. } => *maximum,
         }
     }
 }

@@ -1,8 +1,8 @@
 //! Keys in a ring, and chains of the places of those that share a head.
 
-ghost use Rattle.std.specs.Prelude.{◌≡◌, ◌+◌, ◌-◌, ◌<◌, ◌≤◌, ◌^◌, ◌==◌, [], ◌∷◌, take, if◌then◌else◌, IfOk, bit_and, length, replicate, slice_set, slice_index, slice_index_or};
+ghost use Rattle.std.specs.Prelude.{◌≡◌, ◌+◌, ◌-◌, ◌<◌, ◌≤◌, ◌^◌, ◌==◌, [], ◌∷◌, take, if◌then◌else◌, IfOk, bit_and, length, replicate, option_copied, slice_set, slice_index, slice_index_or, slice_get};
 ghost use Rattle.sms_join.specs.Joiner.{is_among};
-ghost use Rattle.sms_join.specs.Piece.{key_of};
+ghost use Rattle.sms_join.specs.Piece.{key_to};
 ghost use Rattle.sms_join.specs.Inside.KeyHashes.{hash_of};
 ghost use Rattle.sms_join.specs.Inside.KeyRings.{laid, entries, newer, LieIn, LieApart, AreLinked};
 ghost use Rattle.sms_join.specs.Inside.KeyRings as rings;
@@ -84,6 +84,19 @@ fn key_at(keys: &HeapCircularBuffer<Key>, oldest: usize, place: usize) -> &Key
     keys.get(index).unwrap()
 }
 
+/// How many of so many keys came after the one at a place.
+fn came_after(oldest: usize, count: usize, place: usize) -> usize
+    requires oldest { oldest ≤ count }
+    requires place { place < count }
+    ensures { result ≡ rings.came_after oldest count place }
+{
+    if place < oldest {
+        oldest - 1 - place
+    } else {
+        oldest + (count - 1 - place)
+    }
+}
+
 /// Puts the place in front of the chain of a head.
 fn link(heads: &mut [u32], next: &mut [u32], head: usize, place: usize)
     requires head { head < length heads.old }
@@ -163,24 +176,43 @@ impl KeyRing {
         })
     }
 
-    /// Whether the key of such a message or segment is among them.
+    /// Whether the key of such a message or segment is among the last so many.
     ///
     /// Where the hashers are all alike, whoever picks keys of one head makes it look through them
     /// one by one.
-    pub(crate) fn contains(&self, origin: &Address, stamp: Stamp, concat: Option<Concat>) -> bool
-        ensures { result ≡ is_among self.now.keys (key_of origin.now stamp concat) }
+    pub(crate) fn contains(
+        &self,
+        last: usize,
+        to: Option<&Address>,
+        origin: &Address,
+        stamp: Stamp,
+        concat: Option<Concat>,
+    ) -> bool
+        ensures { result ≡ is_among (take last self.now.keys)
+            (key_to (option_copied to.entry) origin.now stamp concat) }
     {
+        let count = self.keys.len();
         let mut place = self.heads[head_of(
-            hash_of(self.hashing, origin, stamp, concat),
+            hash_of(self.hashing, to, origin, stamp, concat),
             self.heads.len(),
         )];
         while place != NONE {
-            if key_at(&self.keys, self.oldest, place as usize).is_of(origin, stamp, concat) {
+            let at = place as usize;
+            let key = key_at(&self.keys, self.oldest, at);
+            let found = key.is_of(to, origin, stamp, concat);
+            if found && came_after(self.oldest, count, at) < last {
                 return true;
             }
-            place = self.next[place as usize];
+            place = self.next[at];
         }
         false
+    }
+
+    /// The key that came before so many others.
+    pub(crate) fn get(&self, after: usize) -> Option<&Key>
+        ensures { option_copied result ≡ slice_get self.now.keys after }
+    {
+        self.keys.nth_back(after)
     }
 
     /// Adds a key. It takes no memory.

@@ -1,10 +1,10 @@
 //! Keys in a row that are looked through where one has the tag of the key that is asked for.
 
-ghost use Rattle.std.specs.Prelude.{◌≡◌, [], ◌∷◌, ◌==◌, length, take, IfOk};
+ghost use Rattle.std.specs.Prelude.{◌≡◌, [], ◌∷◌, ◌==◌, length, drop, take, slice_get, option_copied, IfOk};
 ghost use Rattle.std.specs.List.{list_any};
 ghost use Rattle.sms_join.specs.Key.{same_key};
 ghost use Rattle.sms_join.specs.Joiner.{is_among};
-ghost use Rattle.sms_join.specs.Piece.{key_of};
+ghost use Rattle.sms_join.specs.Piece.{key_to};
 
 use crate::key::Key;
 use crate::key_tag::{key_tag, tag_of};
@@ -39,19 +39,23 @@ impl Model for KeyRow {
     ghost invariant = { λ r. HaveTags (reverse r.keys.items) r.tags };
 }
 
-/// Whether the key of such a message or segment is there. It stands by itself: most answers come
-/// without it.
+/// Whether the key of such a message or segment is there, after so many of the first ones. It
+/// stands by itself: most answers come without it.
 #[inline(never)]
 fn has_key(
     keys: &HeapCircularBuffer<Key>,
+    skipped: usize,
+    to: Option<&Address>,
     origin: &Address,
     stamp: Stamp,
     concat: Option<Concat>,
 ) -> bool
-    ensures { result
-        ≡ list_any (λ key. same_key key (key_of origin.now stamp concat)) keys.now.items }
+    ensures { let asked = key_to (option_copied to.entry) origin.now stamp concat in
+        result ≡ list_any (λ key. same_key key asked) (drop skipped keys.now.items) }
 {
-    keys.iter().any(|key| key.is_of(origin, stamp, concat))
+    keys.iter()
+        .skip(skipped)
+        .any(|key| key.is_of(to, origin, stamp, concat))
 }
 
 /// Whether the tag is there. All are compared at once.
@@ -75,15 +79,31 @@ impl KeyRow {
         })
     }
 
-    /// Whether the key of such a message or segment is among them.
-    pub(crate) fn contains(&self, origin: &Address, stamp: Stamp, concat: Option<Concat>) -> bool
-        ensures { result ≡ is_among self.now.keys (key_of origin.now stamp concat) }
+    /// Whether the key of such a message or segment is among the last so many.
+    pub(crate) fn contains(
+        &self,
+        last: usize,
+        to: Option<&Address>,
+        origin: &Address,
+        stamp: Stamp,
+        concat: Option<Concat>,
+    ) -> bool
+        ensures { result ≡ is_among (take last self.now.keys)
+            (key_to (option_copied to.entry) origin.now stamp concat) }
     {
         // A key has its tag: where the tag is none of those of all keys, no key is looked at.
-        if self.keys.len() <= TAGS && !has_tag(&self.tags, tag_of(origin, stamp, concat)) {
+        if self.keys.len() <= TAGS && !has_tag(&self.tags, tag_of(to, origin, stamp, concat)) {
             return false;
         }
-        has_key(&self.keys, origin, stamp, concat)
+        let skipped = self.keys.len().saturating_sub(last);
+        has_key(&self.keys, skipped, to, origin, stamp, concat)
+    }
+
+    /// The key that came before so many others.
+    pub(crate) fn get(&self, after: usize) -> Option<&Key>
+        ensures { option_copied result ≡ slice_get self.now.keys after }
+    {
+        self.keys.nth_back(after)
     }
 
     /// Adds a key. It takes no memory.

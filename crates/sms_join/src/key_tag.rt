@@ -1,8 +1,8 @@
 //! The tags of keys: numbers that keys of one message share, and that other keys seldom have.
 
-ghost use Rattle.std.specs.Prelude.{◌≡◌, ◌+◌, ◌*◌, ◌%◌, ◌^◌};
-ghost use Rattle.sms_join.specs.Piece.{key_of};
-ghost use Rattle.sms_join.specs.Inside.KeyTags.{symbols_of, mark_of, tag_of};
+ghost use Rattle.std.specs.Prelude.{◌≡◌, None, option_copied};
+ghost use Rattle.sms_join.specs.Piece.{key_to};
+ghost use Rattle.sms_join.specs.Inside.KeyTags.{symbols_of, mark_of, mark_to, mixed, tag_of};
 
 use crate::key::Key;
 use sms_field::{Address, Stamp, Symbols};
@@ -30,33 +30,49 @@ fn mark_of(symbols: &[u8]) -> u16
     }
 }
 
-/// A tag of two numbers and the origin.
+/// The same of a recipient, 0 where there is none.
 #[inline(always)]
-fn mixed(high: u8, low: u16, origin: &Address) -> u16
-    ensures { result ≡ (256 * (high + mark_of (symbols_of origin.now)) + low) % 2 ^ 16 }
+fn mark_to(to: Option<&Address>) -> u16
+    ensures { result ≡ mark_to (option_copied to.entry) }
 {
-    let mark = mark_of(symbols_of(origin));
-    let wide = 256 * (u32::from(high) + u32::from(mark)) + u32::from(low);
+    match to {
+        None => 0,
+        Some(recipient) => mark_of(symbols_of(recipient)),
+    }
+}
+
+/// A tag of two numbers, the recipient and the origin.
+#[inline(always)]
+fn mixed(high: u8, low: u16, to: Option<&Address>, origin: &Address) -> u16
+    ensures { result ≡ mixed high low (option_copied to.entry) origin.now }
+{
+    let mark = u32::from(mark_of(symbols_of(origin))) + u32::from(mark_to(to));
+    let wide = 256 * (u32::from(high) + mark) + u32::from(low);
     (wide % 65_536) as u16
 }
 
 /// The tag of a message in one piece.
 #[inline(always)]
-fn tag_of_single(origin: &Address, stamp: Stamp) -> u16
-    ensures { result ≡ tag_of (key_of origin.now stamp None) }
+fn tag_of_single(to: Option<&Address>, origin: &Address, stamp: Stamp) -> u16
+    ensures { result ≡ tag_of (key_to (option_copied to.entry) origin.now stamp None) }
 {
     let [_, _, _, _, minute, second, _] = stamp.octets();
-    mixed(minute, u16::from(second), origin)
+    mixed(minute, u16::from(second), to, origin)
 }
 
 /// The tag of the key of a message, or of the message that a segment is of.
 #[inline(always)]
-pub(crate) fn tag_of(origin: &Address, stamp: Stamp, concat: Option<Concat>) -> u16
-    ensures { result ≡ tag_of (key_of origin.now stamp concat) }
+pub(crate) fn tag_of(
+    to: Option<&Address>,
+    origin: &Address,
+    stamp: Stamp,
+    concat: Option<Concat>,
+) -> u16
+    ensures { result ≡ tag_of (key_to (option_copied to.entry) origin.now stamp concat) }
 {
     match concat {
-        None => tag_of_single(origin, stamp),
-        Some(concat) => mixed(concat.maximum, concat.reference, origin),
+        None => tag_of_single(to, origin, stamp),
+        Some(concat) => mixed(concat.maximum, concat.reference, to, origin),
     }
 }
 
@@ -65,12 +81,24 @@ pub(crate) fn key_tag(key: &Key) -> u16
     ensures { result ≡ tag_of key.now }
 {
     match key {
-        Key::Single { origin, stamp } => tag_of_single(origin, *stamp),
+        Key::Single { origin, stamp } => tag_of_single(None, origin, *stamp),
+        Key::SingleTo {
+            recipient,
+            origin,
+            stamp,
+        } => tag_of_single(Some(recipient), origin, *stamp),
         Key::Segmented {
             origin,
             reference,
             maximum,
             ..
-        } => mixed(*maximum, *reference, origin),
+        } => mixed(*maximum, *reference, None, origin),
+        Key::SegmentedTo {
+            recipient,
+            origin,
+            reference,
+            maximum,
+            ..
+        } => mixed(*maximum, *reference, Some(recipient), origin),
     }
 }

@@ -1,8 +1,9 @@
 //! The keys of the last sets that finished.
 
-ghost use Rattle.std.specs.Prelude.{◌≡◌, ◌<◌, [], ◌∷◌, take, IfOk};
+ghost use Rattle.std.specs.Prelude.{◌≡◌, ◌<◌, [], ◌∷◌, take, slice_get, option_copied, IfOk};
+ghost use Rattle.sms_join.specs.Inside.Remembered.{last_keys};
 ghost use Rattle.sms_join.specs.Joiner.{is_among};
-ghost use Rattle.sms_join.specs.Piece.{key_of};
+ghost use Rattle.sms_join.specs.Piece.{key_to};
 
 use crate::hashing::Hashing;
 use crate::key::Key;
@@ -26,19 +27,69 @@ pub(crate) enum Remembered {
     Many(KeyRing),
 }
 
+impl Remembered {
+    /// Whether the key of such a message or segment is among the last so many.
+    fn contains(
+        &self,
+        last: usize,
+        to: Option<&Address>,
+        origin: &Address,
+        stamp: Stamp,
+        concat: Option<Concat>,
+    ) -> bool
+        ensures { result ≡ is_among (take last (last_keys self.now).keys)
+            (key_to (option_copied to.entry) origin.now stamp concat) }
+    {
+        match self {
+            Remembered::Few(row) => row.contains(last, to, origin, stamp, concat),
+            Remembered::Many(ring) => ring.contains(last, to, origin, stamp, concat),
+        }
+    }
+
+    /// The key that came before so many others.
+    fn get(&self, after: usize) -> Option<&Key>
+        ensures { option_copied result ≡ slice_get (last_keys self.now).keys after }
+    {
+        match self {
+            Remembered::Few(row) => row.get(after),
+            Remembered::Many(ring) => ring.get(after),
+        }
+    }
+
+    /// Adds a key.
+    fn push(&mut self, key: Key)
+        ensures { last_keys self.new ≡ record {
+          limit = (last_keys self.old).limit;
+          keys = take (last_keys self.old).limit (key ∷ (last_keys self.old).keys);
+        } }
+    {
+        match self {
+            Remembered::Few(row) => row.push(key),
+            Remembered::Many(ring) => ring.push(key),
+        }
+    }
+}
+
 /// As many keys as the limit at most. A further one takes the place of the oldest.
 #[derive(Drop)]
 pub(crate) struct LastKeys {
     keys: Remembered,
+    limit: usize,
+    /// How many of the last ones are not forgotten. The others lie there still, and room is kept
+    /// for as many as the limit anyway.
+    count: usize,
 }
 
 impl Model for LastKeys {
+    ghost use Rattle.std.specs.Prelude.{◌≡◌, ◌≤◌, take};
     ghost use Rattle.sms_join.specs.Inside.LastKeys.{LastKeysValue};
     ghost use Rattle.sms_join.specs.Inside.Remembered.{last_keys};
 
     ghost Value = { LastKeysValue };
 
-    ghost view = { λ l. last_keys l.keys };
+    ghost view = { λ l. record { limit = l.limit; keys = take l.count (last_keys l.keys).keys } };
+
+    ghost invariant = { λ l. (l.limit ≡ (last_keys l.keys).limit) × (l.count ≤ l.limit) };
 }
 
 impl LastKeys {
@@ -47,26 +98,47 @@ impl LastKeys {
         requires { 0 < limit }
         ensures { IfOk result (λ keys. keys ≡ record { limit = limit; keys = [] }) }
     {
-        if limit <= FEW_KEYS || limit > PLACES_MAX {
-            let row = KeyRow::new(alloc, limit)?;
-            return Ok(LastKeys {
-                keys: Remembered::Few(row),
-            });
-        }
-        let ring = KeyRing::new(alloc, limit, hashing)?;
+        let keys = if limit <= FEW_KEYS || limit > PLACES_MAX {
+            Remembered::Few(KeyRow::new(alloc, limit)?)
+        } else {
+            Remembered::Many(KeyRing::new(alloc, limit, hashing)?)
+        };
         Ok(LastKeys {
-            keys: Remembered::Many(ring),
+            keys,
+            limit,
+            count: 0,
         })
     }
 
-    /// Whether the key of such a message or segment is among them.
-    pub(crate) fn contains(&self, origin: &Address, stamp: Stamp, concat: Option<Concat>) -> bool
-        ensures { result ≡ is_among self.now.keys (key_of origin.now stamp concat) }
+    /// How many there are at most.
+    pub(crate) fn limit(&self) -> usize
+        ensures { result ≡ self.now.limit }
     {
-        match &self.keys {
-            Remembered::Few(row) => row.contains(origin, stamp, concat),
-            Remembered::Many(ring) => ring.contains(origin, stamp, concat),
+        self.limit
+    }
+
+    /// Whether the key of such a message or segment is among them.
+    pub(crate) fn contains(
+        &self,
+        to: Option<&Address>,
+        origin: &Address,
+        stamp: Stamp,
+        concat: Option<Concat>,
+    ) -> bool
+        ensures { result ≡ is_among self.now.keys
+            (key_to (option_copied to.entry) origin.now stamp concat) }
+    {
+        self.keys.contains(self.count, to, origin, stamp, concat)
+    }
+
+    /// The key that came before so many others.
+    pub(crate) fn get(&self, after: usize) -> Option<&Key>
+        ensures { option_copied result ≡ slice_get self.now.keys after }
+    {
+        if after >= self.count {
+            return None;
         }
+        self.keys.get(after)
     }
 
     /// Adds a key. It takes no memory.
@@ -76,9 +148,19 @@ impl LastKeys {
           keys = take self.old.limit (key ∷ self.old.keys);
         } }
     {
-        match &mut self.keys {
-            Remembered::Few(row) => row.push(key),
-            Remembered::Many(ring) => ring.push(key),
+        self.keys.push(key);
+        if self.count < self.limit {
+            self.count += 1;
         }
+    }
+
+    /// Forgets all but so many of the last ones.
+    pub(crate) fn keep(&mut self, count: usize)
+        ensures { self.new ≡ record {
+          limit = self.old.limit;
+          keys = take count self.old.keys;
+        } }
+    {
+        self.count = self.count.min(count);
     }
 }

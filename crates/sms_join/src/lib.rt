@@ -1,10 +1,15 @@
 //! Texts cut into segments, and segments joined into texts.
 #![tactic(auto)]
 
+mod age;
 mod cut;
 mod dropping;
 mod earliest;
+mod finishings;
+mod gateway;
+mod gateway_limits;
 mod hashing;
+pub mod in_time;
 mod joiner;
 mod keeper;
 mod key;
@@ -19,17 +24,22 @@ mod line;
 mod offer;
 mod open_set;
 mod open_sets;
+mod place;
 mod reading;
+pub mod recipients;
 pub mod seeds;
 mod segment;
 mod segments;
 mod slot;
 mod table;
+mod told_sets;
 mod units;
 pub mod walks;
 mod written;
 
 pub use cut::{SEGMENTS_MAX, SplitFault, cut_text, split};
+pub use gateway::{Gateway, RememberedKey};
+pub use gateway_limits::{Alone, GatewayLimits};
 pub use joiner::Joiner;
 pub use key::Key;
 pub use laws::{cut_is_read_as_text, texts_have_one_cut};
@@ -38,5 +48,6 @@ pub use open_set::OpenSet;
 pub use reading::read_units;
 pub use segment::{Segment, SegmentView, segment_user};
 pub use segments::Segments;
+pub use told_sets::ToldSets;
 pub use units::{Ucs2Units, Units};
 pub use written::Written;

@@ -1,8 +1,9 @@
 //! The line of openings, in which open sets are found in the order in which they were opened.
 
-ghost use Rattle.std.specs.Prelude.{◌≡◌, ◌≤◌, ℕ, nat_lt, true, false, length, drop};
+ghost use Rattle.std.specs.Prelude.{◌≡◌, ◌<◌, ◌≤◌, ℕ, nat_lt, true, false, length, drop, slice_get, Some, IfSome};
+ghost use Rattle.sms_join.specs.declared.line.Opening.{Opening as TheOpening};
 ghost use Rattle.sms_join.specs.Inside.Slots.{sets_of};
-ghost use Rattle.sms_join.specs.Inside.Lines.{Climbs, Splits, HasNumber, noted, lies, first_index, InLine};
+ghost use Rattle.sms_join.specs.Inside.Lines.{Climbs, Splits, HasNumber, noted, lies, walked, walked_at, InLine};
 
 use crate::hashing::Hashing;
 use crate::key::Key;
@@ -53,17 +54,22 @@ pub(crate) fn lies(slots: &IndexMap<Key, Slot, Hashing>, opening: Opening) -> bo
     }
 }
 
-/// Where the first set lies whose opening stands at this place of the line or after it.
-pub(crate) fn first_index(
+/// The first place of the line, this one or one after it, of an opening whose set is there.
+pub(crate) fn first_place(
     slots: &IndexMap<Key, Slot, Hashing>,
     line: &VecDeque<Opening>,
     place: usize,
 ) -> Option<usize>
-    ensures { result ≡ first_index (sets_of slots.now.entries) (drop place line.now.items) }
+    ensures passed { walked (sets_of slots.now.entries) (drop place line.now.items)
+        ≡ walked_at (sets_of slots.now.entries) line.now.items result }
+    ensures there { IfSome result (λ found. found < length line.now.items) }
+    ensures lies { IfSome result (λ found. (opening : TheOpening)
+        → slice_get line.now.items found ≡ Some opening
+        → lies (sets_of slots.now.entries) opening ≡ true) }
 {
     for at in place..line.len() {
         if lies(slots, line[at]) {
-            return Some(line[at].index);
+            return Some(at);
         }
     }
     None

@@ -1,12 +1,14 @@
 //! A set that is open, where it lies.
 
-ghost use Rattle.std.specs.Prelude.{◌≡◌, ◌+◌, ◌<◌, ◌≤◌, nat_le, length};
+ghost use Rattle.std.specs.Prelude.{◌≡◌, ◌+◌, ◌<◌, ◌≤◌, nat_le, length, option_copied};
 ghost use Rattle.sms_join.specs.Key.{maximum_of};
-ghost use Rattle.sms_join.specs.OpenSets.{is_in};
+ghost use Rattle.sms_join.specs.OpenSets.{is_in, units_for};
 ghost use Rattle.sms_join.specs.Inside.Slots.{set_of};
 
+use crate::age::Age;
 use crate::key::Key;
 use crate::slot::Slot;
+use crate::units::Units;
 use std::marker::Model;
 
 /// A set of which some pieces have come, and not all. Contracts see its key, the moment of its
@@ -61,10 +63,10 @@ impl<'a> OpenSet<'a> {
     }
 
     /// Whether it was opened too long ago.
-    pub(crate) fn is_old(&self, now: u64) -> bool
-        ensures { result ≡ nat_le (self.now.opened + 604800) now }
+    pub(crate) fn is_old(&self, age: Age) -> bool
+        ensures { result ≡ nat_le (self.now.opened + age.longest) age.now }
     {
-        self.slot.is_old(now)
+        self.slot.is_old(age)
     }
 
     /// The number of its opening: a set that is opened later has a greater one.
@@ -88,5 +90,16 @@ impl<'a> OpenSet<'a> {
         ensures { result ≡ is_in sequence self.now.sequences }
     {
         self.slot.has(sequence)
+    }
+
+    /// The units of the piece of this sequence, where it has come. The sequence is from 1 to the
+    /// maximum.
+    pub fn units(&self, sequence: u8) -> Option<&'a Units>
+        requires first { 0 < sequence }
+        requires last { sequence ≤ maximum_of self.now.key }
+        ensures { option_copied result
+            ≡ units_for sequence self.now.sequences self.now.units }
+    {
+        self.slot.units(sequence)
     }
 }

@@ -1,6 +1,8 @@
 //! The sets of pieces that are not whole.
 
-ghost use Rattle.std.specs.Prelude.{◌≡◌, ℕ, suc, ◌<◌, ◌≤◌, [], ◌∷◌, ◌++◌, ◌==◌, length, position, slice_get, true, false, IfOk, OnOk, OnErr};
+mod opening;
+
+ghost use Rattle.std.specs.Prelude.{◌≡◌, ℕ, suc, ◌<◌, ◌≤◌, [], ◌==◌, length, option_copied, position, slice_get, true, false, IfOk};
 ghost use Rattle.std.proofs.Math.ListN.{set};
 ghost use Rattle.std.specs.List.{swap_remove};
 ghost use Rattle.std.specs.Str.{chars};
@@ -9,23 +11,26 @@ ghost use Rattle.indexmap.specs.IndexMap.{keys};
 ghost use Rattle.sms_join.specs.Joiner.Finishing.{lacks_only};
 ghost use Rattle.sms_join.specs.Key.{same_key, maximum_of};
 ghost use Rattle.sms_join.specs.OpenSets.{has_set, is_in, with_piece};
-ghost use Rattle.sms_join.specs.Piece.{key_of};
+ghost use Rattle.sms_join.specs.Piece.{key_to};
 ghost use Rattle.sms_join.specs.Reading.{text_of_segments};
 ghost use Rattle.sms_join.specs.Inside.MostSets.{Follows};
 ghost use Rattle.sms_join.specs.Inside.Slots.{At, HasPlace, AreSlots, sets_of};
 ghost use Rattle.sms_join.specs.Inside.Turns.{AreBefore, HaveTurns, arranged};
 ghost use Rattle.sms_join.specs.Inside.Lines.{InLine, AreInTime, noted_at};
+ghost use Rattle.sms_join.specs.Inside.Ages.{old_of};
 ghost use Rattle.sms_join.specs.Inside.Dropping.{DropsOld};
-ghost use Rattle.sms_join.specs.OpenSets.Told.{first_from, old_sets};
+ghost use Rattle.sms_join.specs.OpenSets.Told.{first_from};
 
+use crate::age::Age;
 use crate::dropping::{drop_at, drop_old};
-use crate::earliest::{earliest_left, earliest_with};
+use crate::earliest::earliest_left;
 use crate::hashing::Hashing;
 use crate::key::Key;
-use crate::line::{Opening, first_index, place_from, tidy};
+use crate::line::{Opening, place_from, tidy};
 use crate::open_set::OpenSet;
-use crate::slot::{Slot, is_past};
+use crate::slot::Slot;
 use crate::table::{FEW_SETS, find_key, give_room_back};
+use crate::told_sets::ToldSets;
 use crate::units::Units;
 use indexmap::IndexMap;
 use sms_field::{Address, Stamp};
@@ -67,13 +72,6 @@ impl Model for OpenSets {
         × InLine o.turns o.line.items (sets_of o.slots.entries)
         × (o.in_time ≡ true → AreInTime o.latest (sets_of o.slots.entries))
         × AreSince o.earliest (sets_of o.slots.entries) };
-}
-
-/// The number after this one.
-fn next_turn(turn: u64) -> Result<u64, AllocError>
-    ensures { IfOk result (λ next. next ≡ suc turn) }
-{
-    turn.checked_add(1).ok_or(AllocError)
 }
 
 impl OpenSets {
@@ -121,17 +119,18 @@ impl OpenSets {
     pub(crate) fn find(
         &self,
         alloc: Global,
+        to: Option<&Address>,
         origin: &Address,
         stamp: Stamp,
         concat: Option<Concat>,
     ) -> Option<usize>
-        ensures { result
-            ≡ position (λ set. same_key set.key (key_of origin.now stamp concat)) self.now }
+        ensures { let asked = key_to (option_copied to.entry) origin.now stamp concat in
+            result ≡ position (λ set. same_key set.key asked) self.now }
     {
         if self.slots.len() <= FEW_SETS {
-            return find_key(&self.slots, origin, stamp, concat);
+            return find_key(&self.slots, to, origin, stamp, concat);
         }
-        let key = Key::of(alloc, origin, stamp, concat);
+        let key = Key::of(alloc, to, origin, stamp, concat);
         self.slots.get_index_of(&key)
     }
 
@@ -188,24 +187,29 @@ impl OpenSets {
         tidy(&mut self.line, &self.slots);
     }
 
+    /// All of them, in order of opening.
+    pub(crate) fn told(&self) -> ToldSets<'_>
+        ensures { result ≡ arranged self.now }
+    {
+        ToldSets::new(&self.slots, &self.line, 0)
+    }
+
     /// The first of them, in order of opening, whose number of opening is this one or above.
     pub(crate) fn open_from(&self, turn: u64) -> Option<OpenSet<'_>>
         ensures { result ≡ first_from turn (arranged self.now) }
     {
         let place = place_from(&self.line, turn);
-        let index = first_index(&self.slots, &self.line, place)?;
-        let (key, slot) = self.slots.get_index(index)?;
-        Some(OpenSet::new(key, slot))
+        ToldSets::new(&self.slots, &self.line, place).next()
     }
 
     /// The same of those alone that were opened too long ago.
-    pub(crate) fn old_from(&self, turn: u64, now: u64) -> Option<OpenSet<'_>>
-        ensures { result ≡ first_from turn (old_sets now (arranged self.now)) }
+    pub(crate) fn old_from(&self, turn: u64, age: Age) -> Option<OpenSet<'_>>
+        ensures { result ≡ first_from turn (old_of age (arranged self.now)) }
     {
         let _openings = self.openings();
         let mut next = turn;
         while let Some(set) = self.open_from(next) {
-            if set.is_old(now) {
+            if set.is_old(age) {
                 return Some(set);
             }
             if self.in_time {
@@ -216,54 +220,17 @@ impl OpenSets {
         None
     }
 
-    /// Opens a set with its first piece. If memory runs out, nothing has changed.
-    pub(crate) fn open(
-        &mut self,
-        alloc: Global,
-        key: Key,
-        now: u64,
-        sequence: u8,
-        units: Units,
-    ) -> Result<(), AllocError>
-        requires first { 0 < sequence }
-        requires last { sequence ≤ maximum_of key }
-        requires closed { has_set self.old key ≡ false }
-        ensures ok { OnOk result ((t : ℕ) × HaveTurns t self.old
-            × (self.new ≡ self.old ++ record {
-              key = key;
-              opened = now;
-              turn = t;
-              sequences = sequence ∷ [];
-              units = units ∷ [];
-            } ∷ [])) }
-        ensures err { OnErr result (self.new ≡ self.old) }
-    {
-        let turn = self.turns;
-        let index = self.slots.len();
-        let next = next_turn(turn)?;
-        let slot = Slot::new(alloc, now, turn, key.maximum(), sequence, units)?;
-        tidy(&mut self.line, &self.slots);
-        self.line.push_back(Opening { turn, index })?;
-        self.turns = next;
-        self.slots.insert(key, slot)?;
-        self.most = self.slots.len().max(self.most);
-        self.in_time = index == 0 || (self.in_time && self.latest <= now);
-        self.latest = now;
-        self.earliest = earliest_with(index, self.earliest, now);
-        Ok(())
-    }
-
     /// Drops those that were opened too long ago. It takes no memory. Where there are none, as
     /// nearly always, it looks at no set but one, or goes through all where they were not opened in
     /// time, and then not again before the earliest of them is too old. Where few are left, room is
     /// given back.
-    pub(crate) fn age(&mut self, now: u64)
-        ensures { DropsOld now self.old self.new }
+    pub(crate) fn age(&mut self, age: Age)
+        ensures { DropsOld age self.old self.new }
     {
-        if !is_past(self.earliest, now) {
+        if !age.is_past(self.earliest) {
             return;
         }
-        drop_old(&mut self.slots, &mut self.line, now, self.in_time);
+        drop_old(&mut self.slots, &mut self.line, age, self.in_time);
         self.earliest = earliest_left(self.in_time, self.earliest, &self.slots);
         self.most = give_room_back(&mut self.slots, self.most);
         tidy(&mut self.line, &self.slots);

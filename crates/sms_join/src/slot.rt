@@ -1,20 +1,19 @@
 //! The places of a set of pieces that is not whole.
 
-ghost use Rattle.std.specs.Prelude.{◌≡◌, suc, ◌-◌, ◌<◌, ◌≤◌, ◌+◌, ◌==◌, length, nat_le, false, None, Some, IfOk};
+ghost use Rattle.std.specs.Prelude.{◌≡◌, suc, ◌-◌, ◌<◌, ◌≤◌, ◌+◌, ◌==◌, length, nat_le, false, None, Some, option_copied, IfOk};
 ghost use Rattle.std.proofs.Math.ListN.{set, replicate};
 ghost use Rattle.std.specs.Str.{chars};
 ghost use Rattle.std.specs.String.{string_bytes};
-ghost use Rattle.sms_join.specs.OpenSets.{is_in};
+ghost use Rattle.sms_join.specs.OpenSets.{is_in, units_for};
 ghost use Rattle.sms_join.specs.Reading.{text_of_segments};
-ghost use Rattle.sms_join.specs.Inside.Slots.{filled, filled_from, filled_with, first_places};
+ghost use Rattle.sms_join.specs.OpenSets.Places.{filled, filled_from};
+ghost use Rattle.sms_join.specs.Inside.Slots.{filled_with, first_places};
 
+use crate::age::Age;
 use crate::reading::{lend_with, read_lent};
 use crate::units::Units;
 use std::alloc::{AllocError, Global};
 use std::marker::Model;
-
-/// For how many seconds a set may be open: seven days.
-const LONGEST_OPEN: u64 = 604_800;
 
 /// The pieces of a message that have come, each at the place of its sequence.
 #[derive(Drop)]
@@ -30,7 +29,8 @@ pub(crate) struct Slot {
 
 impl Model for Slot {
     ghost use Rattle.std.specs.Prelude.{◌≡◌, length};
-    ghost use Rattle.sms_join.specs.Inside.Slots.{SlotValue, filled as come};
+    ghost use Rattle.sms_join.specs.OpenSets.Places.{filled as come};
+    ghost use Rattle.sms_join.specs.Inside.Slots.{SlotValue};
 
     ghost Value = { SlotValue };
 
@@ -50,47 +50,54 @@ fn empty_places(alloc: Global, count: usize) -> Result<Vec<Option<Units>>, Alloc
     Ok(places)
 }
 
-/// Whether a set that was opened at a moment has been open for too long.
-pub(crate) fn is_past(opened: u64, now: u64) -> bool
-    ensures { result ≡ nat_le (opened + 604800) now }
+/// A place for each piece of a set, of which one has come.
+pub(crate) fn places_with(
+    alloc: Global,
+    maximum: u8,
+    sequence: u8,
+    units: Units,
+) -> Result<Vec<Option<Units>>, AllocError>
+    requires first { 0 < sequence }
+    requires last { sequence ≤ maximum }
+    ensures { IfOk result (λ places. places.items ≡ first_places maximum sequence units) }
 {
-    now.saturating_sub(opened) >= LONGEST_OPEN
+    let mut places = empty_places(alloc, usize::from(maximum))?;
+    places[usize::from(sequence) - 1] = Some(units);
+    Ok(places)
+}
+
+/// How many of the places are filled.
+pub(crate) fn count_filled(places: &[Option<Units>]) -> usize
+    ensures { result ≡ length (filled places.now) }
+{
+    let mut count = 0;
+    for place in places {
+        if place.is_some() {
+            count += 1;
+        }
+    }
+    count
 }
 
 impl Slot {
-    /// A place for each piece of a set, of which one has come.
-    pub(crate) fn new(
-        alloc: Global,
-        opened: u64,
-        turn: u64,
-        maximum: u8,
-        sequence: u8,
-        units: Units,
-    ) -> Result<Slot, AllocError>
-        requires first { 0 < sequence }
-        requires last { sequence ≤ maximum }
-        ensures { IfOk result (λ slot. slot
-            ≡ record {
-              opened = opened;
-              turn = turn;
-              places = first_places maximum sequence units;
-            }) }
+    /// The set of these places, of which so many are filled.
+    pub(crate) fn new(opened: u64, turn: u64, count: usize, places: Vec<Option<Units>>) -> Slot
+        requires { count ≡ length (filled places.items) }
+        ensures { result ≡ record { opened = opened; turn = turn; places = places.items } }
     {
-        let mut places = empty_places(alloc, usize::from(maximum))?;
-        places[usize::from(sequence) - 1] = Some(units);
-        Ok(Slot {
+        Slot {
             opened,
             turn,
-            filled: 1,
+            filled: count,
             places,
-        })
+        }
     }
 
     /// Whether it was opened too long ago.
-    pub(crate) fn is_old(&self, now: u64) -> bool
-        ensures { result ≡ nat_le (self.now.opened + 604800) now }
+    pub(crate) fn is_old(&self, age: Age) -> bool
+        ensures { result ≡ nat_le (self.now.opened + age.longest) age.now }
     {
-        is_past(self.opened, now)
+        age.is_past(self.opened)
     }
 
     /// How many sets had been opened before.
@@ -121,6 +128,16 @@ impl Slot {
         ensures { result ≡ is_in sequence (filled_from 1 self.now.places) }
     {
         self.places[usize::from(sequence) - 1].is_some()
+    }
+
+    /// The units of this piece, where it has come.
+    pub(crate) fn units(&self, sequence: u8) -> Option<&Units>
+        requires first { 0 < sequence }
+        requires last { sequence ≤ length self.now.places }
+        ensures { option_copied result
+            ≡ units_for sequence (filled_from 1 self.now.places) (filled self.now.places) }
+    {
+        self.places[usize::from(sequence) - 1].as_ref()
     }
 
     /// Whether all pieces but one have come.

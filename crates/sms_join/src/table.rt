@@ -1,9 +1,9 @@
 //! The table of open sets.
 
-ghost use Rattle.std.specs.Prelude.{◌≡◌, ◌≤◌, length, position};
+ghost use Rattle.std.specs.Prelude.{◌≡◌, ◌≤◌, length, option_copied, position};
 ghost use Rattle.indexmap.specs.IndexMap.{keys};
 ghost use Rattle.sms_join.specs.Key.{same_key};
-ghost use Rattle.sms_join.specs.Piece.{key_of};
+ghost use Rattle.sms_join.specs.Piece.{key_to};
 ghost use Rattle.sms_join.specs.Inside.MostSets.{Follows};
 
 use crate::hashing::Hashing;
@@ -23,16 +23,17 @@ const MOST_PER_SET: usize = 16;
 /// Which of the sets such a message or segment is of.
 pub(crate) fn find_key(
     slots: &IndexMap<Key, Slot, Hashing>,
+    to: Option<&Address>,
     origin: &Address,
     stamp: Stamp,
     concat: Option<Concat>,
 ) -> Option<usize>
-    ensures { result
-        ≡ position (λ key. same_key key (key_of origin.now stamp concat)) (keys slots.now) }
+    ensures { let asked = key_to (option_copied to.entry) origin.now stamp concat in
+        result ≡ position (λ key. same_key key asked) (keys slots.now) }
 {
     slots
         .keys()
-        .position(|key| key.is_of(origin, stamp, concat))
+        .position(|key| key.is_of(to, origin, stamp, concat))
 }
 
 /// Where few are left of the most sets that have been there, gives back the room of the others,

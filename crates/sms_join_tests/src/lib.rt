@@ -8,11 +8,19 @@ mod cut;
 #[cfg(test)]
 mod found;
 #[cfg(test)]
+mod gateway;
+#[cfg(test)]
+mod gateway_ages;
+#[cfg(test)]
+mod gateway_rows;
+#[cfg(test)]
 mod joiner;
 #[cfg(test)]
 mod left;
 #[cfg(test)]
 mod open_sets;
+#[cfg(test)]
+mod put_back;
 #[cfg(test)]
 mod reading;
 #[cfg(test)]

@@ -199,7 +199,9 @@ fn come_of(set: &OpenSet<'_>) -> u32 {
 fn told_of(set: &OpenSet<'_>) -> Told {
     let reference = match set.key() {
         Key::Segmented { reference, .. } => *reference,
+        Key::SegmentedTo { reference, .. } => *reference,
         Key::Single { .. } => 0,
+        Key::SingleTo { .. } => 0,
     };
     Told {
         reference,
@@ -211,6 +213,15 @@ fn told_of(set: &OpenSet<'_>) -> Told {
 
 /// What is told of all open sets.
 fn tell(alloc: Global, joiner: &Joiner) -> Result<Vec<Told>, AllocError> {
+    let mut told = Vec::new(alloc);
+    for set in joiner.open_sets() {
+        told.push(told_of(&set))?;
+    }
+    Ok(told)
+}
+
+/// The same, each set asked for by the number of its opening.
+fn tell_by_number(alloc: Global, joiner: &Joiner) -> Result<Vec<Told>, AllocError> {
     let mut told = Vec::new(alloc);
     let mut from = 0;
     for _ in 0..joiner.open_count() {
@@ -345,6 +356,8 @@ fn tells_a_crowd(rt: HostRuntime) -> Result<(), Fail> {
             let told = tell(alloc, &joiner)?;
             same(&rt, &step, &told, &list);
             let told = tell(alloc, &seeded)?;
+            same(&rt, &step, &told, &list);
+            let told = tell_by_number(alloc, &joiner)?;
             same(&rt, &step, &told, &list);
         }
     }

@@ -1,5 +1,5 @@
 -- Keys are the same just where they are equal.
-use Rattle.std.proofs.Common.{◌≡◌, true, ◌&&◌, eqb, refl}
+use Rattle.std.proofs.Common.{◌≡◌, ℕ, true, ◌&&◌, eqb, refl}
 use Rattle.std.proofs.lemmas.Bool.{eqb-true, and_parts}
 use Rattle.std.proofs.lemmas.Slice.Eq.{bytes_eq-Decides}
 use Rattle.std.specs.Str.{bytes_eq}
@@ -8,7 +8,7 @@ use Rattle.sms_field.specs.Inside.SameAddressLaws.{same_address_true}
 use Rattle.sms_tpdu.specs.declared.user_data.concat.Width.{Width}
 use Rattle.sms_tpdu.specs.declared.user_data.concat.Width.TheVariants.{Eight, Sixteen}
 use Rattle.sms_join.specs.declared.key.Key.{Key}
-use Rattle.sms_join.specs.declared.key.Key.TheVariants.{Single, Segmented}
+use Rattle.sms_join.specs.declared.key.Key.TheVariants.{Single, Segmented, SingleTo, SegmentedTo}
 use Rattle.sms_join.specs.Key.{same_width, same_key}
 
 same_width_true : (w v : Width) → same_width w v ≡ true → w ≡ v
@@ -17,6 +17,13 @@ same_width_true Eight Eight h = refl
 same_width_true Sixteen Sixteen h = refl
 same_width_true Eight Sixteen h = cc
 same_width_true Sixteen Eight h = cc
+
+-- what segments share besides addresses
+places_true : (w v : Width) (r q m n : ℕ) → (same_width w v && (eqb r q && eqb m n)) ≡ true → (w ≡ v) × (r ≡ q) × (m ≡ n)
+places_true w v r q m n h =
+    let p = and_parts (same_width w v) (eqb r q && eqb m n) h in
+    let p' = and_parts (eqb r q) (eqb m n) p.1 in
+    (same_width_true w v p.0, eqb-true r q p'.0, eqb-true m n p'.1)
 
 pub same_key_true : (k l : Key) → same_key k l ≡ true → k ≡ l
 unfolding same_key
@@ -27,12 +34,27 @@ same_key_true (Single a s) (Single b t) h =
     cc
 same_key_true (Segmented a w r m) (Segmented b v q n) h =
     let p = and_parts (same_address a b) (same_width w v && (eqb r q && eqb m n)) h in
-    let p' = and_parts (same_width w v) (eqb r q && eqb m n) p.1 in
-    let p'' = and_parts (eqb r q) (eqb m n) p'.1 in
     let x : a ≡ b = same_address_true a b p.0 in
-    let y : w ≡ v = same_width_true w v p'.0 in
-    let z : r ≡ q = eqb-true r q p''.0 in
-    let u : m ≡ n = eqb-true m n p''.1 in
+    let e = places_true w v r q m n p.1 in
+    let y : w ≡ v = e.0 in
+    let z : r ≡ q = e.1 in
+    let u : m ≡ n = e.2 in
     cc
-same_key_true (Single a s) (Segmented b v q n) h = cc
-same_key_true (Segmented a w r m) (Single b t) h = cc
+same_key_true (SingleTo to a s) (SingleTo for b t) h =
+    let p = and_parts (same_address to for) (same_address a b && bytes_eq s t) h in
+    let p' = and_parts (same_address a b) (bytes_eq s t) p.1 in
+    let o : to ≡ for = same_address_true to for p.0 in
+    let x : a ≡ b = same_address_true a b p'.0 in
+    let y : s ≡ t = (bytes_eq-Decides s t).0 p'.1 in
+    cc
+same_key_true (SegmentedTo to a w r m) (SegmentedTo for b v q n) h =
+    let p = and_parts (same_address to for) (same_address a b && (same_width w v && (eqb r q && eqb m n))) h in
+    let p' = and_parts (same_address a b) (same_width w v && (eqb r q && eqb m n)) p.1 in
+    let o : to ≡ for = same_address_true to for p.0 in
+    let x : a ≡ b = same_address_true a b p'.0 in
+    let e = places_true w v r q m n p'.1 in
+    let y : w ≡ v = e.0 in
+    let z : r ≡ q = e.1 in
+    let u : m ≡ n = e.2 in
+    cc
+same_key_true _ _ h = cc

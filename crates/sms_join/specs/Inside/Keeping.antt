@@ -1,7 +1,12 @@
 -- A reader may pass this by: contracts of private functions, and proofs, alone cite it.
 --
 -- What a joiner holds, where its open sets stand in the order of their table, and in that of opening.
-use Rattle.std.specs.Prelude.{◌≡◌, ℕ, ◌≤◌, length}
+use Rattle.std.specs.Prelude.{◌≡◌, ℕ, ◌≤◌, true, List, Option, length}
+use Rattle.sms_field.specs.Address.Value.{AddressValue}
+use Rattle.sms_join.specs.declared.key.Key.{Key}
+use Rattle.sms_join.specs.Key.{recipient_of}
+use Rattle.sms_join.specs.Piece.{Piece}
+use Rattle.sms_join.specs.Joiner.Sets.{is_open}
 use Rattle.sms_join.specs.Joiner.Value.{JoinerValue}
 use Rattle.sms_join.specs.OpenSets.{AreOpen, all_pieces}
 use Rattle.sms_join.specs.Inside.Turns.{HaveTurns, arranged}
@@ -23,3 +28,7 @@ in_order v =
       holds = record { kept = all_pieces (arranged v.told); finished = v.holds.finished };
       told = arranged v.told;
     }
+
+-- Each set of these pieces is of this recipient, or of none.
+abbrev pub AreKeptFor : Option AddressValue → List Piece → Type 0
+AreKeptFor r ps = (k : Key) → is_open ps k ≡ true → recipient_of k ≡ r

@@ -1,12 +1,12 @@
 -- A reader may pass this by: contracts of private functions, and proofs, alone cite it.
 --
 -- The tags of keys: numbers that keys of one message share, and that other keys seldom have.
-use Rattle.std.specs.Prelude.{◌≡◌, ℕ, ◌+◌, ◌*◌, ◌%◌, ◌^◌, ◌-◌, List, [], ◌∷◌, length, nat_lt, slice_index, if◌then◌else◌}
+use Rattle.std.specs.Prelude.{◌≡◌, ℕ, ◌+◌, ◌*◌, ◌%◌, ◌^◌, ◌-◌, List, [], ◌∷◌, length, nat_lt, slice_index, if◌then◌else◌, Option, None, Some}
 use Rattle.sms_field.specs.Address.Value.{AddressValue}
 use Rattle.sms_field.specs.declared.symbols.Symbols.{Symbols}
 use Rattle.sms_field.specs.declared.symbols.Symbols.TheVariants.{Digits, Name}
 use Rattle.sms_join.specs.declared.key.Key.{Key}
-use Rattle.sms_join.specs.declared.key.Key.TheVariants.{Single, Segmented}
+use Rattle.sms_join.specs.declared.key.Key.TheVariants.{Single, Segmented, SingleTo, SegmentedTo}
 
 -- the digits of an address, or the septets of its name
 abbrev pub symbols_in : Symbols → List ℕ
@@ -22,15 +22,25 @@ mark_of symbols =
     if nat_lt (length symbols) 2 then 0
     else 16 * slice_index symbols (length symbols - 2) + slice_index symbols (length symbols - 1)
 
--- sixteen bits of two numbers and the origin
-abbrev pub mixed : ℕ → ℕ → AddressValue → ℕ
-mixed high low origin = (256 * (high + mark_of (symbols_of origin)) + low) % 2 ^ 16
+-- the same of a recipient, 0 where there is none
+abbrev pub mark_to : Option AddressValue → ℕ
+mark_to None = 0
+mark_to (Some recipient) = mark_of (symbols_of recipient)
+
+-- sixteen bits of two numbers, the recipient and the origin
+abbrev pub mixed : ℕ → ℕ → Option AddressValue → AddressValue → ℕ
+mixed high low recipient origin =
+    (256 * (high + mark_of (symbols_of origin) + mark_to recipient) + low) % 2 ^ 16
 
 -- of a message in one piece by the minute and the second of its time stamp, of one in segments by
 -- their maximum and reference
 abbrev pub tag_of : Key → ℕ
-tag_of (Single origin stamp) = mixed (slice_index stamp 4) (slice_index stamp 5) origin
-tag_of (Segmented origin width reference maximum) = mixed maximum reference origin
+tag_of (Single origin stamp) = mixed (slice_index stamp 4) (slice_index stamp 5) None origin
+tag_of (Segmented origin width reference maximum) = mixed maximum reference None origin
+tag_of (SingleTo recipient origin stamp) =
+    mixed (slice_index stamp 4) (slice_index stamp 5) (Some recipient) origin
+tag_of (SegmentedTo recipient origin width reference maximum) =
+    mixed maximum reference (Some recipient) origin
 
 -- The keys have these tags, in this order, as far as there are both.
 abbrev pub HaveTags : List Key → List ℕ → Type 0

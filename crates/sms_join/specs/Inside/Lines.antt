@@ -1,7 +1,7 @@
 -- A reader may pass this by: contracts of private functions, and proofs, alone cite it.
 --
 -- The line of openings in which open sets are found in the order in which they were opened.
-use Rattle.std.specs.Prelude.{◌≡◌, ℕ, zero, suc, ◌<◌, ◌≤◌, ◌⊎◌, Bool, false, if◌then◌else◌, ◌==◌, List, [], ◌∷◌, slice_get, Option, None, Some}
+use Rattle.std.specs.Prelude.{◌≡◌, ℕ, zero, suc, ◌<◌, ◌≤◌, ◌⊎◌, Bool, false, if◌then◌else◌, ◌==◌, List, [], ◌∷◌, drop, slice_get, Option, None, Some}
 use Rattle.sms_join.specs.declared.line.Opening.{Opening}
 use Rattle.sms_join.specs.OpenSets.{SetValue}
 use Rattle.sms_join.specs.Inside.Turns.{HaveTurns}
@@ -59,10 +59,20 @@ has_number (Some s) n = s.turn == n
 abbrev pub lies : List SetValue → Opening → Bool
 lies ss o = has_number (slice_get ss o.index) o.turn
 
--- where the first set lies that lies where it was noted
-abbrev pub first_index : List SetValue → List Opening → Option ℕ
-first_index ss [] = None
-first_index ss (o ∷ os) = if lies ss o then Some o.index else first_index ss os
+-- The set, where it is of this opening, ahead of these.
+abbrev pub of_number : Option SetValue → ℕ → List SetValue → List SetValue
+of_number None n rest = rest
+of_number (Some s) n rest = if s.turn == n then s ∷ rest else rest
+
+-- the sets that lie where they were noted, one after another as they were opened
+abbrev pub walked : List SetValue → List Opening → List SetValue
+walked ss [] = []
+walked ss (o ∷ os) = of_number (slice_get ss o.index) o.turn (walked ss os)
+
+-- the same from this place of the line on, and none where there is no place
+abbrev pub walked_at : List SetValue → List Opening → Option ℕ → List SetValue
+walked_at ss os None = []
+walked_at ss os (Some p) = walked ss (drop p os)
 
 -- Each set for which this holds is noted.
 abbrev pub AreNoted : (SetValue → Type 0) → List SetValue → List Opening → Type 0

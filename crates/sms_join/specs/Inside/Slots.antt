@@ -1,13 +1,14 @@
 -- A reader may pass this by: contracts of private functions, and proofs, alone cite it.
 --
 -- How the pieces of one open set lie in code: each at the place of its sequence.
-use Rattle.std.specs.Prelude.{◌≡◌, ℕ, suc, ◌-◌, ◌<◌, ◌≤◌, Bool, List, [], ◌∷◌, length, map, slice_get, Option, Some, None, unwrap_or}
+use Rattle.std.specs.Prelude.{◌≡◌, ℕ, ◌-◌, ◌<◌, ◌≤◌, Bool, List, [], ◌∷◌, length, map, slice_get, Option, Some, None, unwrap_or}
 use Rattle.std.proofs.Math.ListN.{set, replicate}
 use Rattle.sms_join.specs.declared.key.Key.{Key}
 use Rattle.sms_join.specs.declared.units.Units.{Units}
 use Rattle.sms_join.specs.contracts.key.KeyPartialEq.TheImpl as derived
 use Rattle.sms_join.specs.Key.{maximum_of}
 use Rattle.sms_join.specs.OpenSets.{SetValue}
+use Rattle.sms_join.specs.OpenSets.Places.{set_by}
 
 -- what `==` answers for keys
 abbrev pub key_eq : Key → Key → Bool
@@ -20,18 +21,6 @@ pub record SlotValue : Type 0 where
   pub turn : ℕ
   pub places : List (Option Units)
 
--- the sequences of the pieces that have come, where the first place is that of this sequence
-abbrev pub filled_from : ℕ → List (Option Units) → List ℕ
-filled_from n [] = []
-filled_from n (None ∷ ps) = filled_from (suc n) ps
-filled_from n (Some u ∷ ps) = n ∷ filled_from (suc n) ps
-
--- their units
-abbrev pub filled : List (Option Units) → List Units
-filled [] = []
-filled (None ∷ ps) = filled ps
-filled (Some u ∷ ps) = u ∷ filled ps
-
 -- the units at each place, and these where none have come
 abbrev pub filled_with : Units → List (Option Units) → List Units
 filled_with u ps = map (λ p. unwrap_or p u) ps
@@ -42,14 +31,7 @@ first_places maximum n u = set (replicate maximum None) (n - 1) (Some u)
 
 -- the pieces of a set that have come, in order of sequence
 abbrev pub set_of : Key × SlotValue → SetValue
-set_of e =
-    record {
-      key = e.0;
-      opened = e.1.opened;
-      turn = e.1.turn;
-      sequences = filled_from 1 e.1.places;
-      units = filled e.1.places;
-    }
+set_of e = set_by e.0 e.1.opened e.1.turn e.1.places
 
 abbrev pub sets_of : List (Key × SlotValue) → List SetValue
 sets_of [] = []

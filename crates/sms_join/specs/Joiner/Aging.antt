@@ -11,6 +11,10 @@ use Rattle.sms_join.specs.Joiner.Same.{IsSame}
 abbrev pub is_old : ℕ → List Piece → Key → Bool
 is_old now ps k = is_open ps k && nat_le (opened_at ps k + 604800) now
 
+-- The same for another number of seconds.
+abbrev pub is_old_after : ℕ → ℕ → List Piece → Key → Bool
+is_old_after longest now ps k = is_open ps k && nat_le (opened_at ps k + longest) now
+
 -- The pieces of the sets that are not old.
 abbrev pub young : (Key → Bool) → List Piece → List Piece
 young old [] = []
@@ -19,6 +23,10 @@ young old (p ∷ ps) = if old p.key then young old ps else p ∷ young old ps
 -- Old sets are dropped; remembered keys are not.
 unfoldable pub aged : ℕ → Joiner → Joiner
 aged now j = record { kept = young (is_old now j.kept) j.kept; finished = j.finished }
+
+unfoldable pub aged_after : ℕ → ℕ → Joiner → Joiner
+aged_after longest now j =
+    record { kept = young (is_old_after longest now j.kept) j.kept; finished = j.finished }
 
 -- Where two joiners hold the same, they do so after an aging.
 abbrev pub AgesAlike : Type 0

@@ -1,6 +1,8 @@
 -- Open sets in the order in which they were opened.
 use Rattle.std.specs.Prelude.{◌≡◌, ℕ, suc, ◌+◌, ◌<◌, if◌then◌else◌, not, nat_le, List, [], ◌∷◌, ◌++◌, Option, None, Some}
 use Rattle.std.specs.List.{filter}
+use Rattle.sms_field.specs.Address.Value.{AddressValue}
+use Rattle.sms_join.specs.Key.{recipient_of}
 use Rattle.sms_join.specs.OpenSets.{SetValue}
 
 -- Each was opened after the opening of this number.
@@ -12,6 +14,11 @@ AreAbove n (s ∷ ss) = (n < s.turn) × AreAbove n ss
 abbrev pub RiseInTurn : List SetValue → Type 0
 RiseInTurn [] = Unit {0}
 RiseInTurn (s ∷ ss) = AreAbove s.turn ss × RiseInTurn ss
+
+-- Each is of this recipient, or of none.
+abbrev pub AreFor : Option AddressValue → List SetValue → Type 0
+AreFor r [] = Unit {0}
+AreFor r (s ∷ ss) = (recipient_of s.key ≡ r) × AreFor r ss
 
 -- The first set whose number of opening is this one or above.
 abbrev pub first_from : ℕ → List SetValue → Option SetValue
@@ -25,6 +32,13 @@ young_sets now ss = filter (λ s. not (nat_le (s.opened + 604800) now)) ss
 -- The others.
 abbrev pub old_sets : ℕ → List SetValue → List SetValue
 old_sets now ss = filter (λ s. nat_le (s.opened + 604800) now) ss
+
+-- The same for another number of seconds.
+abbrev pub young_after : ℕ → ℕ → List SetValue → List SetValue
+young_after longest now ss = filter (λ s. not (nat_le (s.opened + longest) now)) ss
+
+abbrev pub old_after : ℕ → ℕ → List SetValue → List SetValue
+old_after longest now ss = filter (λ s. nat_le (s.opened + longest) now) ss
 
 abbrev pub first_of : List SetValue → Option SetValue
 first_of [] = None

@@ -3,6 +3,7 @@ use Rattle.std.proofs.Common.{◌≡◌, ℕ, suc, ◌+◌, ◌<◌, ◌≤◌, 
 use Rattle.std.proofs.lemmas.Bool.{leb-true}
 use Rattle.std.proofs.lemmas.Option.{slice_get_read}
 use Rattle.std.specs.Map.{values_of}
+use Rattle.sms_join.specs.declared.age.Age.{Age}
 use Rattle.sms_join.specs.declared.key.Key.{Key}
 use Rattle.sms_join.specs.Inside.Slots.{SlotValue, At, AreSlots, sets_of}
 use Rattle.sms_join.proofs.InLine.{got_within, got_there}
@@ -16,17 +17,17 @@ wrong true e f = absurd cc
 wrong false e f = absurd cc
 
 -- a slot that is young, as a set
-young_at : (now : ℕ) (es : List (Key × SlotValue)) (i : ℕ) (v : SlotValue) (b : Bool) → AreSlots es → slice_get (values_of es) i ≡ Some v → b ≡ leb (v.opened + 604800) now → b ≡ false
-    → At (sets_of es) i (λ s. leb (s.opened + 604800) now ≡ false)
-young_at now es i v b h is e f = at_slot es i v (λ s. leb (s.opened + 604800) now ≡ false) h is (λ k l. sym e ∙ f)
+young_at : (age : Age) (es : List (Key × SlotValue)) (i : ℕ) (v : SlotValue) (b : Bool) → AreSlots es → slice_get (values_of es) i ≡ Some v → b ≡ leb (v.opened + age.longest) age.now → b ≡ false
+    → At (sets_of es) i (λ s. leb (s.opened + age.longest) age.now ≡ false)
+young_at age es i v b h is e f = at_slot es i v (λ s. leb (s.opened + age.longest) age.now ≡ false) h is (λ k l. sym e ∙ f)
 
-old_at : (now : ℕ) (es : List (Key × SlotValue)) (i : ℕ) (v : SlotValue) (b : Bool) → AreSlots es → slice_get (values_of es) i ≡ Some v → b ≡ leb (v.opened + 604800) now → b ≡ true
-    → At (sets_of es) i (λ s. s.opened + 604800 ≤ now)
-old_at now es i v b h is e f = at_slot es i v (λ s. s.opened + 604800 ≤ now) h is (λ k l. leb-true (v.opened + 604800) now (sym e ∙ f))
+old_at : (age : Age) (es : List (Key × SlotValue)) (i : ℕ) (v : SlotValue) (b : Bool) → AreSlots es → slice_get (values_of es) i ≡ Some v → b ≡ leb (v.opened + age.longest) age.now → b ≡ true
+    → At (sets_of es) i (λ s. s.opened + age.longest ≤ age.now)
+old_at age es i v b h is e f = at_slot es i v (λ s. s.opened + age.longest ≤ age.now) h is (λ k l. leb-true (v.opened + age.longest) age.now (sym e ∙ f))
 
 pub loop-place-init : goal.loop-place-init
 loop-place-init c =
-    (c.requires.slots, ages_first c.args.now c.requires.line.0 (sets_of c.args.slots.now.entries) c.args.line.now.items c.args.in_time c.requires.line.1)
+    (c.requires.slots, ages_first c.args.age c.requires.line.0 (sets_of c.args.slots.now.entries) c.args.line.now.items c.args.in_time c.requires.line.1)
 
 pub index-requires : goal.index-requires
 index-requires c =
@@ -44,11 +45,11 @@ drop_at-requires-clause-line c = (c.requires.line.0, c.loop-place.invariant.1.li
 pub returns-then-in_time-clause-sets : goal.returns-then-in_time-clause-sets
 returns-then-in_time-clause-sets c =
     let time = c.requires.time c.if-in_time.true in
-    ages_stop c.args.now c.requires.line.0 time.0 (sets_of c.args.slots.now.entries) c.args.line.now.items (sets_of c.loop-place.slots.entries) c.loop-place.line.items c.loop-place.place c.args.in_time
+    ages_stop c.args.age c.requires.line.0 time.0 (sets_of c.args.slots.now.entries) c.args.line.now.items (sets_of c.loop-place.slots.entries) c.loop-place.line.items c.loop-place.place c.args.in_time
     c.index-opening.result.now
     (slice_get_read c.loop-place.line.items c.len.result c.loop-place.place c.index-opening.result.now (c.len.ensures ∙ c.loop-place.line.ok.0) c.loop-place-test.true c.index-opening.ensures)
     (one_lies (sets_of c.loop-place.slots.entries) c.index-opening.result.now (sym c.lies.ensures ∙ c.if-lies.true))
-    (young_at c.args.now c.loop-place.slots.entries c.index-opening.result.now.index c.index.result.now c.is_old.result c.loop-place.invariant.0 c.index.ensures c.is_old.ensures c.if-is_old.false)
+    (young_at c.args.age c.loop-place.slots.entries c.index-opening.result.now.index c.index.result.now c.is_old.result c.loop-place.invariant.0 c.index.ensures c.is_old.ensures c.if-is_old.false)
     c.if-in_time.true time.1 c.requires.line.1 c.loop-place.invariant.1
 
 pub loop-place-preserved : goal.loop-place-preserved
@@ -58,33 +59,33 @@ loop-place-preserved c = elim c.if-lies.branch [
       let len = noted_length (slice_get (sets_of w.drop_at.new.slots.entries) c.index-opening.result.now.index) c.index-opening.result.now.index c.loop-place.line.items w.drop_at.new.line.items w.drop_at.ensures.line in
       let q = got_there w.drop_at.new.line.items c.loop-place.place (omega (arith, len, c.len.ensures, c.loop-place.line.ok.0, c.loop-place-test.true)) in
       let inv = c.loop-place.invariant.1 in
-      let dropped = ages_drop c.args.now c.requires.line.0 (sets_of c.args.slots.now.entries) c.args.line.now.items (sets_of c.loop-place.slots.entries) (sets_of w.drop_at.new.slots.entries) c.loop-place.line.items
+      let dropped = ages_drop c.args.age c.requires.line.0 (sets_of c.args.slots.now.entries) c.args.line.now.items (sets_of c.loop-place.slots.entries) (sets_of w.drop_at.new.slots.entries) c.loop-place.line.items
       w.drop_at.new.line.items c.loop-place.place c.args.in_time c.index-opening.result.now l w.drop_at.ensures.sets w.drop_at.ensures.line c.requires.line.1 inv
-      (old_at c.args.now c.loop-place.slots.entries c.index-opening.result.now.index w.index.result.now w.is_old.result c.loop-place.invariant.0 w.index.ensures w.is_old.ensures w.if-is_old.true l.own l.there) in
-      let next = ages_next c.args.now (sets_of c.args.slots.now.entries) c.args.line.now.items (sets_of w.drop_at.new.slots.entries) w.drop_at.new.line.items c.loop-place.place c.args.in_time q.0 q.1
-      (λ i s at old. none_of_it c.args.now c.requires.line.0 (sets_of c.args.slots.now.entries) c.args.line.now.items (sets_of c.loop-place.slots.entries) (sets_of w.drop_at.new.slots.entries) c.loop-place.line.items
+      (old_at c.args.age c.loop-place.slots.entries c.index-opening.result.now.index w.index.result.now w.is_old.result c.loop-place.invariant.0 w.index.ensures w.is_old.ensures w.if-is_old.true l.own l.there) in
+      let next = ages_next c.args.age (sets_of c.args.slots.now.entries) c.args.line.now.items (sets_of w.drop_at.new.slots.entries) w.drop_at.new.line.items c.loop-place.place c.args.in_time q.0 q.1
+      (λ i s at old. none_of_it c.args.age c.requires.line.0 (sets_of c.args.slots.now.entries) c.args.line.now.items (sets_of c.loop-place.slots.entries) (sets_of w.drop_at.new.slots.entries) c.loop-place.line.items
       w.drop_at.new.line.items c.loop-place.place c.args.in_time c.index-opening.result.now l w.drop_at.ensures.sets w.drop_at.ensures.line c.requires.line.1 inv q.0
       (slice_get_read c.loop-place.line.items c.len.result c.loop-place.place c.index-opening.result.now (c.len.ensures ∙ c.loop-place.line.ok.0) c.loop-place-test.true c.index-opening.ensures) q.1 i s at)
       (wrong c.args.in_time c.if-in_time-2.false) dropped in
-      subst (λ m. AreSlots m.entries × Ages c.args.now (sets_of c.args.slots.now.entries) c.args.line.now.items (sets_of m.entries) c.if-lies.line.items (c.loop-place.place + 1) c.args.in_time) (sym w.slots-is)
-      (subst (λ v. AreSlots w.drop_at.new.slots.entries × Ages c.args.now (sets_of c.args.slots.now.entries) c.args.line.now.items (sets_of w.drop_at.new.slots.entries) v.items (c.loop-place.place + 1) c.args.in_time)
+      subst (λ m. AreSlots m.entries × Ages c.args.age (sets_of c.args.slots.now.entries) c.args.line.now.items (sets_of m.entries) c.if-lies.line.items (c.loop-place.place + 1) c.args.in_time) (sym w.slots-is)
+      (subst (λ v. AreSlots w.drop_at.new.slots.entries × Ages c.args.age (sets_of c.args.slots.now.entries) c.args.line.now.items (sets_of w.drop_at.new.slots.entries) v.items (c.loop-place.place + 1) c.args.in_time)
       (sym w.line-is) (w.drop_at.ensures.slots, next))
   | then-lies+else-is_old+else-in_time w ↦
-      let next = ages_next c.args.now (sets_of c.args.slots.now.entries) c.args.line.now.items (sets_of c.loop-place.slots.entries) c.loop-place.line.items c.loop-place.place c.args.in_time c.index-opening.result.now
+      let next = ages_next c.args.age (sets_of c.args.slots.now.entries) c.args.line.now.items (sets_of c.loop-place.slots.entries) c.loop-place.line.items c.loop-place.place c.args.in_time c.index-opening.result.now
       (slice_get_read c.loop-place.line.items c.len.result c.loop-place.place c.index-opening.result.now (c.len.ensures ∙ c.loop-place.line.ok.0) c.loop-place-test.true c.index-opening.ensures)
-      (young_lies c.args.now (sets_of c.loop-place.slots.entries) c.index-opening.result.now
-      (young_at c.args.now c.loop-place.slots.entries c.index-opening.result.now.index w.index.result.now w.is_old.result c.loop-place.invariant.0 w.index.ensures w.is_old.ensures w.if-is_old.false))
+      (young_lies c.args.age (sets_of c.loop-place.slots.entries) c.index-opening.result.now
+      (young_at c.args.age c.loop-place.slots.entries c.index-opening.result.now.index w.index.result.now w.is_old.result c.loop-place.invariant.0 w.index.ensures w.is_old.ensures w.if-is_old.false))
       (wrong c.args.in_time c.if-in_time-2.false) c.loop-place.invariant.1 in
-      subst (λ m. AreSlots m.entries × Ages c.args.now (sets_of c.args.slots.now.entries) c.args.line.now.items (sets_of m.entries) c.if-lies.line.items (c.loop-place.place + 1) c.args.in_time) (sym w.slots-is)
-      (subst (λ v. AreSlots c.loop-place.slots.entries × Ages c.args.now (sets_of c.args.slots.now.entries) c.args.line.now.items (sets_of c.loop-place.slots.entries) v.items (c.loop-place.place + 1) c.args.in_time)
+      subst (λ m. AreSlots m.entries × Ages c.args.age (sets_of c.args.slots.now.entries) c.args.line.now.items (sets_of m.entries) c.if-lies.line.items (c.loop-place.place + 1) c.args.in_time) (sym w.slots-is)
+      (subst (λ v. AreSlots c.loop-place.slots.entries × Ages c.args.age (sets_of c.args.slots.now.entries) c.args.line.now.items (sets_of c.loop-place.slots.entries) v.items (c.loop-place.place + 1) c.args.in_time)
       (sym w.line-is) (c.loop-place.invariant.0, next))
   | else-lies w ↦
-      let next = ages_next c.args.now (sets_of c.args.slots.now.entries) c.args.line.now.items (sets_of c.loop-place.slots.entries) c.loop-place.line.items c.loop-place.place c.args.in_time c.index-opening.result.now
+      let next = ages_next c.args.age (sets_of c.args.slots.now.entries) c.args.line.now.items (sets_of c.loop-place.slots.entries) c.loop-place.line.items c.loop-place.place c.args.in_time c.index-opening.result.now
       (slice_get_read c.loop-place.line.items c.len.result c.loop-place.place c.index-opening.result.now (c.len.ensures ∙ c.loop-place.line.ok.0) c.loop-place-test.true c.index-opening.ensures)
       (λ i s at old. none_lies (sets_of c.loop-place.slots.entries) c.index-opening.result.now (sym c.lies.ensures ∙ w.if-lies.false) i s at)
       (wrong c.args.in_time c.if-in_time-2.false) c.loop-place.invariant.1 in
-      subst (λ m. AreSlots m.entries × Ages c.args.now (sets_of c.args.slots.now.entries) c.args.line.now.items (sets_of m.entries) c.if-lies.line.items (c.loop-place.place + 1) c.args.in_time) (sym w.slots-is)
-      (subst (λ v. AreSlots c.loop-place.slots.entries × Ages c.args.now (sets_of c.args.slots.now.entries) c.args.line.now.items (sets_of c.loop-place.slots.entries) v.items (c.loop-place.place + 1) c.args.in_time)
+      subst (λ m. AreSlots m.entries × Ages c.args.age (sets_of c.args.slots.now.entries) c.args.line.now.items (sets_of m.entries) c.if-lies.line.items (c.loop-place.place + 1) c.args.in_time) (sym w.slots-is)
+      (subst (λ v. AreSlots c.loop-place.slots.entries × Ages c.args.age (sets_of c.args.slots.now.entries) c.args.line.now.items (sets_of c.loop-place.slots.entries) v.items (c.loop-place.place + 1) c.args.in_time)
       (sym w.line-is) (c.loop-place.invariant.0, next))
 ]
 
@@ -105,24 +106,24 @@ loop-place-preserved-then-in_time-2 c = elim c.if-lies.branch [
       let len = noted_length (slice_get (sets_of w.drop_at.new.slots.entries) c.index-opening.result.now.index) c.index-opening.result.now.index c.loop-place.line.items w.drop_at.new.line.items w.drop_at.ensures.line in
       let q = got_there w.drop_at.new.line.items c.loop-place.place (omega (arith, len, c.len.ensures, c.loop-place.line.ok.0, c.loop-place-test.true)) in
       let inv = c.loop-place.invariant.1 in
-      let dropped = ages_drop c.args.now c.requires.line.0 (sets_of c.args.slots.now.entries) c.args.line.now.items (sets_of c.loop-place.slots.entries) (sets_of w.drop_at.new.slots.entries) c.loop-place.line.items
+      let dropped = ages_drop c.args.age c.requires.line.0 (sets_of c.args.slots.now.entries) c.args.line.now.items (sets_of c.loop-place.slots.entries) (sets_of w.drop_at.new.slots.entries) c.loop-place.line.items
       w.drop_at.new.line.items c.loop-place.place c.args.in_time c.index-opening.result.now l w.drop_at.ensures.sets w.drop_at.ensures.line c.requires.line.1 inv
-      (old_at c.args.now c.loop-place.slots.entries c.index-opening.result.now.index w.index.result.now w.is_old.result c.loop-place.invariant.0 w.index.ensures w.is_old.ensures w.if-is_old.true l.own l.there) in
-      let next = ages_front c.args.now c.requires.line.0 (sets_of c.args.slots.now.entries) c.args.line.now.items (sets_of w.drop_at.new.slots.entries) w.drop_at.new.line.items c.loop-place.place c.args.in_time q.0
+      (old_at c.args.age c.loop-place.slots.entries c.index-opening.result.now.index w.index.result.now w.is_old.result c.loop-place.invariant.0 w.index.ensures w.is_old.ensures w.if-is_old.true l.own l.there) in
+      let next = ages_front c.args.age c.requires.line.0 (sets_of c.args.slots.now.entries) c.args.line.now.items (sets_of w.drop_at.new.slots.entries) w.drop_at.new.line.items c.loop-place.place c.args.in_time q.0
       c.pop_front.new.self.items q.1 (c.pop_front.ensures.rest ∙ ap (λ v. drop 1 v.items) w.line-is)
-      (none_of_it c.args.now c.requires.line.0 (sets_of c.args.slots.now.entries) c.args.line.now.items (sets_of c.loop-place.slots.entries) (sets_of w.drop_at.new.slots.entries) c.loop-place.line.items
+      (none_of_it c.args.age c.requires.line.0 (sets_of c.args.slots.now.entries) c.args.line.now.items (sets_of c.loop-place.slots.entries) (sets_of w.drop_at.new.slots.entries) c.loop-place.line.items
       w.drop_at.new.line.items c.loop-place.place c.args.in_time c.index-opening.result.now l w.drop_at.ensures.sets w.drop_at.ensures.line c.requires.line.1 inv q.0
       (slice_get_read c.loop-place.line.items c.len.result c.loop-place.place c.index-opening.result.now (c.len.ensures ∙ c.loop-place.line.ok.0) c.loop-place-test.true c.index-opening.ensures) q.1)
       c.if-in_time-2.true dropped in
-      subst (λ m. AreSlots m.entries × Ages c.args.now (sets_of c.args.slots.now.entries) c.args.line.now.items (sets_of m.entries) c.pop_front.new.self.items c.loop-place.place c.args.in_time) (sym w.slots-is) (w.drop_at.ensures.slots, next)
+      subst (λ m. AreSlots m.entries × Ages c.args.age (sets_of c.args.slots.now.entries) c.args.line.now.items (sets_of m.entries) c.pop_front.new.self.items c.loop-place.place c.args.in_time) (sym w.slots-is) (w.drop_at.ensures.slots, next)
   | then-lies+else-is_old+else-in_time w ↦ absurd (wrong c.args.in_time w.if-in_time.false c.if-in_time-2.true)
   | else-lies w ↦
-      let next = ages_front c.args.now c.requires.line.0 (sets_of c.args.slots.now.entries) c.args.line.now.items (sets_of c.loop-place.slots.entries) c.loop-place.line.items c.loop-place.place c.args.in_time c.index-opening.result.now
+      let next = ages_front c.args.age c.requires.line.0 (sets_of c.args.slots.now.entries) c.args.line.now.items (sets_of c.loop-place.slots.entries) c.loop-place.line.items c.loop-place.place c.args.in_time c.index-opening.result.now
       c.pop_front.new.self.items
       (slice_get_read c.loop-place.line.items c.len.result c.loop-place.place c.index-opening.result.now (c.len.ensures ∙ c.loop-place.line.ok.0) c.loop-place-test.true c.index-opening.ensures) (c.pop_front.ensures.rest ∙ ap (λ v. drop 1 v.items) w.line-is)
       (none_lies (sets_of c.loop-place.slots.entries) c.index-opening.result.now (sym c.lies.ensures ∙ w.if-lies.false))
       c.if-in_time-2.true c.loop-place.invariant.1 in
-      subst (λ m. AreSlots m.entries × Ages c.args.now (sets_of c.args.slots.now.entries) c.args.line.now.items (sets_of m.entries) c.pop_front.new.self.items c.loop-place.place c.args.in_time) (sym w.slots-is) (c.loop-place.invariant.0, next)
+      subst (λ m. AreSlots m.entries × Ages c.args.age (sets_of c.args.slots.now.entries) c.args.line.now.items (sets_of m.entries) c.pop_front.new.self.items c.loop-place.place c.args.in_time) (sym w.slots-is) (c.loop-place.invariant.0, next)
 ]
 
 pub loop-place-smaller-then-in_time-2 : goal.loop-place-smaller-then-in_time-2
@@ -139,5 +140,5 @@ loop-place-smaller-then-in_time-2 c =
 
 pub returns-clause-sets : goal.returns-clause-sets
 returns-clause-sets c =
-    ages_end c.args.now (sets_of c.args.slots.now.entries) c.args.line.now.items (sets_of c.loop-place.slots.entries) c.loop-place.line.items c.loop-place.place c.args.in_time
+    ages_end c.args.age (sets_of c.args.slots.now.entries) c.args.line.now.items (sets_of c.loop-place.slots.entries) c.loop-place.line.items c.loop-place.place c.args.in_time
     (omega (arith, c.len.ensures, c.loop-place.line.ok.0, c.loop-place-test.false)) c.loop-place.invariant.1

@@ -6,7 +6,7 @@ use Rattle.sms_join.proofs.dropping.drop_old.Given as goal
 abbrev pub invariant-loop-place : goal.invariant-loop-place
 invariant-loop-place l =
     AreSlots l.slots.entries
-    × Ages l.now (sets_of l.fn.slots.entries) l.fn.line.items (sets_of l.slots.entries) l.line.items l.place l.in_time
+    × Ages l.age (sets_of l.fn.slots.entries) l.fn.line.items (sets_of l.slots.entries) l.line.items l.place l.in_time
 
 abbrev pub decreases-loop-place : goal.decreases-loop-place
 decreases-loop-place l = length l.line.items - l.place

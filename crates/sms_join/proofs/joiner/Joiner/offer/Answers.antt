@@ -1,4 +1,4 @@
-use Rattle.std.proofs.Common.{subst}
+use Rattle.std.proofs.Common.{None, subst}
 use Rattle.sms_join.specs.Piece.{piece_of}
 use Rattle.sms_join.specs.Joiner.{offered}
 use Rattle.sms_join.specs.Joiner.Value.{JoinerValue}
@@ -6,6 +6,7 @@ use Rattle.sms_join.specs.Joiner.Same.{IsSame}
 use Rattle.sms_join.specs.Joiner.Offering.{Says}
 use Rattle.sms_join.specs.Inside.Keeping.{in_order}
 use Rattle.sms_join.proofs.Keeping.{kept_same, says_kept, offered_kept, on_ok}
+use Rattle.sms_join.proofs.ForRecipients.{offer_for, key_for_none}
 use Rattle.sms_join.proofs.joiner.Joiner.offer.Goals as goal
 
 pub returns-clause-says : goal.returns-clause-says
@@ -22,3 +23,8 @@ returns-clause-holds c =
     (in_order c.offer-answer.new.self).holds c.offer-answer.new.self.holds (piece_of c.args.now c.args.origin.now c.args.stamp c.args.concat c.args.units)
     (kept_same c.self.inside.keeper c.have_kept.ensures) (kept_same c.offer-answer.new.self c.have_kept-2.ensures) h))
     c.offer-answer.ensures.holds
+
+pub invariant_of-self : goal.invariant_of-self
+invariant_of-self c =
+    offer_for None c.self.inside.keeper.open_max c.self.inside.keeper.remembered c.self.inside.keeper c.offer-answer.new.self (piece_of c.args.now c.args.origin.now c.args.stamp c.args.concat c.args.units) c.offer-answer.result
+    c.offer-answer.ensures.holds c.offer-answer.ensures.refused (key_for_none c.args.origin.now c.args.stamp c.args.concat) c.self.invariant

@@ -18,7 +18,7 @@ drop_old-requires-clause-line c = (c.self.inside.turns, c.self.invariant.2)
 pub give_room_back-self-inside-requires : goal.give_room_back-self-inside-requires
 give_room_back-self-inside-requires c =
     subst (λ (n : ℕ). n ≤ c.self.inside.most) (sets_length c.drop_old.new.slots.entries)
-    (fewer_dropped c.args.now (sets_of c.self.inside.slots.entries) (sets_of c.drop_old.new.slots.entries) c.self.inside.most c.drop_old.ensures.sets
+    (fewer_dropped c.args.age (sets_of c.self.inside.slots.entries) (sets_of c.drop_old.new.slots.entries) c.self.inside.most c.drop_old.ensures.sets
     (subst (λ (n : ℕ). n ≤ c.self.inside.most) (sym (sets_length c.self.inside.slots.entries)) c.self.invariant.1.as_many))
 
 pub invariant_of-self : goal.invariant_of-self
@@ -29,16 +29,16 @@ invariant_of-self c =
           c.give_room_back-self-inside.ensures.entries c.give_room_back-self-inside.ensures.most,
       c.tidy.ensures c.self.inside.turns (subst (InLine c.self.inside.turns c.drop_old.new.line.items) (sym same) (c.drop_old.ensures.line c.self.inside.turns c.self.invariant.2)),
       λ e. subst (AreInTime c.self.inside.latest) (sym same)
-          (time_many c.args.now c.drop_old.ensures.sets.count c.self.inside.latest (sets_of c.self.inside.slots.entries) (sets_of c.drop_old.new.slots.entries) c.drop_old.ensures.sets.many (c.self.invariant.3 e)),
+          (time_many c.args.age c.drop_old.ensures.sets.count c.self.inside.latest (sets_of c.self.inside.slots.entries) (sets_of c.drop_old.new.slots.entries) c.drop_old.ensures.sets.many (c.self.invariant.3 e)),
       subst (AreSince c.earliest_left-self-inside.result) (sym same)
-          (c.earliest_left-self-inside.ensures (since_many c.args.now c.drop_old.ensures.sets.count c.self.inside.earliest (sets_of c.self.inside.slots.entries) (sets_of c.drop_old.new.slots.entries) c.drop_old.ensures.sets.many c.self.invariant.4)),
+          (c.earliest_left-self-inside.ensures (since_many c.args.age c.drop_old.ensures.sets.count c.self.inside.earliest (sets_of c.self.inside.slots.entries) (sets_of c.drop_old.new.slots.entries) c.drop_old.ensures.sets.many c.self.invariant.4)),
     )
 
 pub returns-then-not-is_past : goal.returns-then-not-is_past
 returns-then-not-is_past c =
-    none_past c.self.inside.earliest c.args.now c.args.self.now (subst (AreSince c.self.inside.earliest) c.self.view_is c.self.invariant.4) (sym c.is_past.ensures ∙ c.if-not-is_past.true)
+    none_past c.self.inside.earliest c.args.age c.args.self.now (subst (AreSince c.self.inside.earliest) c.self.view_is c.self.invariant.4) (sym c.is_past.ensures ∙ c.if-not-is_past.true)
 
 pub returns : goal.returns
 returns c =
-    subst (λ (l : List SetValue). DropsOld c.args.now l (sets_of c.give_room_back-self-inside.new.slots.entries)) c.self.view_is
-    (subst (DropsOld c.args.now (sets_of c.self.inside.slots.entries)) (sym (ap sets_of c.give_room_back-self-inside.ensures.entries)) c.drop_old.ensures.sets)
+    subst (λ (l : List SetValue). DropsOld c.args.age l (sets_of c.give_room_back-self-inside.new.slots.entries)) c.self.view_is
+    (subst (DropsOld c.args.age (sets_of c.self.inside.slots.entries)) (sym (ap sets_of c.give_room_back-self-inside.ensures.entries)) c.drop_old.ensures.sets)

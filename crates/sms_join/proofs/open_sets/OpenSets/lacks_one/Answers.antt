@@ -1,7 +1,8 @@
 use Rattle.std.proofs.Common.{◌≡◌, ℕ, suc, ◌<◌, eqb, List, length, sym, ap, ◌∙◌, subst}
 use Rattle.sms_join.specs.Key.{maximum_of}
 use Rattle.sms_join.specs.OpenSets.{SetValue}
-use Rattle.sms_join.specs.Inside.Slots.{At, filled}
+use Rattle.sms_join.specs.OpenSets.Places.{filled}
+use Rattle.sms_join.specs.Inside.Slots.{At}
 use Rattle.sms_join.proofs.Slots.{as_many, sets_length, at_slot}
 use Rattle.sms_join.proofs.open_sets.OpenSets.lacks_one.Goals as goal
 

@@ -7,7 +7,8 @@ use Rattle.sms_join.specs.Inside.Lines.{InLine, AreInTime, AreSince}
 use Rattle.sms_join.proofs.InLine.{line_put, time_put}
 use Rattle.sms_join.proofs.Since.{since_put}
 use Rattle.sms_join.specs.OpenSets.{SetValue, is_in, with_piece}
-use Rattle.sms_join.specs.Inside.Slots.{SlotValue, At, HasPlace, filled_from, set_of, sets_of}
+use Rattle.sms_join.specs.OpenSets.Places.{filled_from}
+use Rattle.sms_join.specs.Inside.Slots.{SlotValue, At, HasPlace, set_of, sets_of}
 use Rattle.sms_join.proofs.Slots.{place_in, place_at, missing_at, places_length, slots_stay, set_changes, set_more}
 use Rattle.sms_join.proofs.open_sets.OpenSets.put.Goals.{After-self-1}
 use Rattle.sms_join.proofs.open_sets.OpenSets.put.Goals as goal

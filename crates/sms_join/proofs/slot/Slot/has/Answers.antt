@@ -2,7 +2,8 @@ use Rattle.std.proofs.Common.{◌≡◌, ℕ, ◌-◌, List, length, Option, Non
 use Rattle.std.proofs.lemmas.List.{get_or_default}
 use Rattle.sms_join.specs.declared.units.Units.{Units}
 use Rattle.sms_join.specs.OpenSets.{is_in}
-use Rattle.sms_join.specs.Inside.Slots.{SlotValue, filled_from}
+use Rattle.sms_join.specs.OpenSets.Places.{filled_from}
+use Rattle.sms_join.specs.Inside.Slots.{SlotValue}
 use Rattle.sms_join.proofs.Slots.{in_place}
 use Rattle.sms_join.proofs.slot.Slot.has.Goals as goal
 

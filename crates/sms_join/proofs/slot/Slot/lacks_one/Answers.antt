@@ -1,5 +1,5 @@
 use Rattle.std.proofs.Common.{◌≤◌, length, arith}
-use Rattle.sms_join.specs.Inside.Slots.{filled}
+use Rattle.sms_join.specs.OpenSets.Places.{filled}
 use Rattle.sms_join.proofs.Slots.{filled_few}
 use Rattle.sms_join.proofs.slot.Slot.lacks_one.Goals as goal
 

@@ -1,7 +1,8 @@
 use Rattle.std.proofs.Common.{◌≡◌, ◌-◌, ◌≤◌, false, List, length, Option, ap, ◌∙◌, arith, rules}
 use Rattle.sms_join.specs.declared.units.Units.{Units}
 use Rattle.sms_join.specs.OpenSets.{is_in}
-use Rattle.sms_join.specs.Inside.Slots.{SlotValue, filled, filled_from}
+use Rattle.sms_join.specs.OpenSets.Places.{filled, filled_from}
+use Rattle.sms_join.specs.Inside.Slots.{SlotValue}
 use Rattle.sms_join.proofs.Slots.{filled_few, filled_more}
 use Rattle.sms_join.proofs.slot.Slot.put.Goals as goal
 

@@ -1,0 +1,10 @@
+-- A joiner for many recipients.
+pub mod Answers
+pub mod Distinct
+pub mod Finishings
+pub mod InTime
+pub mod Recalled
+pub mod Recipients
+pub mod Remembered
+pub mod Value
+pub mod WithoutRecipient

@@ -1,0 +1,65 @@
+//! What was kept before, put back.
+
+ghost use Rattle.std.specs.Prelude.{◌≡◌, ℕ, ◌<◌, false, [], ◌∷◌, ◌++◌, length, take, OnOk, OnErr};
+ghost use Rattle.sms_join.specs.Key.{maximum_of};
+ghost use Rattle.sms_join.specs.Joiner.Value.{SameLimits};
+ghost use Rattle.sms_join.specs.OpenSets.{has_set};
+ghost use Rattle.sms_join.specs.OpenSets.Places.{filled, set_by};
+ghost use Rattle.sms_join.specs.Inside.Turns.{arranged};
+
+use crate::keeper::Keeper;
+use crate::key::Key;
+use crate::units::Units;
+use std::alloc::AllocError;
+
+impl Keeper {
+    /// How many sets may be open.
+    pub(crate) fn open_max(&self) -> usize
+        ensures { result ≡ self.now.open_max }
+    {
+        self.open_max
+    }
+
+    /// How many keys are remembered at most.
+    pub(crate) fn remembered(&self) -> usize
+        ensures { result ≡ self.now.remembered }
+    {
+        self.finished.limit()
+    }
+
+    /// Opens a set at the moment of its first piece, with the pieces that have come at its places.
+    pub(crate) fn put_back(
+        &mut self,
+        key: Key,
+        moment: u64,
+        places: Vec<Option<Units>>,
+    ) -> Result<(), AllocError>
+        requires closed { has_set self.old.told key ≡ false }
+        requires few { length self.old.told < self.old.open_max }
+        requires places { length places.items ≡ maximum_of key }
+        requires some { 0 < length (filled places.items) }
+        requires part { length (filled places.items) < maximum_of key }
+        ensures told { OnOk result ((turn : ℕ) × (arranged self.new.told
+            ≡ arranged self.old.told ++ set_by key moment turn places.items ∷ [])) }
+        ensures finished { self.new.holds.finished ≡ self.old.holds.finished }
+        ensures limits { SameLimits self.new self.old }
+        ensures refused { OnErr result (self.new ≡ self.old) }
+    {
+        self.sets.put_back(key, moment, places)
+    }
+
+    /// Remembers a key, as that of the message that finished last.
+    pub(crate) fn remember(&mut self, key: Key)
+        ensures { self.new ≡ record {
+          open_max = self.old.open_max;
+          remembered = self.old.remembered;
+          holds = record {
+            kept = self.old.holds.kept;
+            finished = take self.old.remembered (key ∷ self.old.holds.finished);
+          };
+          told = self.old.told;
+        } }
+    {
+        self.finished.push(key);
+    }
+}
