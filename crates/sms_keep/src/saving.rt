@@ -1,0 +1,76 @@
+//! What a joiner holds, as octets.
+
+ghost use Rattle.std.specs.Prelude.{◌≡◌, ◌++◌, length, OnOk, IfOk};
+ghost use Rattle.std.specs.List.{flat_map};
+ghost use Rattle.sms_saved.specs.Spelling.{body, counted, remembered, spelling};
+ghost use Rattle.sms_keep.specs.Saved.{next_opening, passes, saved, saved_finishings, saved_limits};
+
+use crate::keys::key_of;
+use crate::sets::put_sets;
+use sms_join::{Alone, Gateway, GatewayLimits, ToldSets};
+use sms_saved::{Limits, Writer};
+use std::alloc::{AllocError, Global};
+
+/// Whether messages in one piece are passed through.
+fn passes(alone: Alone) -> bool
+    ensures { result ≡ passes alone }
+{
+    match alone {
+        Alone::Remembered => false,
+        Alone::Passed => true,
+    }
+}
+
+/// What the joiner was made with.
+pub(crate) fn limits_of(limits: GatewayLimits) -> Limits
+    ensures { result ≡ saved_limits limits }
+{
+    Limits {
+        sets: limits.open_max() as u64,
+        keys: limits.remembered() as u64,
+        age_of_sets: limits.longest_open(),
+        age_of_keys: limits.longest_remembered(),
+        passes_singles: passes(limits.of_alone()),
+    }
+}
+
+/// The number of the next opening: one above that of the last one that is open.
+fn next_of(sets: ToldSets<'_>) -> Result<u64, AllocError>
+    ensures { IfOk result (λ next. next ≡ next_opening sets.entry) }
+{
+    let mut next = 0;
+    for set in sets {
+        next = set.turn().checked_add(1).ok_or(AllocError)?;
+    }
+    Ok(next)
+}
+
+/// The keys that are remembered, the oldest first.
+fn put_keys(alloc: Global, writer: &mut Writer, gateway: &Gateway) -> Result<(), AllocError>
+    ensures { OnOk result (writer.new ≡ writer.old ++ counted remembered
+        (saved_finishings gateway.now.holds.finished gateway.now.finishings)) }
+{
+    let count = gateway.remembered_count();
+    writer.begin_keys(count)?;
+    for done in 0..count {
+        match gateway.remembered_at(count - 1 - done) {
+            None => unreachable!(),
+            Some(own) => writer.put_key(&key_of(alloc, own.key)?, own.moment)?,
+        }
+    }
+    Ok(())
+}
+
+/// All that the joiner holds, as octets, and how many lines of its input were taken
+/// (docs/SAVED.md).
+#[tactic(auto, unfolding(sms_saved::specs::Spelling::body))]
+pub fn save(alloc: Global, gateway: &Gateway, taken: u64) -> Result<Vec<u8>, AllocError>
+    ensures { IfOk result (λ v. v.items ≡ spelling (saved gateway.now taken)) }
+{
+    let limits = limits_of(gateway.limits());
+    let next = next_of(gateway.open_sets())?;
+    let mut writer = Writer::begin(alloc, limits, taken, next, gateway.open_count())?;
+    put_sets(alloc, &mut writer, gateway.open_sets())?;
+    put_keys(alloc, &mut writer, gateway)?;
+    writer.end()
+}
