@@ -67,12 +67,12 @@ in_c() {
 		guards=
 	fi
 	echo "== $cc, libsms.a ${guards:+under the sanitizers}"
-	for test in writers promises data; do
+	for test in writers promises gateway data records; do
 		$cc $flags $guards "$here/tests/$test.c" "$prefix/lib/libsms.a" -o "$room/static"
 		"$room/static" "$units"
 	done
 	echo "== $cc, libsms.so"
-	for test in writers promises data; do
+	for test in writers promises gateway data records; do
 		$cc $flags "$here/tests/$test.c" $dynamic -o "$room/shared"
 		"$room/shared" "$units"
 	done
@@ -159,7 +159,7 @@ if there python3; then
 	else
 		left_out "gcc brings no address sanitizer for python3"
 	fi
-	for example in read write join; do
+	for example in read write join smpp gateway; do
 		python3 "$here/../python/examples/$example.py" >"$room/told"
 		cmp "$room/told" "$here/examples/$example.out"
 	done
@@ -170,7 +170,7 @@ if there python3; then
 	else
 		left_out "there is no mypy, so Python's types are not checked"
 	fi
-	python3 "$here/tests/shown.py" "$here/../docs/C.md"
+	python3 "$here/tests/shown.py" "$here/../docs/C.md" "$here/../docs/SMPP.md"
 	python3 "$here/tests/agree.py" "$room/layout.c.txt" "$SMS_LIBRARY" ${of_rust:+"$of_rust"}
 	python3 "$here/tests/planted.py" "$room/layout.c.txt" "$SMS_LIBRARY"
 	program=${SMS_PROGRAM:-$here/../crates/sms/out/sms}

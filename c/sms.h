@@ -15,10 +15,11 @@
  * joiner, which sms_joiner_close frees.
  * Joiners. An sms_joiner begins as SMS_JOINER_CLOSED; calls alone change it, and of an open one no copy is
  * used.
- * Memory. sms_*_read, sms_stamp_*, sms_validity_end and sms_joiner_text, _would_finish, _age, _count, _each and
- * _close take none. The others call malloc, realloc and free of the program: these are of one allocator, and align a
- * block to each power of two up to 16 that divides its size. SMS_NO_MEMORY: they refused; what the call had
- * taken is free again (a joiner may keep room that it made), and it may be made again.
+ * Memory. sms_*_read, sms_stamp_*, sms_validity_end, sms_joiner_text, _would_finish, _age, _count, _each and
+ * _close, and sms_gateway_text, _age, _count, _each and _close take none. The others call malloc, realloc and free
+ * of the program: these are of one allocator, and align a block to each power of two up to 16 that divides its
+ * size. SMS_NO_MEMORY: they refused; what the call had taken is free again (a joiner may keep room that it made),
+ * and it may be made again.
  * Threads. Any number of threads may call at the same time on values of their own. A joiner is one
  * value: one call at a time, from whichever thread. A lock, the start or join of a thread, or a sequentially
  * consistent atomic orders them; threads that share one hold a lock over sms_joiner_offer and the
@@ -91,7 +92,10 @@ enum {
     SMS_UNKNOWN_TYPE = 9,     /* CP, RP */
     SMS_BAD_RELAY_ADDRESS = 10,
     SMS_BAD_CAUSE = 11,
-    SMS_BAD_SEPTET = 12       /* 128 and more, where septets stand one an octet */
+    SMS_BAD_SEPTET = 12,      /* 128 and more, where septets stand one an octet */
+    SMS_BAD_STATUS = 13,      /* record: the first octet */
+    SMS_NOT_PADDING = 14,     /* record: another octet than FF after the unit */
+    SMS_OTHER_LENGTH = 15     /* record: more than 176 octets */
 };
 
 /* The first octet that cannot stand where it does: with the octets before it some unit goes on, with
@@ -389,7 +393,7 @@ SMS_STATUS sms_split(const sms_reference *reference, const uint8_t *text, size_t
 
 /* ---- the version of the library: 1,000,000 for a major number, 1,000 for a minor one, 1 for a patch */
 
-#define SMS_VERSION 2001000
+#define SMS_VERSION 2002000
 
 /* That of the library that is loaded, to be compared with SMS_VERSION at run time. */
 uint32_t sms_version(void);
@@ -485,8 +489,8 @@ typedef struct sms_data_form {
     uint8_t has_header; /* 0 is no, all else yes: a header stands in front, its length octet first */
     uint8_t standing;   /* SMS_WHOLE to SMS_SINGLE; under the other alphabets SMS_SINGLE is as SMS_WHOLE */
     uint8_t length;     /* TP-UDL under SMS_COUNTED, else 0 */
-    uint8_t languages;  /* of sms_data_text, 0 is no, all else yes: septets by the national language tables that the
-                         * header tells */
+    uint8_t languages;  /* of sms_data_text and sms_joiner_offer_data, 0 is no, all else yes: septets by the national
+                         * language tables that the header tells */
     uint8_t spare[6];   /* must be 0 */
 } sms_data_form;
 
@@ -511,6 +515,82 @@ SMS_STATUS sms_data_read(const uint8_t *octets, size_t count, const sms_data_for
  * Else SMS_OK, SMS_NO_ROOM or SMS_NO_MEMORY. */
 SMS_STATUS sms_data_text(const uint8_t *octets, size_t count, const sms_data_form *form,
                          uint8_t *out, size_t room, size_t *needed);
+
+/* ---- texts split as user data alone, as SMPP and other gateways take them. They are cut as above. */
+
+typedef struct sms_data_fields {
+    sms_reference segments;
+    uint8_t single;   /* 0 is no, all else yes: septets stand one an octet; else they are packed */
+    uint8_t spare[6]; /* must be 0 */
+} sms_data_fields;
+
+typedef struct sms_data_segment {
+    sms_span octets;    /* in out: the header, where there is one, and the text (SMPP: short_message, sm_length) */
+    uint8_t dcs;        /* TP-DCS (SMPP: data_coding): 00 septets, 08 UCS-2 */
+    uint8_t has_header; /* TP-UDHI (SMPP: bit 6 of esm_class): 0 or 1 */
+    uint8_t length;     /* TP-UDL: the septets, those that the header takes among them, or the octets */
+} sms_data_segment;
+
+/* The segments of a text as user data alone, their octets one after another, and what goes beside each. *segments is
+ * how many there are. SMS_OUT_OF_RANGE: a spare octet, the reference or its width. SMS_NOT_UTF8: the text.
+ * SMS_TOO_LONG: more than 255 segments. SMS_NO_ROOM: there is too little room for the octets or for the parts; neither
+ * is written, but *segments, and *needed: so much is wanted. SMS_OK. From SMS_TOO_LONG on SMS_NO_MEMORY may come in
+ * place of each. */
+SMS_STATUS sms_data_split(const sms_data_fields *fields, const uint8_t *text, size_t text_count,
+                          uint8_t *out, size_t room, size_t *needed,
+                          sms_data_segment *parts, size_t part_count, size_t *segments);
+
+/* ---- records of a card: EF-SMS (3GPP TS 51.011, 10.5.3; TS 31.102, 4.2.25) */
+
+/* How it stands with a record: its first octet. */
+enum {
+    SMS_RECORD_FREE = 0,
+    SMS_RECORD_READ = 1,           /* it came from the network, and was read */
+    SMS_RECORD_UNREAD = 3,         /* it came from the network, and is to be read */
+    SMS_RECORD_SENT = 5,           /* the phone sent it, and asked for no status report; so below */
+    SMS_RECORD_TO_BE_SENT = 7,     /* the phone is to send it */
+    SMS_RECORD_SENT_AWAITED = 13,  /* a status report was asked for, and has not come */
+    SMS_RECORD_SENT_RECEIVED = 21, /* it has come, and does not stand in EF-SMSR */
+    SMS_RECORD_SENT_STORED = 29    /* it has come, and stands in EF-SMSR */
+};
+
+/* Which unit a record has: none where it is free; the first two from the network, the other two of the phone. */
+enum {
+    SMS_NO_UNIT = 0,
+    SMS_UNIT_DELIVER = 1,
+    SMS_UNIT_STATUS_REPORT = 2,
+    SMS_UNIT_SUBMIT = 3,
+    SMS_UNIT_COMMAND = 4
+};
+
+typedef struct sms_record {
+    sms_span address;    /* TS-Service-Centre-Address, with its length octet */
+    sms_span unit;       /* without the FF after it */
+    uint8_t status;      /* SMS_RECORD_FREE to SMS_RECORD_SENT_STORED; an even octet is SMS_RECORD_FREE */
+    uint8_t has_address; /* 0 or 1 */
+    uint8_t kind;        /* SMS_NO_UNIT to SMS_UNIT_COMMAND */
+} sms_record;
+
+/* Reads the record that all the octets are: 176, or fewer where FF were cut from its end. SMS_REFUSED: as the readers
+ * of units, and where another octet than FF follows the unit; SMS_BAD_RELAY_ADDRESS is of the centre's address. Else
+ * SMS_OK. The unit's octets are read by its reader, as sms_deliver_read(octets + record.unit.offset,
+ * record.unit.length, ..), which takes all of them. The text of the address is that of an sms_rp with this has_address
+ * and address, and all else 0 (sms_relay_address_text). */
+SMS_STATUS sms_record_read(const uint8_t *octets, size_t count, sms_record *out, sms_refused *refused);
+
+typedef struct sms_record_fields {
+    uint8_t status;   /* SMS_RECORD_FREE to SMS_RECORD_SENT_STORED */
+    uint8_t spare[6]; /* must be 0 */
+} sms_record_fields;
+
+/* A record, always of 176 octets: the status, the centre's address (as text, none where it is empty), the octets of a
+ * unit, as they are, and FF to the end; of SMS_RECORD_FREE the status alone. SMS_OUT_OF_RANGE: there is no such status, a
+ * spare octet, or an address or a unit of SMS_RECORD_FREE. SMS_NOT_UTF8, SMS_BAD_ADDRESS: the address. SMS_REFUSED: it
+ * would be no record, as sms_record_read says; the place counts in the record. Else SMS_OK, SMS_NO_ROOM or
+ * SMS_NO_MEMORY. */
+SMS_STATUS sms_record_write(const sms_record_fields *fields, const uint8_t *centre, size_t centre_count,
+                            const uint8_t *unit, size_t unit_count, uint8_t *out, size_t room, size_t *needed,
+                            sms_refused *refused);
 
 /* ---- joining segments. A joiner lies in the caller's memory and holds memory of the library. */
 
@@ -557,6 +637,29 @@ SMS_STATUS sms_joiner_would_finish(sms_joiner *joiner, const uint8_t *octets, si
  * the text that finished last stays. SMS_CLOSED. Else SMS_OK. */
 SMS_STATUS sms_joiner_age(sms_joiner *joiner, uint64_t seconds);
 
+/* ---- user data alone offered to a joiner, as SMPP and other gateways hand them over */
+
+typedef struct sms_data_offer {
+    uint8_t has_stamp; /* 0 is no, all else yes */
+    sms_stamp stamp;   /* TP-SCTS or the like, by which a message in one piece is known; a segment is known by its place */
+    sms_data_form form;
+} sms_data_offer;
+
+/* Offers user data that stand so, as sms_data_read and sms_data_text take them, from an origin (as target of
+ * sms_submit_write), and that came at a moment. A message in one piece with no stamp is known by nothing: it is
+ * finished each time, and no repeat. SMS_CLOSED. SMS_OUT_OF_RANGE, SMS_REFUSED: as sms_data_read. SMS_NOT_THERE: they
+ * are no text (8-bit, compressed). SMS_NOT_UTF8, SMS_BAD_ADDRESS: the origin. SMS_TOO_MANY_OPEN, SMS_OK and *outcome:
+ * as sms_joiner_offer. From SMS_BAD_ADDRESS on SMS_NO_MEMORY may come in place of each. After another status than SMS_OK
+ * the joiner is as it was. */
+SMS_STATUS sms_joiner_offer_data(sms_joiner *joiner, uint64_t seconds, const sms_data_offer *offer,
+                                 const uint8_t *origin, size_t origin_count, const uint8_t *octets, size_t count,
+                                 uint32_t *outcome, sms_refused *refused);
+/* Whether they would finish their message: nothing changes. SMS_CLOSED to SMS_BAD_ADDRESS as sms_joiner_offer_data; in
+ * place of SMS_BAD_ADDRESS and SMS_OK SMS_NO_MEMORY may come. Else SMS_OK: *finishes is 0 or 1. */
+SMS_STATUS sms_joiner_would_finish_data(sms_joiner *joiner, const sms_data_offer *offer,
+                                        const uint8_t *origin, size_t origin_count, const uint8_t *octets, size_t count,
+                                        uint8_t *finishes, sms_refused *refused);
+
 /* ---- the open messages of a joiner: some segments have come, and some not */
 
 /* Its segments share the origin (TP-OA), the reference and the maximum. It holds numbers alone, so it stays as it was
@@ -581,14 +684,90 @@ typedef struct sms_cursor {
 
 /* How many messages are open. SMS_CLOSED. Else SMS_OK. */
 SMS_STATUS sms_joiner_count(sms_joiner *joiner, size_t *open_count);
-/* The next open message, in order of opening. SMS_CLOSED. SMS_CHANGED: since the cursor's first step an SMS-DELIVER was
- * offered and answered SMS_OK (a repeat too), or the joiner was aged; with change set to 0 it goes on where it stands.
+/* The next open message, in order of opening. SMS_CLOSED. SMS_CHANGED: since the cursor's first step an offer was
+ * answered SMS_OK (a repeat too), or the joiner was aged; with change set to 0 it goes on where it stands.
  * SMS_NOT_THERE: there is no further one. Else SMS_OK, and the cursor goes on. After another status it is as it was.
  * Other calls may come in between. A cursor ends with sms_joiner_close and the next sms_joiner_open. */
 SMS_STATUS sms_joiner_each(sms_joiner *joiner, sms_cursor *cursor, sms_open_message *message);
 /* The text of the origin of the open message of this opening, as sms_address_text. SMS_CLOSED. SMS_NOT_THERE: no open
  * message has it. Else SMS_OK, SMS_NO_ROOM or SMS_NO_MEMORY. */
 SMS_STATUS sms_joiner_origin(sms_joiner *joiner, uint64_t opening, uint8_t *out, size_t room, size_t *needed);
+
+/* ---- a gateway's joiner: one for many recipients. Messages of two recipients are never joined into one another, and
+ * none is a repeat of the other's; the limits are for all recipients together. What is said of joiners, of their
+ * ownership and of threads at the head holds of an sms_gateway too. */
+
+typedef struct sms_gateway {
+    uint32_t open;
+    void *inside;
+} sms_gateway;
+#define SMS_GATEWAY_CLOSED SMS_JOINER_CLOSED
+
+typedef struct sms_gateway_limits {
+    size_t open_max;       /* from 1 on: the messages that may be open at a time */
+    size_t remembered;     /* from 1 on: the finished ones that are remembered, so that none finishes twice */
+    uint64_t open_for;     /* sms_gateway_age drops a message so many seconds after its first segment */
+    uint64_t remember_for; /* and forgets a finished one so many seconds after it finished; with 0 it is remembered as
+                            * long as it is among the last `remembered` */
+    uint64_t seed_low;     /* the halves of a seed of 128 bits, as of sms_joiner_open_seeded */
+    uint64_t seed_high;
+    uint8_t has_seed;      /* 0 is no, all else yes; so below */
+    uint8_t pass_alone;    /* a message in one piece finishes each time it comes, and is no repeat of another */
+    uint8_t spare[6];      /* must be 0 */
+} sms_gateway_limits;
+/* The usual ones: a message is open for a week, no finished one is forgotten by its age, there is no seed, and messages
+ * in one piece are remembered. */
+#define SMS_GATEWAY_LIMITS(open_max, remembered) \
+    { (open_max), (remembered), 604800, 0, 0, 0, 0, 0, { 0, 0, 0, 0, 0, 0 } }
+
+/* Opens it. SMS_OUT_OF_RANGE: open_max or remembered is 0, or a spare octet is not, and the joiner is as it was. Else
+ * an open one is closed first, and what it held is gone. SMS_NO_MEMORY: it is closed. SMS_OK: it is open, and holds
+ * nothing. */
+SMS_STATUS sms_gateway_open(sms_gateway *gateway, const sms_gateway_limits *limits);
+/* Frees what it holds. On a closed one it does nothing. */
+void sms_gateway_close(sms_gateway *gateway);
+/* Offers an SMS-DELIVER, at the front of the octets, for a recipient (an address as text, as target of
+ * sms_submit_write; where it is empty, it is for none: such messages are as for a recipient of their own), that came at
+ * a moment. SMS_CLOSED. SMS_REFUSED, SMS_NOT_THERE: as sms_joiner_offer. SMS_NOT_UTF8, SMS_BAD_ADDRESS: the recipient.
+ * SMS_TOO_MANY_OPEN, SMS_OK and *outcome: as sms_joiner_offer, but with pass_alone a message without a place is always
+ * SMS_FINISHED, and nothing is held of it. From SMS_BAD_ADDRESS on SMS_NO_MEMORY may come in place of each. After
+ * another status than SMS_OK the joiner is as it was. */
+SMS_STATUS sms_gateway_offer(sms_gateway *gateway, uint64_t seconds, const uint8_t *recipient, size_t recipient_count,
+                             const uint8_t *octets, size_t count, uint32_t *outcome, sms_refused *refused);
+/* Whether it would finish its message: nothing changes. SMS_CLOSED to SMS_BAD_ADDRESS: as sms_gateway_offer; in place
+ * of SMS_BAD_ADDRESS and SMS_OK SMS_NO_MEMORY may come. Else SMS_OK: *finishes is 0 or 1. */
+SMS_STATUS sms_gateway_would_finish(sms_gateway *gateway, const uint8_t *recipient, size_t recipient_count,
+                                    const uint8_t *octets, size_t count, uint8_t *finishes, sms_refused *refused);
+/* The same two of user data alone, as sms_joiner_offer_data takes them. SMS_NOT_UTF8, SMS_BAD_ADDRESS: the recipient or
+ * the origin. */
+SMS_STATUS sms_gateway_offer_data(sms_gateway *gateway, uint64_t seconds, const sms_data_offer *offer,
+                                  const uint8_t *recipient, size_t recipient_count,
+                                  const uint8_t *origin, size_t origin_count, const uint8_t *octets, size_t count,
+                                  uint32_t *outcome, sms_refused *refused);
+SMS_STATUS sms_gateway_would_finish_data(sms_gateway *gateway, const sms_data_offer *offer,
+                                         const uint8_t *recipient, size_t recipient_count,
+                                         const uint8_t *origin, size_t origin_count, const uint8_t *octets, size_t count,
+                                         uint8_t *finishes, sms_refused *refused);
+/* The text that finished last, of whatever recipient, as sms_joiner_text. */
+SMS_STATUS sms_gateway_text(sms_gateway *gateway, uint8_t *out, size_t room, size_t *needed);
+/* Drops the messages of which the segment that came first came open_for seconds before the moment, or earlier, and
+ * forgets the finished ones that finished remember_for seconds before it, or earlier; the text that finished last
+ * stays. A message that finishes at an earlier moment than the one before it counts as of that one's. SMS_CLOSED. Else
+ * SMS_OK. */
+SMS_STATUS sms_gateway_age(sms_gateway *gateway, uint64_t seconds);
+
+/* An open message, and whether it is for a recipient. */
+typedef struct sms_gateway_message {
+    sms_open_message message;
+    uint8_t has_recipient; /* 0 or 1 */
+} sms_gateway_message;
+
+/* As sms_joiner_count, _each and _origin, over the open messages of all recipients. A cursor is of one joiner. */
+SMS_STATUS sms_gateway_count(sms_gateway *gateway, size_t *open_count);
+SMS_STATUS sms_gateway_each(sms_gateway *gateway, sms_cursor *cursor, sms_gateway_message *message);
+SMS_STATUS sms_gateway_origin(sms_gateway *gateway, uint64_t opening, uint8_t *out, size_t room, size_t *needed);
+/* The text of its recipient likewise. SMS_NOT_THERE: no open message has this opening, or it is for none. */
+SMS_STATUS sms_gateway_recipient(sms_gateway *gateway, uint64_t opening, uint8_t *out, size_t room, size_t *needed);
 
 /* ---- the size of each struct, in octets, where a pointer has eight: said to compilers that can tell (C11, C++11) */
 
@@ -623,9 +802,17 @@ SMS_HAS(21, sms_report_fields);
 SMS_HAS(32, sms_status_report_fields);
 SMS_HAS(11, sms_data_form);
 SMS_HAS(64, sms_data);
+SMS_HAS(12, sms_data_fields);
+SMS_HAS(24, sms_data_segment);
+SMS_HAS(40, sms_record);
+SMS_HAS(7, sms_record_fields);
 SMS_HAS(16, sms_joiner);
+SMS_HAS(19, sms_data_offer);
 SMS_HAS(56, sms_open_message);
 SMS_HAS(16, sms_cursor);
+SMS_HAS(16, sms_gateway);
+SMS_HAS(56, sms_gateway_limits);
+SMS_HAS(64, sms_gateway_message);
 #undef SMS_HAS
 #endif
 

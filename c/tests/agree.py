@@ -52,15 +52,15 @@ def of_numbers(numbers, groups):
 # ---- structs, calls, names
 
 
-def joiner_last(lines):
-    """Rust tells of sms_joiner, which is none of its plain structs, after them."""
-    return sorted(lines, key=lambda it: re.match(r"sms_joiner\b", it) is not None)
+def joiners_last(lines):
+    """Rust tells of sms_joiner and sms_gateway, which are none of its plain structs, after them."""
+    return sorted(lines, key=lambda it: re.match(r"sms_(joiner|gateway)\b", it) is not None)
 
 
 def structs(of_python, layout, layout_of_rust):
     lines = of_structs(of_header.structs())
     differs("the structs of sms_c and of sms.h", of_structs(of_crate.structs()), lines)
-    differs("the structs of sms.h and of Rust", joiner_last(lines), of_structs(of_rust.structs()))
+    differs("the structs of sms.h and of Rust", joiners_last(lines), of_structs(of_rust.structs()))
     seen = {name: [(it, of_python.seen(kind)) for it, kind in fields] for name, fields in of_header.structs().items()}
     differs("the structs of sms.h and of Python", of_structs(seen), of_structs(of_python.structs()))
     named = [it.split()[0] for it in layout if "." in it]
@@ -69,7 +69,7 @@ def structs(of_python, layout, layout_of_rust):
     differs("the layouts of sms.h and of Python", layout, of_python.raw.layout())
     differs("the sizes that sms.h asserts and has", of_header.asserted(), [it for it in layout if "." not in it])
     if layout_of_rust:
-        differs("the layouts of sms.h and of Rust", joiner_last(layout), told(layout_of_rust))
+        differs("the layouts of sms.h and of Rust", joiners_last(layout), told(layout_of_rust))
 
 
 def calls(of_python):
@@ -113,9 +113,11 @@ def numbers(of_python):
     wrong, count = of_rust.misnamed()
     differs("the names of numbers and of Rust's variants", wrong, [])
     # Statuses but four (all is well, no room, closed, changed); reasons; alphabets and formats as they are given, and as
-    # they are seen, but the last, which stands for all else; outcomes but the last; kinds of CP and of RP but the last.
+    # they are seen, but the last, which stands for all else; states and units of records, and outcomes, but the last; kinds
+    # of CP and of RP but the last.
     much = {group: len(members) for group, members in header.items()}
     arms = much["status"] - 4 + much["reason"] + 2 * much["alphabet"] - 1 + 2 * much["format"] - 1 + much["outcome"] - 1 + 4
+    arms += much["record"] - 1 + much["unit"] - 1
     differs("the arms of Rust", [str(arms)], [str(count)])
 
 

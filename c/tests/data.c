@@ -1,5 +1,5 @@
-/* User data alone: by hand, beside the segments of a text, and, of so many random ones (200,000 if no number is given),
- * beside the SMS-DELIVER around the same. */
+/* User data alone: by hand, beside the segments of a text, split from texts, offered to joiners, and, of so many random
+ * ones (200,000 if no number is given), beside the SMS-DELIVER around the same. */
 #include "sms.h"
 
 #include <stdio.h>
@@ -172,6 +172,287 @@ static void segments(void)
     CHECK(at == 400 && memcmp(joined, text, 400) == 0);
 }
 
+/* ---- texts split as user data alone */
+
+typedef struct parts_of {
+    uint8_t out[4096];
+    size_t needed, count;
+    sms_data_segment parts[255];
+} parts_of;
+
+static sms_status split(const char *text, sms_data_fields fields, parts_of *of)
+{
+    return sms_data_split(&fields, (const uint8_t *)text, strlen(text), of->out, sizeof of->out, &of->needed, of->parts, 255,
+                          &of->count);
+}
+
+/* the segment of an index has these octets, in hexadecimal digits, from the front on, and these fields */
+static int has(const parts_of *of, size_t index, const char *hex, size_t length, uint8_t dcs, uint8_t has_header, uint8_t udl)
+{
+    uint8_t wanted[256];
+    size_t count = from_hex(hex, wanted);
+    const sms_data_segment *it = &of->parts[index];
+    return it->octets.length == length && it->dcs == dcs && it->has_header == has_header && it->length == udl
+        && count <= length && memcmp(of->out + it->octets.offset, wanted, count) == 0;
+}
+
+static void split_by_hand(void)
+{
+    static parts_of of;
+    char long_text[162];
+    const sms_data_fields packed = {.segments = {8, 7}}, single = {.segments = {8, 7}, .single = 1};
+    CHECK(split("hello", packed, &of) == SMS_OK && of.count == 1 && of.needed == 5);
+    CHECK(has(&of, 0, "E8329BFD06", 5, 0, 0, 5));
+    CHECK(split("hello", single, &of) == SMS_OK && of.count == 1 && has(&of, 0, "68656C6C6F", 5, 0, 0, 5));
+    /* the euro sign is two septets; a letter that the 7-bit alphabet lacks takes UCS-2, however septets would stand */
+    CHECK(split("\xE2\x82\xAC", single, &of) == SMS_OK && has(&of, 0, "1B65", 2, 0, 0, 2));
+    CHECK(split("\xD0\x9F", single, &of) == SMS_OK && has(&of, 0, "041F", 2, 8, 0, 2));
+    CHECK(split("\xD0\x9F", packed, &of) == SMS_OK && has(&of, 0, "041F", 2, 8, 0, 2));
+    CHECK(split("", packed, &of) == SMS_OK && of.count == 1 && of.needed == 0 && has(&of, 0, "", 0, 0, 0, 0));
+
+    memset(long_text, 'a', 161);
+    long_text[161] = '\0';
+    CHECK(split(long_text, single, &of) == SMS_OK && of.count == 2 && of.needed == 159 + 14);
+    CHECK(has(&of, 0, "0500030702016161", 159, 0, 1, 160));
+    CHECK(has(&of, 1, "0500030702026161616161616161", 14, 0, 1, 15));
+    CHECK(split(long_text, packed, &of) == SMS_OK && of.count == 2 && of.needed == 140 + 14);
+    CHECK(has(&of, 0, "050003070201C2E170381C0E", 140, 0, 1, 160));
+    CHECK(has(&of, 1, "050003070202C2E170381C0E8701", 14, 0, 1, 15));
+    CHECK(split(long_text, (sms_data_fields){.segments = {16, 0x1234}, .single = 9}, &of) == SMS_OK && of.count == 2);
+    CHECK(has(&of, 0, "0608041234020161", 159, 0, 1, 160));
+}
+
+/* why there are none; then only *needed is written */
+static void split_statuses(void)
+{
+    static uint8_t text[39016];
+    uint8_t out[8], before[8];
+    sms_data_segment part, was;
+    size_t needed = 77, segments = 77;
+    const uint8_t *a = (const uint8_t *)"a";
+    sms_data_fields fields = {.segments = {8, 256}};
+    memset(text, 'a', sizeof text);
+    memset(out, 0xA5, sizeof out);
+    memcpy(before, out, sizeof out);
+    memset(&part, 0xA5, sizeof part);
+    was = part;
+    CHECK(sms_data_split(&fields, a, 1, out, 8, &needed, &part, 1, &segments) == SMS_OUT_OF_RANGE && needed == 0);
+    fields.segments = (sms_reference){9, 0};
+    CHECK(sms_data_split(&fields, a, 1, out, 8, &needed, &part, 1, &segments) == SMS_OUT_OF_RANGE && needed == 0);
+    fields = (sms_data_fields){.segments = {8, 0}, .spare = {0, 0, 0, 0, 0, 1}};
+    CHECK(sms_data_split(&fields, (const uint8_t *)"\xff", 1, out, 8, &needed, &part, 1, &segments) == SMS_OUT_OF_RANGE);
+    fields = (sms_data_fields){.segments = {8, 255}};
+    needed = 77;
+    CHECK(sms_data_split(&fields, (const uint8_t *)"\xff", 1, out, 8, &needed, &part, 1, &segments) == SMS_NOT_UTF8 && needed == 0);
+    needed = 77;
+    CHECK(sms_data_split(&fields, text, sizeof text, out, 8, &needed, &part, 1, &segments) == SMS_TOO_LONG && needed == 0);
+    CHECK(segments == 77 && memcmp(out, before, sizeof out) == 0 && memcmp(&part, &was, sizeof part) == 0);
+    CHECK(sms_data_split(&fields, text, sizeof text - 1, out, 8, &needed, &part, 1, &segments) == SMS_NO_ROOM);
+    CHECK(segments == 255 && needed == 255 * 140);
+    CHECK(sms_data_split(&fields, text, 160, out, 8, &needed, &part, 1, &segments) == SMS_NO_ROOM && segments == 1 && needed == 140);
+    CHECK(sms_data_split(&fields, text, 8, out, 8, &needed, &part, 0, &segments) == SMS_NO_ROOM && segments == 1 && needed == 7);
+    CHECK(sms_data_split(&fields, text, 8, NULL, 0, &needed, NULL, 0, &segments) == SMS_NO_ROOM && needed == 7);
+    CHECK(memcmp(out, before, sizeof out) == 0 && memcmp(&part, &was, sizeof part) == 0);
+    CHECK(sms_data_split(&fields, text, 8, out, 7, &needed, &part, 1, &segments) == SMS_OK && needed == 7 && out[7] == 0xA5);
+}
+
+/* the segments alone are those of sms_split after TP-UDL, and are read as what they are told to be */
+static void split_beside(const char *text)
+{
+    static parts_of packed, single;
+    uint8_t all[4096], dcs;
+    sms_span spans[255];
+    size_t needed, count;
+    const sms_reference reference = {16, 4660};
+    CHECK(sms_split(&reference, (const uint8_t *)text, strlen(text), all, sizeof all, &needed, spans, 255, &count, &dcs) == SMS_OK);
+    CHECK(split(text, (sms_data_fields){.segments = reference}, &packed) == SMS_OK && packed.count == count);
+    CHECK(split(text, (sms_data_fields){.segments = reference, .single = 1}, &single) == SMS_OK && single.count == count);
+    CHECK(packed.needed + count == needed);
+    for (size_t i = 0; i < count; i++) {
+        const uint8_t *user = all + spans[i].offset;
+        const sms_data_segment one = packed.parts[i], other = single.parts[i];
+        CHECK(one.octets.length + 1 == spans[i].length && one.length == user[0] && one.dcs == dcs);
+        CHECK(memcmp(packed.out + one.octets.offset, user + 1, one.octets.length) == 0);
+        CHECK(other.length == user[0] && other.dcs == dcs && one.has_header == (count > 1) && other.has_header == (count > 1));
+        const sms_data_form counted = {.dcs = dcs, .has_header = one.has_header, .standing = SMS_COUNTED, .length = one.length};
+        const sms_data_form alone = {.dcs = dcs, .has_header = other.has_header, .standing = SMS_SINGLE};
+        uint8_t texts[2][SMS_TEXT_MAX];
+        size_t lengths[2];
+        sms_data data[2];
+        sms_refused refused;
+        CHECK(sms_data_read(packed.out + one.octets.offset, one.octets.length, &counted, &data[0], &refused) == SMS_OK);
+        CHECK(sms_data_read(single.out + other.octets.offset, other.octets.length, &alone, &data[1], &refused) == SMS_OK);
+        CHECK(data[0].used == one.octets.length && data[1].used == other.octets.length && data[0].count == data[1].count);
+        CHECK(memcmp(&data[0].place, &data[1].place, sizeof data[0].place) == 0);
+        CHECK(sms_data_text(packed.out + one.octets.offset, one.octets.length, &counted, texts[0], SMS_TEXT_MAX, &lengths[0]) == SMS_OK);
+        CHECK(sms_data_text(single.out + other.octets.offset, other.octets.length, &alone, texts[1], SMS_TEXT_MAX, &lengths[1]) == SMS_OK);
+        CHECK(lengths[0] == lengths[1] && memcmp(texts[0], texts[1], lengths[0]) == 0);
+    }
+}
+
+static void splits(void)
+{
+    static char text[1201];
+    split_by_hand();
+    split_statuses();
+    for (size_t length = 0; length <= 1200; length += length < 330 ? 1 : 61) {
+        for (size_t i = 0; i < length; i++)
+            text[i] = i % 41 == 40 ? '[' : (char)('a' + i % 26);
+        text[length] = '\0';
+        split_beside(text);
+        if (length >= 2) {
+            memcpy(text + length - 2, "\xD0\x9F", 2);
+            split_beside(text);
+        }
+    }
+}
+
+/* ---- offered to a joiner */
+
+static sms_status offer(sms_joiner *joiner, const char *origin, sms_data_offer how, const char *hex, uint32_t *outcome)
+{
+    uint8_t draft[512];
+    size_t count = from_hex(hex, draft), length = strlen(origin);
+    uint8_t *octets = own(draft, count), *from = own((const uint8_t *)origin, length), finishes = 9;
+    sms_refused refused = {77, 77}, told = {77, 77};
+    sms_status would = sms_joiner_would_finish_data(joiner, &how, from, length, octets, count, &finishes, &told);
+    *outcome = 77;
+    sms_status status = sms_joiner_offer_data(joiner, 5, &how, from, length, octets, count, outcome, &refused);
+    CHECK(would == (status == SMS_TOO_MANY_OPEN ? SMS_OK : status));
+    CHECK(refused.place == told.place && refused.reason == told.reason && (refused.place == 77) == (status != SMS_REFUSED));
+    CHECK(finishes == (would != SMS_OK ? 9 : status == SMS_OK && *outcome == SMS_FINISHED));
+    CHECK((*outcome == 77) == (status != SMS_OK));
+    free(octets);
+    free(from);
+    return status;
+}
+
+static int becomes(sms_joiner *joiner, const char *origin, sms_data_offer how, const char *hex, uint32_t wanted)
+{
+    uint32_t outcome;
+    return offer(joiner, origin, how, hex, &outcome) == SMS_OK && outcome == wanted;
+}
+
+static int has_text(sms_joiner *joiner, const char *wanted)
+{
+    uint8_t text[SMS_TEXT_MAX];
+    size_t needed;
+    return sms_joiner_text(joiner, text, sizeof text, &needed) == SMS_OK && needed == strlen(wanted)
+        && memcmp(text, wanted, needed) == 0;
+}
+
+static size_t open_count(sms_joiner *joiner)
+{
+    size_t count = 77;
+    CHECK(sms_joiner_count(joiner, &count) == SMS_OK);
+    return count;
+}
+
+static void joins(void)
+{
+    sms_joiner joiner = SMS_JOINER_CLOSED;
+    uint32_t outcome;
+    const sms_data_offer single = {.form = {.standing = SMS_SINGLE, .has_header = 1}}, bare = {.form = {.standing = SMS_SINGLE}};
+    const sms_data_offer wide = {.form = {.dcs = 8, .has_header = 1}};
+    CHECK(sms_joiner_open(&joiner, 2, 8) == SMS_OK);
+    /* "one two", by two alphabets too, and by the reference of its origin alone */
+    CHECK(becomes(&joiner, "+1001", single, "05000308020274776F", SMS_KEPT) && open_count(&joiner) == 1);
+    CHECK(becomes(&joiner, "+1001", single, "05000308020274776F", SMS_REPEAT));
+    CHECK(becomes(&joiner, "1001", single, "0500030802016F6E6520", SMS_KEPT) && open_count(&joiner) == 2);
+    CHECK(becomes(&joiner, "+1001", single, "0500030802016F6E6520", SMS_FINISHED) && has_text(&joiner, "one two"));
+    CHECK(becomes(&joiner, "+1001", single, "0500030802016F6E6520", SMS_REPEAT) && open_count(&joiner) == 1);
+    CHECK(becomes(&joiner, "1001", wide, "0500030802020416", SMS_FINISHED) && has_text(&joiner, "one \xD0\x96"));
+    /* a message in one piece is known by its stamp, if it has one; the origin may be a name */
+    CHECK(becomes(&joiner, "a name", bare, "6869", SMS_FINISHED) && has_text(&joiner, "hi"));
+    CHECK(becomes(&joiner, "a name", bare, "6869", SMS_FINISHED) && becomes(&joiner, "+1", bare, "", SMS_FINISHED));
+    CHECK(has_text(&joiner, "") && open_count(&joiner) == 0);
+    sms_data_offer stamped = {.has_stamp = 9, .stamp = {{0x99, 0x30, 0x92, 0x51, 0x61, 0x95, 0x80}}};
+    CHECK(becomes(&joiner, "+1", stamped, "E8329BFD06", SMS_FINISHED) && has_text(&joiner, "hello"));
+    CHECK(becomes(&joiner, "+1", stamped, "E8329BFD06", SMS_REPEAT));
+    stamped.stamp.octets[6] = 0x81;
+    CHECK(becomes(&joiner, "+1", stamped, "E8329BFD06", SMS_FINISHED));
+    /* a segment is known by its place, whatever its stamp is */
+    stamped.form = single.form;
+    CHECK(becomes(&joiner, "+1", stamped, "05000309020161", SMS_KEPT) && becomes(&joiner, "+1", single, "05000309020262", SMS_FINISHED));
+    CHECK(has_text(&joiner, "ab"));
+    /* by the Turkish single shift table, which each header tells */
+    sms_data_offer turkish = {.form = {.standing = SMS_SINGLE, .has_header = 1, .languages = 1}};
+    CHECK(becomes(&joiner, "+1", turkish, "080003090201240101611B73", SMS_REPEAT));
+    CHECK(becomes(&joiner, "+1", turkish, "0800030A0201240101611B73", SMS_KEPT));
+    CHECK(becomes(&joiner, "+1", turkish, "0800030A02022401011B6761", SMS_FINISHED) && has_text(&joiner, "a\xC5\x9F\xC4\x9F" "a"));
+    turkish.form.languages = 0;
+    CHECK(becomes(&joiner, "+1", turkish, "032401011B73", SMS_FINISHED) && has_text(&joiner, "s"));
+    /* why none is taken, of several the first; the joiner stays as it was */
+    CHECK(becomes(&joiner, "+1", single, "0500030B020161", SMS_KEPT) && becomes(&joiner, "+1", single, "0500030C020161", SMS_KEPT));
+    CHECK(offer(&joiner, "+1", single, "0500030D020161", &outcome) == SMS_TOO_MANY_OPEN);
+    sms_data_offer wrong = {.form = {.standing = 3}};
+    CHECK(offer(&joiner, "\xff", wrong, "05", &outcome) == SMS_OUT_OF_RANGE);
+    wrong.form = (sms_data_form){.spare = {1}};
+    CHECK(offer(&joiner, "\xff", wrong, "05", &outcome) == SMS_OUT_OF_RANGE);
+    wrong.form = (sms_data_form){.dcs = 4, .has_header = 1};
+    CHECK(offer(&joiner, "\xff", wrong, "0500", &outcome) == SMS_REFUSED);
+    CHECK(offer(&joiner, "\xff", wrong, "0100", &outcome) == SMS_NOT_THERE);
+    CHECK(offer(&joiner, "\xff", single, "0500030D020161", &outcome) == SMS_NOT_UTF8);
+    CHECK(offer(&joiner, "+x", single, "0500030D020161", &outcome) == SMS_BAD_ADDRESS);
+    CHECK(open_count(&joiner) == 2 && has_text(&joiner, "s"));
+    /* offers are changes; what is told of an open message is as of a unit */
+    sms_cursor cursor = {0, 0};
+    sms_open_message message;
+    uint8_t from[SMS_ADDRESS_TEXT_MAX];
+    size_t length;
+    CHECK(sms_joiner_each(&joiner, &cursor, &message) == SMS_OK && message.reference == 11 && message.seconds == 5);
+    CHECK(sms_joiner_origin(&joiner, message.opening, from, sizeof from, &length) == SMS_OK && length == 2 && memcmp(from, "+1", 2) == 0);
+    CHECK(becomes(&joiner, "+1", bare, "6869", SMS_FINISHED) && sms_joiner_each(&joiner, &cursor, &message) == SMS_CHANGED);
+    sms_joiner_close(&joiner);
+    CHECK(offer(&joiner, "\xff", wrong, "05", &outcome) == SMS_CLOSED);
+}
+
+/* segments that are split are joined, last first, also where some come in units */
+static void joins_what_is_split(void)
+{
+    static char text[1000];
+    static parts_of of;
+    sms_joiner joiner = SMS_JOINER_CLOSED;
+    const uint8_t *from = (const uint8_t *)"+1234";
+    uint32_t outcome = 77;
+    sms_refused refused;
+    CHECK(sms_joiner_open(&joiner, 4, 4) == SMS_OK);
+    for (int turn = 0; turn < 200; turn++) {
+        const size_t length = (size_t)(400 + turn);
+        for (size_t i = 0; i < length; i++)
+            text[i] = i % 29 == 7 ? '~' : (char)('a' + (i + (size_t)turn) % 26);
+        text[length] = '\0';
+        if (turn % 3 == 0)
+            memcpy(text, "\xD0\x96", 2);
+        const sms_data_fields fields = {.segments = {16, (uint16_t)turn}, .single = (uint8_t)(turn % 2)};
+        CHECK(split(text, fields, &of) == SMS_OK && of.count > 1);
+        for (size_t i = of.count; i-- > 0;) {
+            const sms_data_segment *it = &of.parts[i];
+            sms_status status;
+            if (turn % 5 == 4 && i % 2 == 1) {
+                const sms_deliver_fields unit_fields = {.segments = {16, (uint16_t)turn}};
+                uint8_t unit[SMS_UNIT_MAX];
+                size_t size, segments;
+                CHECK(sms_deliver_write(&unit_fields, from, 5, (const uint8_t *)text, length, i, unit, sizeof unit, &size, &segments) == SMS_OK);
+                status = sms_joiner_offer(&joiner, 0, unit, size, &outcome, &refused);
+            } else {
+                const sms_data_offer how = {.form = {
+                    .dcs = it->dcs,
+                    .has_header = it->has_header,
+                    .standing = turn % 2 == 1 ? SMS_SINGLE : SMS_COUNTED,
+                    .length = turn % 2 == 1 ? 0 : it->length,
+                }};
+                status = sms_joiner_offer_data(&joiner, 0, &how, from, 5, of.out + it->octets.offset, it->octets.length, &outcome, &refused);
+            }
+            CHECK(status == SMS_OK && outcome == (i == 0 ? SMS_FINISHED : SMS_KEPT));
+        }
+        uint8_t joined[2048];
+        size_t needed;
+        CHECK(sms_joiner_text(&joiner, joined, sizeof joined, &needed) == SMS_OK && needed == length && memcmp(joined, text, length) == 0);
+    }
+    sms_joiner_close(&joiner);
+}
+
 static int same_span(sms_span alone, sms_span seen, size_t front)
 {
     return alone.length == seen.length && (seen.length == 0 || alone.offset + front == seen.offset);
@@ -227,6 +508,9 @@ int main(int argc, char **argv)
     by_hand();
     parts();
     segments();
+    splits();
+    joins();
+    joins_what_is_split();
     beside_units(argc > 1 ? (unsigned)strtoul(argv[1], NULL, 10) : 200000);
     printf("%d failures\n", failures);
     return failures != 0;

@@ -217,9 +217,31 @@ static void writers(void)
     FIELD(sms_data, has_header);
     FIELD(sms_data, single);
     FIELD(sms_data, fill);
+    STRUCT(sms_data_fields);
+    FIELD(sms_data_fields, segments);
+    FIELD(sms_data_fields, single);
+    FIELD(sms_data_fields, spare);
+    STRUCT(sms_data_segment);
+    FIELD(sms_data_segment, octets);
+    FIELD(sms_data_segment, dcs);
+    FIELD(sms_data_segment, has_header);
+    FIELD(sms_data_segment, length);
+    STRUCT(sms_record);
+    FIELD(sms_record, address);
+    FIELD(sms_record, unit);
+    FIELD(sms_record, status);
+    FIELD(sms_record, has_address);
+    FIELD(sms_record, kind);
+    STRUCT(sms_record_fields);
+    FIELD(sms_record_fields, status);
+    FIELD(sms_record_fields, spare);
     STRUCT(sms_joiner);
     FIELD(sms_joiner, open);
     FIELD(sms_joiner, inside);
+    STRUCT(sms_data_offer);
+    FIELD(sms_data_offer, has_stamp);
+    FIELD(sms_data_offer, stamp);
+    FIELD(sms_data_offer, form);
     STRUCT(sms_open_message);
     FIELD(sms_open_message, seconds);
     FIELD(sms_open_message, opening);
@@ -233,6 +255,22 @@ static void writers(void)
     STRUCT(sms_cursor);
     FIELD(sms_cursor, change);
     FIELD(sms_cursor, opening);
+    STRUCT(sms_gateway);
+    FIELD(sms_gateway, open);
+    FIELD(sms_gateway, inside);
+    STRUCT(sms_gateway_limits);
+    FIELD(sms_gateway_limits, open_max);
+    FIELD(sms_gateway_limits, remembered);
+    FIELD(sms_gateway_limits, open_for);
+    FIELD(sms_gateway_limits, remember_for);
+    FIELD(sms_gateway_limits, seed_low);
+    FIELD(sms_gateway_limits, seed_high);
+    FIELD(sms_gateway_limits, has_seed);
+    FIELD(sms_gateway_limits, pass_alone);
+    FIELD(sms_gateway_limits, spare);
+    STRUCT(sms_gateway_message);
+    FIELD(sms_gateway_message, message);
+    FIELD(sms_gateway_message, has_recipient);
 }
 
 int main(void)

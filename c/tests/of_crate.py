@@ -30,15 +30,23 @@ NAMES = {
     "sms_status_report_fields": "StatusReportFields",
     "sms_data_form": "DataForm",
     "sms_data": "DataSeen",
+    "sms_data_fields": "DataFields",
+    "sms_data_segment": "DataSegment",
+    "sms_record": "RecordSeen",
+    "sms_record_fields": "RecordFields",
     "sms_joiner": "Handle",
+    "sms_data_offer": "DataOffer",
     "sms_open_message": "OpenMessage",
     "sms_cursor": "Cursor",
+    "sms_gateway": "GatewayHandle",
+    "sms_gateway_limits": "Limits",
+    "sms_gateway_message": "MessageTo",
 }
-IN_HEADER = {**{inner: name for name, inner in NAMES.items()}, "Kept": "*mut ()"}
+IN_HEADER = {**{inner: name for name, inner in NAMES.items()}, "Kept": "*mut ()", "GatewayKept": "*mut ()"}
 # Fields and parameters that have another name in sms.h, and the counts that go with slices.
-FIELDS = {("sms_joiner", "kept"): "inside"}
+FIELDS = {("sms_joiner", "kept"): "inside", ("sms_gateway", "kept"): "inside"}
 PARAMETERS = {"handle": "joiner", "count": "segments", "answer": "finishes"}
-COUNTS = {"octets": "count", "out": "room", "spans": "span_count"}
+COUNTS = {"octets": "count", "out": "room", "spans": "span_count", "parts": "part_count"}
 NUMBERS = {"u8": 1, "i8": 1, "u16": 2, "u32": 4, "u64": 8, "usize": 8, "*mut ()": 8}
 
 
@@ -71,7 +79,7 @@ def structs():
         name = IN_HEADER.get(inner, f"{inner}, which sms.h does not have")
         fields = re.findall(r"^    (?:pub )?(\w+): ([^{}]*?),$", body, re.M)
         found[name] = [(FIELDS.get((name, field), field), kind_of(kind, sizes)) for field, kind in fields]
-    del found[IN_HEADER["Kept"]]
+    del found["*mut ()"]
     return {name: found[name] for name in [*NAMES, *(set(found) - set(NAMES))] if name in found}
 
 
@@ -133,7 +141,8 @@ def calls():
 
 # The names of sms.h for those of the crate.
 STATUSES = {"MEMORY": "NO_MEMORY"}
-REASONS = {"BAD_ADDRESS": "BAD_RELAY_ADDRESS"}
+REASONS = {"BAD_ADDRESS": "BAD_RELAY_ADDRESS", "CENTRE": "BAD_RELAY_ADDRESS"}
+SENT = {"NotAsked": "RECORD_SENT"}
 KINDS = {"Transfer": "DATA", "Ack": "ACK", "Fail": "ERROR"}
 
 
@@ -148,12 +157,15 @@ def version():
 
 
 def numbers():
-    status, joiner, relay = source("status.rt"), source("joiner/offering.rt"), source("relay.rt")
+    status, joiner, relay = source("status.rt"), source("joiner/taking.rt"), source("relay.rt")
     failures, relay_faults = arms(status, "Failure"), arms(status, "RelayFault")
     reasons = {snake(name): number for name, number in arms(status, "UnitFault").items()}
     reasons.update({snake(name): number for name, number in arms(status, "DataFault").items()})
-    for name, number in relay_faults.items():
+    for name, number in [*relay_faults.items(), *arms(status, "RecordFault").items()]:
         reasons[REASONS.get(snake(name), snake(name))] = number
+    states, records = (TOP / "crates" / "sms_card" / "src" / "status.rt").read_text(encoding="utf-8"), source("records.rt")
+    sent = re.findall(r"Status::Sent\(ReportState::(\w+)\) => (\d+)", states)
+    units = {**arms(records, "ReceivedView"), **arms(records, "OriginatedView")}
     alphabets, times = arms(source("parts.rt"), "Alphabet"), source("times.rt")
     shown, taken = arms(times, "Validity", r"ValidityOctets \{\s*format: (\d)"), r"\b(\d) => (?:\{[^}]*)?Some\(Validity::(\w+)"
     outcomes = re.findall(r"Ok\(Offer::(\w+)(?:\(\w+\))?\) => (?:\{[^}]*)?Ok\((\d)\)", joiner)
@@ -164,6 +176,11 @@ def numbers():
         "format": {snake(name): number for name, number in shown.items()},
         "format, as it is taken": {snake(name): int(number) for number, name in re.findall(taken, times)},
         "standing": {name: int(number) for name, number in re.findall(r"const (\w+): u8 = (\d);", source("reading/data.rt"))},
+        "record": {
+            **{f"RECORD_{snake(name)}": number for name, number in arms(states, "Status").items() if name != "Sent"},
+            **{SENT.get(name, f"RECORD_SENT_{snake(name)}"): int(number) for name, number in sent},
+        },
+        "unit": {"NO_UNIT": arms(records, "RecordView")["Free"], **{f"UNIT_{snake(name)}": n for name, n in units.items()}},
         "outcome": {snake(name): int(number) for name, number in outcomes},
     }
     for layer, view in ("CP", "CpBodyView"), ("RP", "RpBodyView"):

@@ -23,6 +23,8 @@ GROUPS = {
     "SMS_GSM7": "alphabet",
     "SMS_VALIDITY_ABSENT": "format",
     "SMS_WHOLE": "standing",
+    "SMS_RECORD_FREE": "record",
+    "SMS_NO_UNIT": "unit",
     "SMS_REPEAT": "outcome",
 }
 

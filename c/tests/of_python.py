@@ -20,6 +20,9 @@ KINDS = {
 }
 
 
+UNITS = {"NONE": "NO_UNIT"}
+
+
 def kind_of(kind):
     if kind in KINDS:
         return KINDS[kind]
@@ -55,6 +58,8 @@ def numbers():
         "alphabet": members(sms.Alphabet),
         "format": members(sms.Format),
         "standing": members(sms.Standing),
+        "record": {f"RECORD_{name}": number for name, number in members(sms.RecordStatus).items()},
+        "unit": {UNITS.get(name, f"UNIT_{name}"): number for name, number in members(sms.UnitKind).items()},
         "outcome": members(sms.Offer),
         "size": {name[:-4]: getattr(raw, name) for name in vars(raw) if name.endswith("_MAX")},
         "kind of CP": kinds,

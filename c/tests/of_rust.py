@@ -8,7 +8,8 @@ from of_header import TOP
 RAW = re.sub(r"//.*", "", (TOP / "rust" / "src" / "raw.rs").read_text(encoding="utf-8"))
 SAFE = "".join(it.read_text(encoding="utf-8") for it in sorted((TOP / "rust" / "src").glob("*.rs")) if it.name != "raw.rs")
 NAMES = {inner: name for name, inner in re.findall(r'"(sms_\w+)" (\w+) \{', RAW)}
-NAMES["Joiner"] = "sms_joiner"
+HANDLES = {"Joiner": "sms_joiner", "Gateway": "sms_gateway"}
+NAMES.update(HANDLES)
 
 
 def kind_of(text):
@@ -22,7 +23,8 @@ def declared(body):
 
 def structs():
     found = {name: declared(body) for name, body in re.findall(r'"(sms_\w+)" \w+ \{(.*?)\}', RAW, re.S)}
-    return {**found, "sms_joiner": declared(re.search(r"pub struct Joiner \{(.*?)\}", RAW, re.S)[1])}
+    handles = {name: declared(re.search(rf"pub struct {inner} \{{(.*?)\}}", RAW, re.S)[1]) for inner, name in HANDLES.items()}
+    return {**found, **handles}
 
 
 def calls():
@@ -36,10 +38,11 @@ def constants():
 
 def misnamed():
     """The constants that stand in the safe part for a variant of another name; then how many stand for one."""
-    kinds = "Error|Reason|Alphabet|Validity|CpBody|RpBody"
+    kinds = "Error|Reason|Alphabet|Validity|CpBody|RpBody|RecordStatus|RecordUnit"
     pairs = re.findall(rf"raw::(?:SMS|KIND)_(\w+) => (?:{kinds})::(\w+)", SAFE)
     pairs += re.findall(r"raw::SMS_OK, raw::SMS_(\w+)\) => Ok\(Offer::(\w+)", SAFE)
     made = re.findall(r"Validity::(\w+)(?:\(\w+\))? => \{?\s*raw::Validity \{ format: raw::SMS_(\w+)", SAFE)
     made += re.findall(r"Alphabet::(\w+) => raw::SMS_(\w+),", SAFE)
     pairs += [(name, variant) for variant, name in made]
-    return [f"{name} stands for {variant}" for name, variant in pairs if name.replace("VALIDITY_", "") != snake(variant)], len(pairs)
+    named = [(re.sub("^(VALIDITY|RECORD|UNIT)_", "", name), variant) for name, variant in pairs]
+    return [f"{name} stands for {variant}" for name, variant in named if name != snake(variant)], len(pairs)

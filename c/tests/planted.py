@@ -8,7 +8,16 @@ import tempfile
 from pathlib import Path
 
 TOP = Path(__file__).resolve().parents[2]
-READ = ("c", "crates/sms_c/src", "python/src", "python/pyproject.toml", "rust/src", "rust/Cargo.toml", "rust/Cargo.lock")
+READ = (
+    "c",
+    "crates/sms_c/src",
+    "crates/sms_card/src",
+    "python/src",
+    "python/pyproject.toml",
+    "rust/src",
+    "rust/Cargo.toml",
+    "rust/Cargo.lock",
+)
 # What is told, a file, what stands in it once, and what is planted there.
 PLANTED = (
     (
@@ -48,6 +57,7 @@ PLANTED = (
     ),
     ("the numbers of sms_c and of sms.h", "crates/sms_c/src/parts.rt", "Alphabet::Ucs2 => 2,", "Alphabet::Ucs2 => 4,"),
     ("the numbers of sms_c and of sms.h", "crates/sms_c/src/reading/data.rt", "SINGLE: u8 = 2;", "SINGLE: u8 = 3;"),
+    ("the numbers of sms_c and of sms.h", "c/sms.h", "SMS_RECORD_SENT_AWAITED = 13", "SMS_RECORD_SENT_AWAITED = 15"),
     (
         "the calls of sms.h and of Rust",
         "rust/src/raw.rs",
@@ -89,10 +99,10 @@ PLANTED = (
         "Status.TOO_LONG: NotThere",
     ),
     ("the structs of sms.h and of Python", "python/src/sms/raw.py", '("change", c_uint64)', '("change", c_uint32)'),
-    ("the calls of sms.h and of Rust", "rust/src/raw.rs", "cursor: *mut Cursor", "cursor: *const Cursor"),
+    ("the calls of sms.h and of Rust", "rust/src/raw.rs", "joiner: *mut Joiner, cursor: *mut", "joiner: *mut Joiner, cursor: *const"),
     ("the numbers of sms.h and of Python", "python/src/sms/raw.py", "CHANGED = 11", "CHANGED = 12"),
     ("the names of sms.h and of sms.map", "c/sms.map", "    sms_split;\n", ""),
-    ("c/VERSION and what follows it", "c/sms.h", "SMS_VERSION 2001000", "SMS_VERSION 2001001"),
+    ("c/VERSION and what follows it", "c/sms.h", "SMS_VERSION 2002000", "SMS_VERSION 2002001"),
     ("c/VERSION and what follows it", "rust/Cargo.toml", '\nversion = "', '\nversion = "9'),
 )
 

@@ -2,6 +2,7 @@
 line is right that is marked as wrong)."""
 
 from datetime import datetime
+from typing import Optional
 
 import sms
 
@@ -18,3 +19,6 @@ sequences: tuple[int, ...] = next(sms.Joiner(seed=1).open_messages()).missing
 sms.Joiner(seed=b"")  # type: ignore[arg-type]
 reason: str = sms.Refused(0, sms.Reason.SHORT).reason.name
 sms.Refused(0, 1)  # type: ignore[arg-type]
+recipient: Optional[str] = next(sms.Gateway(seed=1).open_messages()).recipient
+sms.Gateway().offer(b"", b"")  # type: ignore[arg-type]
+sms.Gateway(open_for=1)  # type: ignore[arg-type]

@@ -147,6 +147,47 @@ class DataAlone(unittest.TestCase):
             texts.append(data.text)
         self.assertEqual("".join(texts), LONG)
 
+    def test_split(self):
+        first, second = sms.split_data("a" * 161, reference=7, single=True)
+        self.assertEqual(first, sms.DataSegment(bytes.fromhex("050003070201") + b"a" * 153, 0, True, 160))
+        self.assertEqual(second, sms.DataSegment(bytes.fromhex("050003070202") + b"a" * 8, 0, True, 15))
+        self.assertEqual(sms.split_data("hello"), [sms.DataSegment(bytes.fromhex("E8329BFD06"), 0, False, 5)])
+        self.assertEqual(sms.split_data("\u041f", single=True), [sms.DataSegment(b"\x04\x1f", 8, False, 2)])
+        packed = sms.split_data(LONG, reference=0x1234, width=16)
+        self.assertEqual([it.octets for it in packed], [it.octets[1:] for it in sms.split(LONG, reference=0x1234, width=16)])
+        with self.assertRaises(sms.TooLong):
+            sms.split_data("a" * 39_016)
+        with self.assertRaises(sms.OutOfRange):
+            sms.split_data("a", reference=256)
+
+    def test_join(self):
+        parts = [sms.Data.read(it.octets, it.dcs, has_header=it.has_header, single=True) for it in sms.split_data(LONG, single=True)]
+        bare = sms.Data.read(b"hi", 0, single=True)
+        with sms.Joiner() as joiner:
+            self.assertFalse(joiner.would_finish_data("+1001", parts[1]))
+            self.assertIsNone(joiner.offer_data("+1001", parts[1]))
+            self.assertEqual(joiner.outcome_data("+1001", parts[1]), sms.Offer.REPEAT)
+            self.assertIsNone(joiner.offer_data("1001", parts[0]))
+            self.assertTrue(joiner.would_finish_data("+1001", parts[0]))
+            self.assertEqual(joiner.offer_data("+1001", parts[0]), LONG)
+            self.assertEqual([it.origin for it in joiner.open_messages()], ["1001"])
+            self.assertEqual([joiner.offer_data("a name", bare) for _ in range(2)], ["hi", "hi"])
+            self.assertEqual([joiner.offer_data("a name", bare, stamp=STAMP) for _ in range(2)], ["hi", None])
+            turkish = sms.Data.read(bytes.fromhex("032401011B69"), 0, has_header=True, single=True)
+            self.assertEqual((joiner.offer_data("1", turkish), joiner.offer_data("1", turkish, languages=True)), ("i", "\u0131"))
+            for error, origin, data in (
+                (sms.BadAddress, "+x", bare),
+                (sms.NotUtf8, "\ud800", bare),
+                (sms.NotThere, "1", sms.Data.read(b"hi", 4)),
+            ):
+                with self.subTest(error=error), self.assertRaises(error):
+                    joiner.offer_data(origin, data)
+                with self.subTest(error=error), self.assertRaises(error):
+                    joiner.would_finish_data(origin, data)
+            self.assertEqual(joiner.text, "\u0131")
+        with self.assertRaises(sms.Closed):
+            joiner.offer_data("1", bare)
+
     def test_languages(self):
         data = sms.Data.read(bytes.fromhex("032401011B69"), 0, has_header=True, single=True)
         self.assertEqual((data.text, data.language_text), ("i", "\u0131"))
@@ -166,6 +207,61 @@ class DataAlone(unittest.TestCase):
         for given in ({"dcs": 256}, {"dcs": 0, "length": 256}, {"dcs": 0, "length": 5, "single": True}):
             with self.subTest(given=given), self.assertRaises(sms.OutOfRange):
                 sms.Data.read(b"hello", **given)
+
+
+class Records(unittest.TestCase):
+    CENTRE = bytes.fromhex("07917283010010F5")
+
+    def test_from_the_network(self):
+        record = sms.Record.read(b"\x03" + self.CENTRE + HELLO + b"\xff" * 139)
+        self.assertEqual((record.status, record.kind, record.unit), (sms.RecordStatus.UNREAD, sms.UnitKind.DELIVER, HELLO))
+        self.assertEqual((record.address, record.centre), (self.CENTRE, "+27381000015"))
+        self.assertEqual(record.message, sms.Deliver.read(HELLO))
+        unit = sms.StatusReport.write("+46708251358", STAMP, STAMP, 0x46, dcs=4, data=b"\xff\xff")
+        record = sms.Record.read(b"\x01\x00" + unit + b"\xff" * 3)
+        self.assertEqual((record.status, record.unit, record.centre), (sms.RecordStatus.READ, unit, None))
+        self.assertEqual(record.message, sms.StatusReport.read(unit))
+
+    def test_of_the_phone(self):
+        (unit,) = sms.Submit.write("+46708251358", "hi")
+        record = sms.Record.read(bytearray(b"\x1d\x00" + unit))
+        self.assertEqual((record.status, record.message), (sms.RecordStatus.SENT_STORED, sms.Submit.read(unit)))
+        command = bytes.fromhex("02070002050491012000")
+        record = sms.Record.read(b"\x07\x00" + command + b"\xff")
+        self.assertEqual((record.kind, record.message), (sms.UnitKind.COMMAND, sms.Command.read(command)))
+
+    def test_write(self):
+        octets = sms.Record.write(sms.RecordStatus.UNREAD, HELLO, centre="+27381000015")
+        self.assertEqual(octets, b"\x03" + self.CENTRE + HELLO + b"\xff" * 139)
+        self.assertEqual(sms.Record.write(sms.RecordStatus.FREE), b"\x00" + b"\xff" * 175)
+        self.assertEqual(sms.Record.read(octets).message, sms.Deliver.read(HELLO))
+        for error, given, more in (
+            (sms.OutOfRange, (2, HELLO), {}),
+            (sms.OutOfRange, (sms.RecordStatus.FREE, HELLO), {}),
+            (sms.BadAddress, (sms.RecordStatus.READ, HELLO), {"centre": "x"}),
+        ):
+            with self.subTest(given=given, more=more), self.assertRaises(error):
+                sms.Record.write(*given, **more)
+        with self.assertRaisesRegex(sms.Refused, "^at 2: wrong type$"):
+            sms.Record.write(sms.RecordStatus.TO_BE_SENT, HELLO)
+
+    def test_free(self):
+        record = sms.Record.read(b"\x00" + b"\xff" * 175)
+        self.assertEqual(record, sms.Record(sms.RecordStatus.FREE, sms.UnitKind.NONE, None, None))
+        self.assertEqual((record.centre, record.message), (None, None))
+
+    def test_what_is_refused(self):
+        for octets, told in (
+            (b"\x09", "at 0: bad status"),
+            (b"\x03\x00" + HELLO + b"\x00", "at 30: not padding"),
+            (bytes(177), "at 176: other length"),
+            (b"\x03\x0c", "at 1: bad relay address"),
+            (b"\x07\x00" + HELLO, "at 2: wrong type"),
+            (b"", "at 0: short"),
+        ):
+            with self.subTest(octets=octets), self.assertRaises(sms.Refused) as caught:
+                sms.Record.read(octets)
+            self.assertEqual(str(caught.exception), told)
 
 
 class Writers(unittest.TestCase):

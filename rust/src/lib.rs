@@ -24,7 +24,10 @@ use std::fmt;
 use std::hash::{BuildHasher, Hasher};
 use std::iter::FusedIterator;
 
+mod gateway;
 pub mod raw;
+
+pub use gateway::{Gateway, GatewayLimits, GatewayMessage, GatewayMessages};
 
 /// Seconds from the beginning of Unix time to that of 2000.
 pub const UNIX_OF_2000: u64 = 946_684_800;
@@ -65,6 +68,9 @@ pub enum Reason {
     BadRelayAddress,
     BadCause,
     BadSeptet,
+    BadStatus,
+    NotPadding,
+    OtherLength,
     /// A number that this crate has no name for.
     Other(u32),
 }
@@ -84,6 +90,9 @@ impl Reason {
             raw::SMS_BAD_RELAY_ADDRESS => Reason::BadRelayAddress,
             raw::SMS_BAD_CAUSE => Reason::BadCause,
             raw::SMS_BAD_SEPTET => Reason::BadSeptet,
+            raw::SMS_BAD_STATUS => Reason::BadStatus,
+            raw::SMS_NOT_PADDING => Reason::NotPadding,
+            raw::SMS_OTHER_LENGTH => Reason::OtherLength,
             other => Reason::Other(other),
         }
     }
@@ -104,6 +113,9 @@ impl fmt::Display for Reason {
             Reason::BadRelayAddress => "bad address",
             Reason::BadCause => "bad cause",
             Reason::BadSeptet => "bad septet",
+            Reason::BadStatus => "bad status",
+            Reason::NotPadding => "not padding",
+            Reason::OtherLength => "other length",
             Reason::Other(number) => return write!(f, "reason {number}"),
         })
     }
@@ -1174,16 +1186,21 @@ impl<'a> Rp<'a> {
             RpBody::Data { address, .. } => address.ok_or(Error::NotThere)?,
             _ => return Err(Error::NotThere),
         };
-        let seen = raw::Rp {
-            address: raw::Span { offset: 0, length: address.len() },
-            has_address: 1,
-            ..raw::Rp::default()
-        };
-        text_of(answer(raw::SMS_ADDRESS_TEXT_MAX, |out, room, needed| {
-            // SAFETY: the octets are as many as counted, and the rest is ours.
-            unsafe { raw::sms_relay_address_text(address.as_ptr(), address.len(), &seen, out, room, needed) }
-        })?)
+        centre_of(address)
     }
+}
+
+/// The text of a centre's address, given with its length octet.
+fn centre_of(address: &[u8]) -> Result<String, Error> {
+    let seen = raw::Rp {
+        address: raw::Span { offset: 0, length: address.len() },
+        has_address: 1,
+        ..raw::Rp::default()
+    };
+    text_of(answer(raw::SMS_ADDRESS_TEXT_MAX, |out, room, needed| {
+        // SAFETY: the octets are as many as counted, and the rest is ours.
+        unsafe { raw::sms_relay_address_text(address.as_ptr(), address.len(), &seen, out, room, needed) }
+    })?)
 }
 
 /// The transaction of a packet, and the reference of its message.
@@ -1252,6 +1269,105 @@ impl Envelope {
         let envelope = self.raw();
         // SAFETY: the envelope is ours.
         answer(raw::SMS_PACKET_MAX, |out, room, needed| unsafe { raw::sms_cp_error(&envelope, cause, out, room, needed) })
+    }
+}
+
+// ---- records of a card
+
+/// How it stands with a record (3GPP TS 51.011, 10.5.3).
+#[derive(Clone, Copy, Debug, PartialEq, Eq, Hash)]
+#[repr(u8)]
+pub enum RecordStatus {
+    Free = raw::SMS_RECORD_FREE,
+    /// It came from the network, and was read.
+    Read = raw::SMS_RECORD_READ,
+    /// It came from the network, and is to be read.
+    Unread = raw::SMS_RECORD_UNREAD,
+    /// The phone sent it, and asked for no status report.
+    Sent = raw::SMS_RECORD_SENT,
+    /// The phone is to send it.
+    ToBeSent = raw::SMS_RECORD_TO_BE_SENT,
+    /// The phone sent it; a status report was asked for, and has not come.
+    SentAwaited = raw::SMS_RECORD_SENT_AWAITED,
+    /// The phone sent it; its status report has come, and does not stand in EF-SMSR.
+    SentReceived = raw::SMS_RECORD_SENT_RECEIVED,
+    /// The phone sent it; its status report has come, and stands in EF-SMSR.
+    SentStored = raw::SMS_RECORD_SENT_STORED,
+}
+
+impl RecordStatus {
+    fn of(octet: u8) -> RecordStatus {
+        match octet {
+            raw::SMS_RECORD_FREE => RecordStatus::Free,
+            raw::SMS_RECORD_READ => RecordStatus::Read,
+            raw::SMS_RECORD_UNREAD => RecordStatus::Unread,
+            raw::SMS_RECORD_SENT => RecordStatus::Sent,
+            raw::SMS_RECORD_TO_BE_SENT => RecordStatus::ToBeSent,
+            raw::SMS_RECORD_SENT_AWAITED => RecordStatus::SentAwaited,
+            raw::SMS_RECORD_SENT_RECEIVED => RecordStatus::SentReceived,
+            _ => RecordStatus::SentStored,
+        }
+    }
+}
+
+/// The unit of a record, and its octets: the first two come from the network, the others are the phone's.
+#[derive(Clone, Copy, Debug, PartialEq, Eq)]
+pub enum RecordUnit<'a> {
+    Deliver(&'a [u8]),
+    StatusReport(&'a [u8]),
+    Submit(&'a [u8]),
+    Command(&'a [u8]),
+}
+
+/// A record of a card's file of short messages, EF-SMS (3GPP TS 51.011, 10.5.3), which lends its parts.
+#[derive(Clone, Copy, Debug, PartialEq, Eq)]
+pub struct Record<'a> {
+    pub status: RecordStatus,
+    /// The centre's address with its length octet, where there is one.
+    pub address: Option<&'a [u8]>,
+    /// None where the record is free.
+    pub unit: Option<RecordUnit<'a>>,
+}
+
+impl<'a> Record<'a> {
+    /// Reads the record that all the octets are: 176, or fewer where FF were cut from its end. Its unit's octets are read
+    /// by the reader of the unit, which takes all of them.
+    pub fn read(octets: &'a [u8]) -> Result<Record<'a>, Refused> {
+        let seen = read(raw::sms_record_read, octets)?;
+        let unit = at(octets, seen.unit);
+        let unit = match seen.kind {
+            raw::SMS_UNIT_DELIVER => RecordUnit::Deliver(unit),
+            raw::SMS_UNIT_STATUS_REPORT => RecordUnit::StatusReport(unit),
+            raw::SMS_UNIT_SUBMIT => RecordUnit::Submit(unit),
+            raw::SMS_UNIT_COMMAND => RecordUnit::Command(unit),
+            _ => return Ok(Record { status: RecordStatus::Free, address: None, unit: None }),
+        };
+        let address = (seen.has_address == 1).then(|| at(octets, seen.address));
+        Ok(Record { status: RecordStatus::of(seen.status), address, unit: Some(unit) })
+    }
+
+    /// The 176 octets of a record: the status, the centre's address (none where it is empty), the octets of a unit, and FF
+    /// to the end. A free one has neither address nor unit (`OutOfRange`). `Refused` where it would be no record.
+    pub fn write(status: RecordStatus, centre: &str, unit: &[u8]) -> Result<Vec<u8>, Error> {
+        let fields = raw::RecordFields { status: status as u8, ..Default::default() };
+        let (mut out, mut needed, mut refused) = (Vec::new(), 0, raw::Refused::default());
+        grow(&mut out, 176)?;
+        // SAFETY: each pointer is to as many octets as are counted with it, and the rest is ours.
+        let status = unsafe {
+            raw::sms_record_write(
+                &fields, centre.as_ptr(), centre.len(), unit.as_ptr(), unit.len(), out.as_mut_ptr(), out.len(),
+                &mut needed, &mut refused,
+            )
+        };
+        match status {
+            raw::SMS_OK => Ok(out),
+            status => Err(Error::of(status, refused)),
+        }
+    }
+
+    /// The text of the centre's address, as that of an [`Rp`]; `NotThere` where there is none.
+    pub fn centre(&self) -> Result<String, Error> {
+        centre_of(self.address.ok_or(Error::NotThere)?)
     }
 }
 
@@ -1350,6 +1466,13 @@ impl<'a> Data<'a> {
         self.text_by(1)
     }
 
+    /// As a joiner is offered them.
+    fn offer(&self, stamp: Option<Stamp>, languages: bool) -> raw::DataOffer {
+        let form = raw::DataForm { languages: u8::from(languages), ..self.form };
+        let has_stamp = u8::from(stamp.is_some());
+        raw::DataOffer { has_stamp, stamp: stamp.map(Stamp::raw).unwrap_or_default(), form }
+    }
+
     fn text_by(&self, languages: u8) -> Result<String, Error> {
         let form = raw::DataForm { languages, ..self.form };
         let text = answer(raw::SMS_TEXT_MAX, |out, room, needed| {
@@ -1381,6 +1504,41 @@ pub fn split(reference: Reference, text: &str) -> Result<(Vec<Vec<u8>>, u8), Err
         users.push(copied(at(&out, *span))?);
     }
     Ok((users, dcs))
+}
+
+/// A segment as user data alone, as SMPP and other gateways take it.
+#[derive(Clone, Debug, PartialEq, Eq)]
+#[non_exhaustive]
+pub struct DataSegment {
+    /// The header, where there is one, and the text (SMPP: short_message).
+    pub octets: Vec<u8>,
+    /// TP-DCS (SMPP: data_coding): 0 septets, 8 UCS-2.
+    pub dcs: u8,
+    /// TP-UDHI, whether a header stands in front (SMPP: bit 6 of esm_class).
+    pub has_header: bool,
+    /// TP-UDL: the septets, those that the header takes among them, or the octets.
+    pub length: u8,
+}
+
+/// The segments of a text as user data alone: septets packed, or, where `single`, one an octet.
+pub fn split_data(reference: Reference, text: &str, single: bool) -> Result<Vec<DataSegment>, Error> {
+    let fields = raw::DataFields { segments: reference.raw(), single: u8::from(single), ..Default::default() };
+    let (mut parts, mut segments) = ([raw::DataSegment::default(); 255], 0);
+    let out = answer(1024, |out, room, needed| {
+        // SAFETY: each pointer is to as many values as are counted with it.
+        unsafe {
+            raw::sms_data_split(
+                &fields, text.as_ptr(), text.len(), out, room, needed, parts.as_mut_ptr(), parts.len(), &mut segments,
+            )
+        }
+    })?;
+    let mut found = Vec::new();
+    reserve(&mut found, segments)?;
+    for part in &parts[..segments] {
+        let octets = copied(at(&out, part.octets))?;
+        found.push(DataSegment { octets, dcs: part.dcs, has_header: part.has_header == 1, length: part.length });
+    }
+    Ok(found)
 }
 
 /// What becomes of a segment that is offered.
@@ -1416,6 +1574,20 @@ pub struct OpenMessage {
 }
 
 impl OpenMessage {
+    fn of(origin: String, seen: raw::OpenMessage) -> OpenMessage {
+        OpenMessage {
+            origin,
+            type_of_number: seen.type_of_number,
+            plan: seen.plan,
+            width: seen.width,
+            reference: seen.reference,
+            maximum: seen.maximum,
+            seconds: seen.seconds,
+            opening: seen.opening,
+            come: seen.come,
+        }
+    }
+
     /// Whether the segment of a sequence, from 1 on, has come.
     pub fn has(&self, sequence: u8) -> bool {
         self.come[usize::from(sequence / 8)] >> (sequence % 8) & 1 == 1
@@ -1457,6 +1629,29 @@ impl Iterator for OpenMessages<'_> {
 
 impl FusedIterator for OpenMessages<'_> {}
 
+/// What becomes of a segment, with the text where it is the last.
+fn answered(
+    status: u32, outcome: u32, refused: raw::Refused, text: impl FnOnce() -> Result<String, Error>,
+) -> Result<Offer, Error> {
+    match (status, outcome) {
+        (raw::SMS_OK, raw::SMS_REPEAT) => Ok(Offer::Repeat),
+        (raw::SMS_OK, raw::SMS_KEPT) => Ok(Offer::Kept),
+        (raw::SMS_OK, _) => Ok(Offer::Finished(text()?)),
+        (status, _) => Err(Error::of(status, refused)),
+    }
+}
+
+/// A seed from the keys of a new [`RandomState`].
+fn drawn() -> u128 {
+    let keys = RandomState::new();
+    let [low, high] = [0u8, 1].map(|which| {
+        let mut hasher = keys.build_hasher();
+        hasher.write_u8(which);
+        u128::from(hasher.finish())
+    });
+    high << 64 | low
+}
+
 /// Joins segments, whichever way they come, to texts, each once.
 ///
 /// It may go from thread to thread (`Send`), takes one call at a time (`&mut`), and is neither shared (`Sync`) nor
@@ -1474,13 +1669,7 @@ impl Joiner {
     /// What it holds is found by a hash with a seed, which is drawn from the keys of a new [`RandomState`]. Who does not
     /// know it cannot pick messages that are slow to find; what a joiner answers does not depend on it.
     pub fn open(open_max: usize, remembered: usize) -> Result<Joiner, Error> {
-        let drawn = RandomState::new();
-        let [low, high] = [0u8, 1].map(|which| {
-            let mut hasher = drawn.build_hasher();
-            hasher.write_u8(which);
-            u128::from(hasher.finish())
-        });
-        Joiner::open_seeded(open_max, remembered, high << 64 | low)
+        Joiner::open_seeded(open_max, remembered, drawn())
     }
 
     /// The same with a seed of one's own.
@@ -1503,12 +1692,26 @@ impl Joiner {
         let status = unsafe {
             raw::sms_joiner_offer(&mut self.0, seconds, octets.as_ptr(), octets.len(), &mut outcome, &mut refused)
         };
-        match (status, outcome) {
-            (raw::SMS_OK, raw::SMS_REPEAT) => Ok(Offer::Repeat),
-            (raw::SMS_OK, raw::SMS_KEPT) => Ok(Offer::Kept),
-            (raw::SMS_OK, _) => Ok(Offer::Finished(self.text()?)),
-            (status, _) => Err(Error::of(status, refused)),
-        }
+        answered(status, outcome, refused, || self.text())
+    }
+
+    /// Offers user data alone from an origin (a number, after a + where it is international, or a name), that came at a
+    /// moment. A segment is known by its place, and a message in one piece by its stamp; without one it is finished each
+    /// time. With `languages` septets are read by the national language tables that the header tells. `BadAddress` where
+    /// the origin is none; else as [`offer`](Joiner::offer).
+    pub fn offer_data(
+        &mut self, seconds: u64, origin: &str, data: &Data, stamp: Option<Stamp>, languages: bool,
+    ) -> Result<Offer, Error> {
+        let (offer, octets) = (data.offer(stamp, languages), data.octets);
+        let (mut outcome, mut refused) = (0, raw::Refused::default());
+        // SAFETY: each pointer is to as many octets as are counted with it, and the rest is ours.
+        let status = unsafe {
+            raw::sms_joiner_offer_data(
+                &mut self.0, seconds, &offer, origin.as_ptr(), origin.len(), octets.as_ptr(), octets.len(),
+                &mut outcome, &mut refused,
+            )
+        };
+        answered(status, outcome, refused, || self.text())
     }
 
     /// The text that finished last; empty before one did.
@@ -1526,6 +1729,22 @@ impl Joiner {
         // SAFETY: the octets are as many as counted, and the rest is ours.
         match unsafe {
             raw::sms_joiner_would_finish(&mut self.0, octets.as_ptr(), octets.len(), &mut finishes, &mut refused)
+        } {
+            raw::SMS_OK => Ok(finishes == 1),
+            status => Err(Error::of(status, refused)),
+        }
+    }
+
+    /// Whether user data alone would finish their message; nothing changes. Errors as `offer_data`.
+    pub fn would_finish_data(&mut self, origin: &str, data: &Data, stamp: Option<Stamp>) -> Result<bool, Error> {
+        let (offer, octets) = (data.offer(stamp, false), data.octets);
+        let (mut finishes, mut refused) = (0, raw::Refused::default());
+        // SAFETY: each pointer is to as many octets as are counted with it, and the rest is ours.
+        match unsafe {
+            raw::sms_joiner_would_finish_data(
+                &mut self.0, &offer, origin.as_ptr(), origin.len(), octets.as_ptr(), octets.len(), &mut finishes,
+                &mut refused,
+            )
         } {
             raw::SMS_OK => Ok(finishes == 1),
             status => Err(Error::of(status, refused)),
@@ -1557,17 +1776,7 @@ impl Joiner {
         let origin = answer(raw::SMS_ADDRESS_TEXT_MAX, |out, room, needed| unsafe {
             raw::sms_joiner_origin(&mut self.0, seen.opening, out, room, needed)
         })?;
-        Ok(OpenMessage {
-            origin: text_of(origin)?,
-            type_of_number: seen.type_of_number,
-            plan: seen.plan,
-            width: seen.width,
-            reference: seen.reference,
-            maximum: seen.maximum,
-            seconds: seen.seconds,
-            opening: seen.opening,
-            come: seen.come,
-        })
+        Ok(OpenMessage::of(text_of(origin)?, seen))
     }
 }
 

@@ -2,7 +2,7 @@
 
 pub const SMS_ABI: u32 = 2;
 /// Of the header that these are the declarations of.
-pub const SMS_VERSION: u32 = 2_001_000;
+pub const SMS_VERSION: u32 = 2_002_000;
 
 pub const SMS_TEXT_MAX: usize = 480;
 pub const SMS_UNIT_MAX: usize = 192;
@@ -34,6 +34,9 @@ pub const SMS_UNKNOWN_TYPE: u32 = 9;
 pub const SMS_BAD_RELAY_ADDRESS: u32 = 10;
 pub const SMS_BAD_CAUSE: u32 = 11;
 pub const SMS_BAD_SEPTET: u32 = 12;
+pub const SMS_BAD_STATUS: u32 = 13;
+pub const SMS_NOT_PADDING: u32 = 14;
+pub const SMS_OTHER_LENGTH: u32 = 15;
 
 pub const SMS_GSM7: u8 = 0;
 pub const SMS_EIGHT_BIT: u8 = 1;
@@ -48,6 +51,21 @@ pub const SMS_VALIDITY_ABSOLUTE: u8 = 3;
 pub const SMS_WHOLE: u8 = 0;
 pub const SMS_COUNTED: u8 = 1;
 pub const SMS_SINGLE: u8 = 2;
+
+pub const SMS_RECORD_FREE: u8 = 0;
+pub const SMS_RECORD_READ: u8 = 1;
+pub const SMS_RECORD_UNREAD: u8 = 3;
+pub const SMS_RECORD_SENT: u8 = 5;
+pub const SMS_RECORD_TO_BE_SENT: u8 = 7;
+pub const SMS_RECORD_SENT_AWAITED: u8 = 13;
+pub const SMS_RECORD_SENT_RECEIVED: u8 = 21;
+pub const SMS_RECORD_SENT_STORED: u8 = 29;
+
+pub const SMS_NO_UNIT: u8 = 0;
+pub const SMS_UNIT_DELIVER: u8 = 1;
+pub const SMS_UNIT_STATUS_REPORT: u8 = 2;
+pub const SMS_UNIT_SUBMIT: u8 = 3;
+pub const SMS_UNIT_COMMAND: u8 = 4;
 
 pub const SMS_REPEAT: u32 = 0;
 pub const SMS_KEPT: u32 = 1;
@@ -83,13 +101,7 @@ macro_rules! structs {
                     lines.push(format!("{}.{} {offset} {size}", $c, stringify!($field)));
                 )*
             )*
-            lines.push(format!("sms_joiner {}", core::mem::size_of::<Joiner>()));
-            let value = Joiner::CLOSED;
-            let start = core::ptr::addr_of!(value) as usize;
-            let open = core::ptr::addr_of!(value.open) as usize - start;
-            let inside = core::ptr::addr_of!(value.inside) as usize - start;
-            lines.push(format!("sms_joiner.open {open} {}", core::mem::size_of_val(&value.open)));
-            lines.push(format!("sms_joiner.inside {inside} {}", core::mem::size_of_val(&value.inside)));
+            handles(&mut lines);
             lines
         }
     };
@@ -283,6 +295,11 @@ structs! {
         single: u8,
         fill: u8,
     }
+    "sms_data_fields" DataFields { segments: Reference, single: u8, spare: [u8; 6], }
+    "sms_data_segment" DataSegment { octets: Span, dcs: u8, has_header: u8, length: u8, }
+    "sms_record" Record { address: Span, unit: Span, status: u8, has_address: u8, kind: u8, }
+    "sms_record_fields" RecordFields { status: u8, spare: [u8; 6], }
+    "sms_data_offer" DataOffer { has_stamp: u8, stamp: Stamp, form: DataForm, }
     "sms_open_message" OpenMessage {
         seconds: u64,
         opening: u64,
@@ -295,6 +312,18 @@ structs! {
         come: [u8; 32],
     }
     "sms_cursor" Cursor { change: u64, opening: u64, }
+    "sms_gateway_limits" GatewayLimits {
+        open_max: usize,
+        remembered: usize,
+        open_for: u64,
+        remember_for: u64,
+        seed_low: u64,
+        seed_high: u64,
+        has_seed: u8,
+        pass_alone: u8,
+        spare: [u8; 6],
+    }
+    "sms_gateway_message" GatewayMessage { message: OpenMessage, has_recipient: u8, }
 }
 
 /// A joiner: closed, or with what the library holds for it.
@@ -307,6 +336,35 @@ pub struct Joiner {
 
 impl Joiner {
     pub const CLOSED: Joiner = Joiner { open: 0, inside: core::ptr::null_mut() };
+}
+
+/// A gateway's joiner: closed, or with what the library holds for it.
+#[repr(C)]
+#[derive(Debug)]
+pub struct Gateway {
+    pub open: u32,
+    pub inside: *mut core::ffi::c_void,
+}
+
+impl Gateway {
+    pub const CLOSED: Gateway = Gateway { open: 0, inside: core::ptr::null_mut() };
+}
+
+/// The lines of the structs that hold a pointer.
+fn handles(lines: &mut Vec<String>) {
+    macro_rules! handle {
+        ($c:literal, $name:ident) => {
+            let value = $name::CLOSED;
+            let start = core::ptr::addr_of!(value) as usize;
+            let open = core::ptr::addr_of!(value.open) as usize - start;
+            let inside = core::ptr::addr_of!(value.inside) as usize - start;
+            lines.push(format!("{} {}", $c, core::mem::size_of::<$name>()));
+            lines.push(format!("{}.open {open} {}", $c, core::mem::size_of_val(&value.open)));
+            lines.push(format!("{}.inside {inside} {}", $c, core::mem::size_of_val(&value.inside)));
+        };
+    }
+    handle!("sms_joiner", Joiner);
+    handle!("sms_gateway", Gateway);
 }
 
 extern "C" {
@@ -397,6 +455,15 @@ extern "C" {
     pub fn sms_data_text(
         octets: *const u8, count: usize, form: *const DataForm, out: *mut u8, room: usize, needed: *mut usize,
     ) -> u32;
+    pub fn sms_data_split(
+        fields: *const DataFields, text: *const u8, text_count: usize, out: *mut u8, room: usize, needed: *mut usize,
+        parts: *mut DataSegment, part_count: usize, segments: *mut usize,
+    ) -> u32;
+    pub fn sms_record_read(octets: *const u8, count: usize, out: *mut Record, refused: *mut Refused) -> u32;
+    pub fn sms_record_write(
+        fields: *const RecordFields, centre: *const u8, centre_count: usize, unit: *const u8, unit_count: usize,
+        out: *mut u8, room: usize, needed: *mut usize, refused: *mut Refused,
+    ) -> u32;
     pub fn sms_joiner_open(joiner: *mut Joiner, open_max: usize, remembered: usize) -> u32;
     pub fn sms_joiner_open_seeded(
         joiner: *mut Joiner, open_max: usize, remembered: usize, seed_low: u64, seed_high: u64,
@@ -405,14 +472,52 @@ extern "C" {
     pub fn sms_joiner_offer(
         joiner: *mut Joiner, seconds: u64, octets: *const u8, count: usize, outcome: *mut u32, refused: *mut Refused,
     ) -> u32;
+    pub fn sms_joiner_offer_data(
+        joiner: *mut Joiner, seconds: u64, offer: *const DataOffer, origin: *const u8, origin_count: usize,
+        octets: *const u8, count: usize, outcome: *mut u32, refused: *mut Refused,
+    ) -> u32;
     pub fn sms_joiner_text(joiner: *mut Joiner, out: *mut u8, room: usize, needed: *mut usize) -> u32;
     pub fn sms_joiner_would_finish(
         joiner: *mut Joiner, octets: *const u8, count: usize, finishes: *mut u8, refused: *mut Refused,
+    ) -> u32;
+    pub fn sms_joiner_would_finish_data(
+        joiner: *mut Joiner, offer: *const DataOffer, origin: *const u8, origin_count: usize, octets: *const u8,
+        count: usize, finishes: *mut u8, refused: *mut Refused,
     ) -> u32;
     pub fn sms_joiner_age(joiner: *mut Joiner, seconds: u64) -> u32;
     pub fn sms_joiner_count(joiner: *mut Joiner, open_count: *mut usize) -> u32;
     pub fn sms_joiner_each(joiner: *mut Joiner, cursor: *mut Cursor, message: *mut OpenMessage) -> u32;
     pub fn sms_joiner_origin(
         joiner: *mut Joiner, opening: u64, out: *mut u8, room: usize, needed: *mut usize,
+    ) -> u32;
+    pub fn sms_gateway_open(gateway: *mut Gateway, limits: *const GatewayLimits) -> u32;
+    pub fn sms_gateway_close(gateway: *mut Gateway);
+    pub fn sms_gateway_offer(
+        gateway: *mut Gateway, seconds: u64, recipient: *const u8, recipient_count: usize, octets: *const u8,
+        count: usize, outcome: *mut u32, refused: *mut Refused,
+    ) -> u32;
+    pub fn sms_gateway_would_finish(
+        gateway: *mut Gateway, recipient: *const u8, recipient_count: usize, octets: *const u8, count: usize,
+        finishes: *mut u8, refused: *mut Refused,
+    ) -> u32;
+    pub fn sms_gateway_offer_data(
+        gateway: *mut Gateway, seconds: u64, offer: *const DataOffer, recipient: *const u8, recipient_count: usize,
+        origin: *const u8, origin_count: usize, octets: *const u8, count: usize, outcome: *mut u32,
+        refused: *mut Refused,
+    ) -> u32;
+    pub fn sms_gateway_would_finish_data(
+        gateway: *mut Gateway, offer: *const DataOffer, recipient: *const u8, recipient_count: usize,
+        origin: *const u8, origin_count: usize, octets: *const u8, count: usize, finishes: *mut u8,
+        refused: *mut Refused,
+    ) -> u32;
+    pub fn sms_gateway_text(gateway: *mut Gateway, out: *mut u8, room: usize, needed: *mut usize) -> u32;
+    pub fn sms_gateway_age(gateway: *mut Gateway, seconds: u64) -> u32;
+    pub fn sms_gateway_count(gateway: *mut Gateway, open_count: *mut usize) -> u32;
+    pub fn sms_gateway_each(gateway: *mut Gateway, cursor: *mut Cursor, message: *mut GatewayMessage) -> u32;
+    pub fn sms_gateway_origin(
+        gateway: *mut Gateway, opening: u64, out: *mut u8, room: usize, needed: *mut usize,
+    ) -> u32;
+    pub fn sms_gateway_recipient(
+        gateway: *mut Gateway, opening: u64, out: *mut u8, room: usize, needed: *mut usize,
     ) -> u32;
 }

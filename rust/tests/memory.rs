@@ -97,6 +97,7 @@ fn packets() {
     assert_eq!(requests(|| envelope.wrap_ack(&[])), 1);
     assert_eq!(requests(|| envelope.wrap_error(22, &[])), 1);
     assert_eq!(requests(|| envelope.cp_ack()), 1);
+    assert_eq!(requests(|| sms::Record::write(sms::RecordStatus::Free, "", &[])), 1);
     assert_eq!(requests(|| envelope.cp_error(97)), 1);
 }
 
@@ -105,6 +106,7 @@ fn texts() {
     let text = "a".repeat(2000);
     let (users, _) = sms::split(Reference::Eight(7), &text).unwrap();
     assert!(requests(|| sms::split(Reference::Eight(7), &text)) >= 2 + users.len());
+    assert!(requests(|| sms::split_data(Reference::Eight(7), &text, true)) >= 2 + users.len());
     let units: Vec<_> = (0..users.len()).map(|index| Deliver::write(&fields(), "1", &text, index).unwrap().0).collect();
     let told = requests(|| {
         let mut joiner = Joiner::open(4, 4)?;

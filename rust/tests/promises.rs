@@ -1,9 +1,9 @@
 //! What the crate promises.
 
 use sms::{
-    Alphabet, Command, Cp, CpBody, Data, Deliver, DeliverFields, Envelope, Error, Joiner, Offer, Place, Reason, Reference,
-    Refused, Report, ReportFields, Rp, RpBody, Stamp, Standing, StatusReport, StatusReportFields, Submit, SubmitFields,
-    Validity,
+    Alphabet, Command, Cp, CpBody, Data, Deliver, DeliverFields, Envelope, Error, Joiner, Offer, Place, Reason, Record,
+    RecordStatus, RecordUnit, Reference, Refused, Report, ReportFields, Rp, RpBody, Stamp, Standing, StatusReport,
+    StatusReportFields, Submit, SubmitFields, Validity,
 };
 use std::sync::Mutex;
 
@@ -154,6 +154,84 @@ fn splits_a_text() {
     assert_eq!((users.iter().map(Vec::len).collect::<Vec<_>>(), dcs), (vec![141, 15], 0));
     assert_eq!(users[0][..9], [0xA0, 0x05, 0x00, 0x03, 0x07, 0x02, 0x01, 0xC2, 0xE1]);
     assert_eq!(sms::split(Reference::Eight(7), &"a".repeat(39_016)), Err(Error::TooLong));
+}
+
+#[test]
+fn splits_a_text_as_data_alone() {
+    let text = "a".repeat(161);
+    let parts = sms::split_data(Reference::Eight(7), &text, true).unwrap();
+    let told: Vec<_> = parts.iter().map(|it| (it.octets.len(), it.dcs, it.has_header, it.length)).collect();
+    assert_eq!(told, [(159, 0, true, 160), (14, 0, true, 15)]);
+    assert_eq!(parts[1].octets, *b"\x05\x00\x03\x07\x02\x02aaaaaaaa");
+    let (users, _) = sms::split(Reference::Eight(7), &text).unwrap();
+    let packed = sms::split_data(Reference::Eight(7), &text, false).unwrap();
+    assert!(packed.iter().zip(&users).all(|(it, user)| it.octets == user[1..] && it.length == user[0]));
+    let parts = sms::split_data(Reference::Eight(7), "\u{41F}", true).unwrap();
+    assert_eq!((&parts[0].octets[..], parts[0].dcs, parts[0].has_header, parts[0].length), (&[4, 0x1F][..], 8, false, 2));
+    assert_eq!(sms::split_data(Reference::Eight(7), &"a".repeat(39_016), true), Err(Error::TooLong));
+}
+
+#[test]
+fn joins_data_alone() {
+    let text = "a".repeat(161);
+    let parts = sms::split_data(Reference::Eight(7), &text, true).unwrap();
+    let read = |index: usize| Data::read(&parts[index].octets, parts[index].dcs, true, Standing::Single).unwrap().0;
+    let mut joiner = Joiner::open(2, 2).unwrap();
+    assert_eq!(joiner.would_finish_data("+1001", &read(1), None), Ok(false));
+    assert_eq!(joiner.offer_data(0, "+1001", &read(1), None, false), Ok(Offer::Kept));
+    assert_eq!(joiner.offer_data(0, "+1001", &read(1), None, false), Ok(Offer::Repeat));
+    assert_eq!(joiner.offer_data(0, "1001", &read(0), None, false), Ok(Offer::Kept));
+    assert_eq!(joiner.offer_data(0, "1002", &read(0), None, false), Err(Error::TooManyOpen));
+    assert_eq!(joiner.would_finish_data("+1001", &read(0), None), Ok(true));
+    assert_eq!(joiner.offer_data(0, "+1001", &read(0), None, false), Ok(Offer::Finished(text)));
+    let (bare, _) = Data::read(b"hi", 0, false, Standing::Single).unwrap();
+    let hi = || Ok(Offer::Finished("hi".into()));
+    assert_eq!([0; 2].map(|at| joiner.offer_data(at, "a name", &bare, None, false)), [hi(), hi()]);
+    let stamp = Some(Stamp([0x99, 0x30, 0x92, 0x51, 0x61, 0x95, 0x80]));
+    assert_eq!([0; 2].map(|at| joiner.offer_data(at, "a name", &bare, stamp, false)), [hi(), Ok(Offer::Repeat)]);
+    let (turkish, _) = Data::read(&[3, 0x24, 1, 1, 0x1B, 0x69], 0, true, Standing::Single).unwrap();
+    assert_eq!(joiner.offer_data(0, "1", &turkish, None, true), Ok(Offer::Finished("\u{131}".into())));
+    assert_eq!(joiner.offer_data(0, "1", &turkish, None, false), Ok(Offer::Finished("i".into())));
+    let (eight, _) = Data::read(b"hi", 4, false, Standing::Whole).unwrap();
+    for (origin, data, error) in [("+x", &bare, Error::BadAddress), ("1", &eight, Error::NotThere)] {
+        assert_eq!(joiner.offer_data(0, origin, data, None, false), Err(error));
+        assert_eq!(joiner.would_finish_data(origin, data, None), Err(error));
+    }
+    assert_eq!(joiner.text().as_deref(), Ok("i"));
+}
+
+#[test]
+fn reads_records_of_a_card() {
+    let centre = [0x07, 0x91, 0x72, 0x83, 0x01, 0x00, 0x10, 0xF5];
+    let octets = [&[3][..], &centre, &HELLO, &[0xFF; 139]].concat();
+    let record = Record::read(&octets).unwrap();
+    assert_eq!((record.status, record.address), (RecordStatus::Unread, Some(&centre[..])));
+    assert_eq!(record.centre().as_deref(), Ok("+27381000015"));
+    assert_eq!(record.unit, Some(RecordUnit::Deliver(&HELLO)));
+    let (unit, _) = Submit::write(&SubmitFields::new(Reference::Eight(0), Validity::Absent), "1", "hi", 0).unwrap();
+    let octets = [&[0x0D, 0][..], &unit, &[0xFF]].concat();
+    let record = Record::read(&octets).unwrap();
+    assert_eq!((record.status, record.unit), (RecordStatus::SentAwaited, Some(RecordUnit::Submit(&unit))));
+    assert_eq!(record.centre(), Err(Error::NotThere));
+    let free = Record { status: RecordStatus::Free, address: None, unit: None };
+    assert_eq!(Record::read(&[0, 1, 2]), Ok(free));
+    let octets = Record::write(RecordStatus::Unread, "+27381000015", &HELLO).unwrap();
+    assert_eq!((octets.len(), &octets[..9], &octets[9..37]), (176, &[&[3][..], &centre].concat()[..], &HELLO[..]));
+    assert_eq!(Record::read(&octets).unwrap().unit, Some(RecordUnit::Deliver(&HELLO)));
+    assert_eq!(Record::write(RecordStatus::Free, "", &HELLO), Err(Error::OutOfRange));
+    assert_eq!(Record::write(RecordStatus::Read, "x", &HELLO), Err(Error::BadAddress));
+    let wrong = Refused { place: 2, reason: Reason::WrongType };
+    assert_eq!(Record::write(RecordStatus::ToBeSent, "", &HELLO), Err(Error::Refused(wrong)));
+    let long = [0; 177];
+    for (octets, place, reason) in [
+        (&[9][..], 0, Reason::BadStatus),
+        (&long, 176, Reason::OtherLength),
+        (&[3, 12], 1, Reason::BadRelayAddress),
+    ] {
+        assert_eq!(Record::read(octets), Err(Refused { place, reason }));
+    }
+    let octets = [&[1, 0][..], &HELLO, &[0]].concat();
+    assert_eq!(Record::read(&octets), Err(Refused { place: 30, reason: Reason::NotPadding }));
 }
 
 #[test]

@@ -21,7 +21,8 @@ use Rattle.sms_tpdu.specs.declared.fault.UnitFault.TheVariants as unit
 use Rattle.sms_tpdu.specs.declared.user_data.data_fault.DataFault.{DataFault}
 use Rattle.sms_tpdu.specs.declared.user_data.data_fault.DataFault.TheVariants as single
 use Rattle.sms_tpdu.specs.declared.user_data.view.alone.Length.{Length}
-use Rattle.sms_c.specs.DataAlone.{alphabet_in, are_single, has_septets, headed, is_text, length_of, length_told, HasText, IsTextBy, OfDataText, ReadsBy, ReadsData, ReadsPacked, ReadsSingles, RefusesBy, ShowsBy}
+use Rattle.sms_c.specs.DataAlone.{alphabet_in, are_single, has_septets, headed, is_text, length_of, length_told, HasText, IsTextBy, OfDataText, ReadsBy, ReadsData, ReadsPacked, ReadsSingles, RefusesBy, RefusesPacked, ShowsBy}
+use Rattle.sms_c.specs.Status.{unit_refused}
 use Rattle.sms_c.specs.Writing.{is_set}
 use Rattle.sms_c.specs.declared.reading.data.DataForm.{DataForm}
 use Rattle.sms_c.specs.declared.reading.data.DataSeen.{DataSeen}
@@ -121,6 +122,10 @@ packed_found form octets h a t value used same in_alphabet told is sees =
     let f = found (count_for (headed form) (alphabet_in form) (length_of form octets)) (data_of (headed form) (alphabet_in form)) unit.Short octets value used (packed_sees form octets h a t (Ok (value, used)) same in_alphabet told sees) in
     let there : ReadsPacked form octets value used = record { count = f.0; counted = f.1; read = f.2 } in
     subst (λ (b : Bool). ReadsBy b form octets value used) (sym is) there
+
+pub packed_refused : (form : DataForm) (octets : List ℕ) (h : Bool) (a : Alphabet) (t : Length) (fault : Fault UnitFault) (told : Refused) → h ≡ headed form → a ≡ alphabet_in form → t ≡ length_told form → SeesAlone h a (length_by t a (length octets)) octets (Err fault) → told ≡ unit_refused fault → RefusesPacked form octets told
+packed_refused form octets h a t fault told same in_alphabet is_told sees is =
+    record { fault = fault; is = refused (count_for (headed form) (alphabet_in form) (length_of form octets)) (data_of (headed form) (alphabet_in form)) unit.Short octets fault (packed_sees form octets h a t (Err fault) same in_alphabet is_told sees); told = is }
 
 pub packed_text : (form : DataForm) (octets : List ℕ) (l : Bool) (a : Alphabet) (value : UserData) (used : ℕ) (text : List ℕ) → l ≡ is_set form.languages → a ≡ alphabet_in form → ReadsData form octets value used → IsTextBy l a value text → HasText form octets text
 packed_text form octets l a value used text told in_alphabet read has =

@@ -1,5 +1,5 @@
 -- Open sets as C sees them: which is found, and which of their sequences have come.
-use Rattle.std.proofs.Common.{◌≡◌, ◌≢◌, ℕ, ◌+◌, ◌*◌, ◌/◌, ◌%◌, ◌^◌, ◌<◌, ◌≤◌, Bool, true, false, cond, ◌||◌, eqb, leb, ltb, List, [], ◌∷◌, length, get_or, None, Some, replicate, bit_or, w8, refl, sym, ap, subst, ◌∙◌, Global, arith}
+use Rattle.std.proofs.Common.{◌≡◌, ◌≢◌, ℕ, ◌+◌, ◌*◌, ◌/◌, ◌%◌, ◌^◌, ◌<◌, ◌≤◌, Bool, true, false, cond, ◌||◌, eqb, leb, ltb, List, [], ◌∷◌, length, get_or, Option, None, Some, replicate, bit_or, w8, refl, sym, ap, subst, ◌∙◌, Global, arith}
 use Rattle.std.proofs.Math.ListN.{set}
 use Rattle.std.proofs.lemmas.Bool.{eqb-true, eqb-false, eq-eqb, ne_eqb, leb-true, leb-false, ltb-true, ltb-false}
 use Rattle.std.proofs.lemmas.Grind.{get_or-set_at}
@@ -11,9 +11,9 @@ use Rattle.std.specs.Str.{chars}
 use Rattle.std.specs.String.{string_bytes}
 use Rattle.sms_field.specs.Address.Text.{address_text}
 use Rattle.sms_field.specs.Address.Value.{AddressValue}
-use Rattle.sms_join.specs.Key.{maximum_of, origin_of}
+use Rattle.sms_join.specs.Key.{maximum_of, origin_of, recipient_of}
 use Rattle.sms_join.specs.OpenSets.{SetValue, IsOpen, AreOpen, Rises, is_in}
-use Rattle.sms_join.specs.OpenSets.Told.{AreAbove, RiseInTurn, first_from}
+use Rattle.sms_join.specs.OpenSets.Told.{AreAbove, AreFor, RiseInTurn, first_from}
 use Rattle.sms_join.specs.declared.key.Key.TheVariants.{Single}
 use Rattle.sms_c.specs.OpenMessages.{opened_as, ShowsSequences, OfOrigin}
 use Rattle.sms_c.specs.Parts.{bit}
@@ -27,6 +27,14 @@ first_is_open n (t ∷ ts) s are is = go (leb n t.turn) is (first_is_open n ts s
   where
     go : (b : Bool) → cond b (Some t) (first_from n ts) ≡ Some s → (first_from n ts ≡ Some s → IsOpen s) → IsOpen s
     go true same on = let one : t ≡ s = cc in subst IsOpen one are.0
+    go false same on = on same
+
+pub first_is_for : (r : Option AddressValue) (n : ℕ) (ss : List SetValue) (s : SetValue) → AreFor r ss → first_from n ss ≡ Some s → recipient_of s.key ≡ r
+first_is_for r n [] s are is = absurd cc
+first_is_for r n (t ∷ ts) s are is = go (leb n t.turn) is (first_is_for r n ts s are.1)
+  where
+    go : (b : Bool) → cond b (Some t) (first_from n ts) ≡ Some s → (first_from n ts ≡ Some s → recipient_of s.key ≡ r) → recipient_of s.key ≡ r
+    go true same on = let one : t ≡ s = cc in subst (λ (x : SetValue). recipient_of x.key ≡ r) one are.0
     go false same on = on same
 
 pub not_single : (s : SetValue) (origin : AddressValue) (stamp : List ℕ) → IsOpen s → s.key ≡ Single origin stamp → ⊥

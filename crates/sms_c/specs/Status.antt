@@ -11,6 +11,8 @@ use Rattle.sms_tpdu.specs.declared.user_data.data_fault.DataFault.{DataFault}
 use Rattle.sms_tpdu.specs.declared.user_data.data_fault.DataFault.TheVariants as single
 use Rattle.sms_relay.specs.declared.fault.RelayFault.{RelayFault}
 use Rattle.sms_relay.specs.declared.fault.RelayFault.TheVariants as relay
+use Rattle.sms_card.specs.declared.fault.RecordFault.{RecordFault}
+use Rattle.sms_card.specs.declared.fault.RecordFault.TheVariants as card
 use Rattle.sms_c.specs.declared.status.Failure.{Failure}
 use Rattle.sms_c.specs.declared.status.Failure.TheVariants as why
 use Rattle.sms_c.specs.declared.status.Refused.{Refused}
@@ -71,6 +73,14 @@ data_reason single.DataTooLong = 5
 data_reason single.HeaderTooLong = 6
 data_reason single.BadSeptet = 12
 
+abbrev pub record_reason : RecordFault → ℕ
+record_reason card.Short = 1
+record_reason card.BadStatus = 13
+record_reason (card.Centre _) = 10
+record_reason (card.Unit why) = unit_reason why
+record_reason card.NotPadding = 14
+record_reason card.OtherLength = 15
+
 -- what C is told of a fault
 abbrev pub data_refused : Fault DataFault → Refused
 data_refused fault = record { place = fault.place; reason = data_reason fault.why }
@@ -80,3 +90,6 @@ unit_refused fault = record { place = fault.place; reason = unit_reason fault.wh
 
 abbrev pub relay_refused : Fault RelayFault → Refused
 relay_refused fault = record { place = fault.place; reason = relay_reason fault.why }
+
+abbrev pub record_refused : Fault RecordFault → Refused
+record_refused fault = record { place = fault.place; reason = record_reason fault.why }

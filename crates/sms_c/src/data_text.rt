@@ -31,7 +31,7 @@ const DEFAULT: Tables = Tables {
 };
 
 /// Whether an alphabet is a text's.
-fn is_text(alphabet: Alphabet) -> bool
+pub fn is_text(alphabet: Alphabet) -> bool
     ensures { result ≡ seen.is_text alphabet }
 {
     matches!(alphabet, Alphabet::Gsm7 | Alphabet::Ucs2)
@@ -96,7 +96,7 @@ fn packed_text(alloc: Global, octets: &[u8], form: DataForm) -> Result<String, F
 
 /// The national language tables that the header tells; those of the default alphabet where there is
 /// none.
-fn tables_of(view: &SinglesView) -> Tables
+pub fn tables_of(view: &SinglesView) -> Tables
     ensures { IsToldIn view.now.header result }
 {
     match view.header() {

@@ -9,6 +9,10 @@ ghost use Rattle.sms_c.specs.Changes.{next_number};
 ghost use Rattle.sms_c.specs.HandedOut.{ArePut, LackRoom};
 ghost use Rattle.sms_c.specs.Kept.{count};
 
+mod data_finishing;
+pub mod data_offering;
+mod data_units;
+pub mod data_view;
 mod finishing;
 pub mod inside;
 pub mod kept;
@@ -16,7 +20,8 @@ mod offering;
 mod opening;
 mod origin;
 pub mod parts;
-mod reading;
+pub mod reading;
+mod taking;
 pub mod telling;
 
 use crate::handed_out::hand_out;

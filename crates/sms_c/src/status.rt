@@ -4,6 +4,7 @@ ghost use Rattle.std.specs.Prelude.{◌≡◌, Err};
 ghost use Rattle.sms_c.specs.Status as numbers;
 ghost use Rattle.sms_c.specs.declared.status.Failure.TheVariants.{Memory, NoRoom};
 
+use sms_card::RecordFault;
 use sms_field::{Fault, TextFault};
 use sms_join::SplitFault;
 use sms_relay::RelayFault;
@@ -192,6 +193,31 @@ pub fn relay_refused(out: &mut Refused, fault: Fault<RelayFault>) -> u32
 {
     let Fault { place, why } = fault;
     let reason = relay_reason(why);
+    *out = Refused { place, reason };
+    Failure::Refused.status()
+}
+
+/// The number of what is wrong with a record of a card.
+pub fn record_reason(fault: RecordFault) -> u32
+    ensures { result ≡ numbers.record_reason fault }
+{
+    match fault {
+        RecordFault::Short => 1,
+        RecordFault::BadStatus => 13,
+        RecordFault::Centre(_) => 10,
+        RecordFault::Unit(why) => unit_reason(why),
+        RecordFault::NotPadding => 14,
+        RecordFault::OtherLength => 15,
+    }
+}
+
+/// Tells where a record is refused, and why.
+pub fn record_refused(out: &mut Refused, fault: Fault<RecordFault>) -> u32
+    ensures status { result ≡ 1 }
+    ensures told { out.new ≡ numbers.record_refused fault }
+{
+    let Fault { place, why } = fault;
+    let reason = record_reason(why);
     *out = Refused { place, reason };
     Failure::Refused.status()
 }

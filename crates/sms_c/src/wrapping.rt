@@ -15,7 +15,7 @@ ghost use Rattle.sms_c.specs.declared.status.Failure.TheVariants.{Memory, NoRoom
 
 mod answer;
 mod connection;
-mod data;
+pub mod data;
 
 use crate::handed_out::hand_out;
 use crate::status::Failure;

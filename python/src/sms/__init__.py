@@ -36,11 +36,14 @@ __all__ = [
     "Command",
     "Cp",
     "Data",
+    "DataSegment",
     "Date",
     "Deliver",
     "DeliverReport",
     "Error",
     "Format",
+    "Gateway",
+    "GatewayMessage",
     "Joiner",
     "NoMemory",
     "NotThere",
@@ -50,6 +53,8 @@ __all__ = [
     "OutOfRange",
     "Place",
     "Reason",
+    "Record",
+    "RecordStatus",
     "Refused",
     "Report",
     "Rp",
@@ -61,8 +66,10 @@ __all__ = [
     "SubmitReport",
     "TooLong",
     "TooManyOpen",
+    "UnitKind",
     "Validity",
     "split",
+    "split_data",
     "version",
     "wrap",
     "wrap_answer",
@@ -99,6 +106,9 @@ class Reason(enum.IntEnum):
     BAD_RELAY_ADDRESS = 10
     BAD_CAUSE = 11
     BAD_SEPTET = 12
+    BAD_STATUS = 13
+    NOT_PADDING = 14
+    OTHER_LENGTH = 15
 
     @classmethod
     def _missing_(cls, value: object) -> Optional[Reason]:
@@ -201,7 +211,9 @@ def _read(call: Callable[..., int], octets: bytes, seen: Any) -> Any:
     return seen
 
 
-def _answer(room: int, call: Callable[..., int], *given: Any, after: Tuple[Any, ...] = ()) -> bytes:
+def _answer(
+    room: int, call: Callable[..., int], *given: Any, after: Tuple[Any, ...] = (), refused: Optional[raw.Refused] = None
+) -> bytes:
     """What a call of the form (.., out, room, needed, ..) writes, with room made where it wants more."""
     while True:
         out, needed = (c_uint8 * max(room, 1))(), c_size_t()
@@ -209,7 +221,7 @@ def _answer(room: int, call: Callable[..., int], *given: Any, after: Tuple[Any, 
         if status == Status.NO_ROOM and needed.value > room:
             room = needed.value
             continue
-        _raise(status)
+        _raise(status, refused)
         return bytes(memoryview(out)[: needed.value])
 
 
@@ -927,6 +939,14 @@ class Command:
 # ---- packets
 
 
+def _centre(address: Optional[bytes]) -> Optional[str]:
+    """The text of a centre's address, given with its length octet."""
+    if address is None:
+        return None
+    seen = raw.Rp(address=raw.Span(0, len(address)), has_address=1)
+    return _answer(ADDRESS_TEXT_MAX, raw.lib.sms_relay_address_text, address, len(address), byref(seen)).decode()
+
+
 @dataclass(frozen=True)
 class Cp:
     """A message of the connection (3GPP TS 24.011, 7.2): `kind` is "data", "ack" or "error"."""
@@ -969,10 +989,7 @@ class Rp:
     def centre(self) -> Optional[str]:
         """The text of the centre's address: its digits, after a + where the type of number is 1; None where there is no
         address. BadAddress where it has no text."""
-        if self.address is None:
-            return None
-        seen = raw.Rp(address=raw.Span(0, len(self.address)), has_address=1)
-        return _answer(ADDRESS_TEXT_MAX, raw.lib.sms_relay_address_text, self.address, len(self.address), byref(seen)).decode()
+        return _centre(self.address)
 
     @classmethod
     def read(cls, octets: Octets) -> Rp:
@@ -1019,6 +1036,82 @@ def wrap_acknowledgement(*, flag: bool, value: int, cause: Optional[int] = None)
     if cause is None:
         return _answer(PACKET_MAX, raw.lib.sms_cp_ack, byref(envelope))
     return _answer(PACKET_MAX, raw.lib.sms_cp_error, byref(envelope), _octet(cause))
+
+
+# ---- records of a card
+
+
+class RecordStatus(enum.IntEnum):
+    """How it stands with a record: free; from the network, read or unread; of the phone, to be sent or sent, and then what
+    became of its status report: none was asked for, it is awaited, or it came, and stands in EF-SMSR or does not."""
+
+    FREE = 0
+    READ = 1
+    UNREAD = 3
+    SENT = 5
+    TO_BE_SENT = 7
+    SENT_AWAITED = 13
+    SENT_RECEIVED = 21
+    SENT_STORED = 29
+
+
+class UnitKind(enum.IntEnum):
+    """Which unit a record has: the first two from the network, the other two of the phone."""
+
+    NONE = 0
+    DELIVER = 1
+    STATUS_REPORT = 2
+    SUBMIT = 3
+    COMMAND = 4
+
+
+@dataclass(frozen=True)
+class Record:
+    """A record of a card's file of short messages, EF-SMS (3GPP TS 51.011, 10.5.3): `address` is the centre's, with its
+    length octet, `unit` the octets of the unit; both are None where there is none."""
+
+    status: RecordStatus
+    kind: UnitKind
+    address: Optional[bytes]
+    unit: Optional[bytes]
+
+    @classmethod
+    def read(cls, octets: Octets) -> Record:
+        """Reads the record that all the octets are: 176, or fewer where FF were cut from its end; raises `Refused`."""
+        octets = _octets(octets)
+        seen = _read(raw.lib.sms_record_read, octets, raw.Record())
+        kind = UnitKind(seen.kind)
+        return cls(
+            status=RecordStatus(seen.status),
+            kind=kind,
+            address=_at(octets, seen.address) if seen.has_address else None,
+            unit=_at(octets, seen.unit) if kind else None,
+        )
+
+    @staticmethod
+    def write(status: RecordStatus, unit: Octets = b"", *, centre: str = "") -> bytes:
+        """The 176 octets of a record: the status, the centre's address (none where it is empty), the octets of a unit, and
+        FF to the end. A free one has neither address nor unit. Raises `Refused` where it would be no record."""
+        octets, address, refused = _octets(unit), _utf8(centre), raw.Refused()
+        fields = raw.RecordFields(_octet(status))
+        given = byref(fields), address, len(address), octets, len(octets)
+        return _answer(176, raw.lib.sms_record_write, *given, after=(byref(refused),), refused=refused)
+
+    @property
+    def centre(self) -> Optional[str]:
+        """The text of the centre's address, as that of an `Rp`."""
+        return _centre(self.address)
+
+    @property
+    def message(self) -> Union[Deliver, StatusReport, Submit, Command, None]:
+        """The unit; None where the record is free."""
+        if self.unit is None:
+            return None
+        if self.kind == UnitKind.DELIVER:
+            return Deliver.read(self.unit)
+        if self.kind == UnitKind.STATUS_REPORT:
+            return StatusReport.read(self.unit)
+        return Submit.read(self.unit) if self.kind == UnitKind.SUBMIT else Command.read(self.unit)
 
 
 # ---- texts cut, and segments joined
@@ -1088,6 +1181,11 @@ class Data:
         """The text, septets by the national language tables that the header tells."""
         return self._text(True)
 
+    def _offer(self, stamp: Optional[Stamp], languages: bool) -> raw.DataOffer:
+        """As a joiner is offered them."""
+        form = _form(self.dcs, self.header is not None, self.standing, self._length, languages)
+        return raw.DataOffer(stamp is not None, stamp._raw() if stamp else raw.Stamp(), form)
+
     def _text(self, languages: bool) -> str:
         form = _form(self.dcs, self.header is not None, self.standing, self._length, languages)
         return _answer(TEXT_MAX, raw.lib.sms_data_text, self.octets, len(self.octets), byref(form)).decode()
@@ -1112,6 +1210,33 @@ def split(text: str, *, reference: int = 0, width: int = 8) -> List[Segment]:
     given = byref(told), octets, len(octets)
     out = _answer(1024, raw.lib.sms_split, *given, after=(spans, 255, byref(count), byref(dcs)))
     return [Segment(_at(out, span), dcs.value) for span in spans[: count.value]]
+
+
+@dataclass(frozen=True)
+class DataSegment:
+    """A segment as user data alone, as SMPP and other gateways take it.
+
+    Attributes:
+        octets: the header, where there is one, and the text (SMPP: short_message).
+        dcs: TP-DCS (SMPP: data_coding): 0 septets, 8 UCS-2.
+        has_header: TP-UDHI, whether a header stands in front (SMPP: bit 6 of esm_class).
+        length: TP-UDL: the septets, those that the header takes among them, or the octets.
+    """
+
+    octets: bytes
+    dcs: int
+    has_header: bool
+    length: int
+
+
+def split_data(text: str, *, reference: int = 0, width: int = 8, single: bool = False) -> List[DataSegment]:
+    """The text cut into segments as `split` cuts it, each as user data alone: septets packed, or, where `single`, one an
+    octet."""
+    octets, fields = _utf8(text), raw.DataFields(_reference(reference, width), bool(single))
+    parts, count = (raw.DataSegment * 255)(), c_size_t()
+    given = byref(fields), octets, len(octets)
+    out = _answer(1024, raw.lib.sms_data_split, *given, after=(parts, 255, byref(count)))
+    return [DataSegment(_at(out, it.octets), it.dcs, bool(it.has_header), it.length) for it in parts[: count.value]]
 
 
 class Offer(enum.IntEnum):
@@ -1185,6 +1310,37 @@ class Joiner:
         with self._lock:
             return self._offer(octets, seconds)
 
+    def offer_data(
+        self,
+        origin: str,
+        data: Data,
+        at: Optional[datetime] = None,
+        *,
+        stamp: Optional[Stamp] = None,
+        languages: bool = False,
+    ) -> Optional[str]:
+        """Offers user data alone from an origin (a number, after a + where it is international, or a name), that came at a
+        moment: else as `offer`. A segment is known by its place, and a message in one piece by its stamp; without one it
+        is finished each time. With `languages` septets are read by the national language tables that the header tells.
+        BadAddress where the origin is none."""
+        offer, address, seconds = data._offer(stamp, languages), _utf8(origin), _seconds_or_now(at)
+        with self._lock:
+            return self._text() if self._offer_data(offer, address, data.octets, seconds) == Offer.FINISHED else None
+
+    def outcome_data(
+        self,
+        origin: str,
+        data: Data,
+        at: Optional[datetime] = None,
+        *,
+        stamp: Optional[Stamp] = None,
+        languages: bool = False,
+    ) -> Offer:
+        """As `offer_data`, but what becomes of the segment; `text` is then the text that finished last, in any thread."""
+        offer, address, seconds = data._offer(stamp, languages), _utf8(origin), _seconds_or_now(at)
+        with self._lock:
+            return self._offer_data(offer, address, data.octets, seconds)
+
     @property
     def text(self) -> str:
         """The text that finished last; empty before one did."""
@@ -1197,6 +1353,14 @@ class Joiner:
         with self._lock:
             given = byref(self._handle), octets, len(octets)
             _raise(raw.lib.sms_joiner_would_finish(*given, byref(answer), byref(refused)), refused)
+        return answer.value == 1
+
+    def would_finish_data(self, origin: str, data: Data, *, stamp: Optional[Stamp] = None) -> bool:
+        """Whether user data alone would finish their message; nothing changes. It raises what `offer_data` does."""
+        offer, address, answer, refused = data._offer(stamp, False), _utf8(origin), c_uint8(), raw.Refused()
+        with self._lock:
+            given = byref(self._handle), byref(offer), address, len(address), data.octets, len(data.octets)
+            _raise(raw.lib.sms_joiner_would_finish_data(*given, byref(answer), byref(refused)), refused)
         return answer.value == 1
 
     def age(self, at: Optional[datetime] = None) -> None:
@@ -1233,6 +1397,13 @@ class Joiner:
         outcome, refused = c_uint32(), raw.Refused()
         given = byref(self._handle), seconds, octets, len(octets)
         _raise(raw.lib.sms_joiner_offer(*given, byref(outcome), byref(refused)), refused)
+        return Offer(outcome.value)
+
+    def _offer_data(self, offer: raw.DataOffer, origin: bytes, octets: bytes, seconds: int) -> Offer:
+        """What becomes of user data alone; the lock is held."""
+        outcome, refused = c_uint32(), raw.Refused()
+        given = byref(self._handle), seconds, byref(offer), origin, len(origin), octets, len(octets)
+        _raise(raw.lib.sms_joiner_offer_data(*given, byref(outcome), byref(refused)), refused)
         return Offer(outcome.value)
 
     def _next_open(self, cursor: raw.Cursor) -> Optional[OpenMessage]:
@@ -1273,3 +1444,6 @@ class Joiner:
     def __del__(self) -> None:
         if hasattr(self, "_handle"):
             self.close()
+
+
+from .gateway import Gateway, GatewayMessage  # noqa: E402

@@ -11,7 +11,7 @@ from typing import Any, Dict, List
 
 # The version of the header that these are the declarations of, the number of its interface, and the sizes that are
 # always enough.
-VERSION = 2_001_000
+VERSION = 2_002_000
 ABI = VERSION // 1_000_000
 TEXT_MAX, UNIT_MAX, PACKET_MAX, ADDRESS_TEXT_MAX = 480, 192, 258, 33
 # Of packets: CP-DATA and RP-DATA, CP-ACK and RP-ACK, CP-ERROR and RP-ERROR.
@@ -296,6 +296,32 @@ class Data(Structure):
     ]
 
 
+class DataFields(Structure):
+    _fields_ = [("segments", Reference), ("single", c_uint8), ("spare", c_uint8 * 6)]
+
+
+class DataSegment(Structure):
+    _fields_ = [("octets", Span), ("dcs", c_uint8), ("has_header", c_uint8), ("length", c_uint8)]
+
+
+class Record(Structure):
+    _fields_ = [
+        ("address", Span),
+        ("unit", Span),
+        ("status", c_uint8),
+        ("has_address", c_uint8),
+        ("kind", c_uint8),
+    ]
+
+
+class RecordFields(Structure):
+    _fields_ = [("status", c_uint8), ("spare", c_uint8 * 6)]
+
+
+class DataOffer(Structure):
+    _fields_ = [("has_stamp", c_uint8), ("stamp", Stamp), ("form", DataForm)]
+
+
 class Joiner(Structure):
     _fields_ = [("open", c_uint32), ("inside", c_void_p)]
 
@@ -316,6 +342,28 @@ class OpenMessage(Structure):
 
 class Cursor(Structure):
     _fields_ = [("change", c_uint64), ("opening", c_uint64)]
+
+
+class Gateway(Structure):
+    _fields_ = [("open", c_uint32), ("inside", c_void_p)]
+
+
+class GatewayLimits(Structure):
+    _fields_ = [
+        ("open_max", c_size_t),
+        ("remembered", c_size_t),
+        ("open_for", c_uint64),
+        ("remember_for", c_uint64),
+        ("seed_low", c_uint64),
+        ("seed_high", c_uint64),
+        ("has_seed", c_uint8),
+        ("pass_alone", c_uint8),
+        ("spare", c_uint8 * 6),
+    ]
+
+
+class GatewayMessage(Structure):
+    _fields_ = [("message", OpenMessage), ("has_recipient", c_uint8)]
 
 
 # The structs by their names in sms.h.
@@ -343,9 +391,17 @@ STRUCTS: Dict[str, Any] = {
     "sms_status_report_fields": StatusReportFields,
     "sms_data_form": DataForm,
     "sms_data": Data,
+    "sms_data_fields": DataFields,
+    "sms_data_segment": DataSegment,
+    "sms_record": Record,
+    "sms_record_fields": RecordFields,
     "sms_joiner": Joiner,
+    "sms_data_offer": DataOffer,
     "sms_open_message": OpenMessage,
     "sms_cursor": Cursor,
+    "sms_gateway": Gateway,
+    "sms_gateway_limits": GatewayLimits,
+    "sms_gateway_message": GatewayMessage,
 }
 
 _IN: List[Any] = [c_char_p, c_size_t]
@@ -353,6 +409,7 @@ _OUT: List[Any] = [POINTER(c_uint8), c_size_t, POINTER(c_size_t)]
 _REFUSED = POINTER(Refused)
 _ENVELOPE = POINTER(Envelope)
 _JOINER = POINTER(Joiner)
+_GATEWAY = POINTER(Gateway)
 
 # The parameters of each call, as sms.h declares them.
 CALLS: Dict[str, List[Any]] = {
@@ -401,21 +458,47 @@ CALLS: Dict[str, List[Any]] = {
     "sms_deliver_data_write": [POINTER(DeliverFields), c_uint8, c_uint8, *_IN, *_IN, *_OUT],
     "sms_data_read": [*_IN, POINTER(DataForm), POINTER(Data), _REFUSED],
     "sms_data_text": [*_IN, POINTER(DataForm), *_OUT],
+    "sms_data_split": [POINTER(DataFields), *_IN, *_OUT, POINTER(DataSegment), c_size_t, POINTER(c_size_t)],
+    "sms_record_read": [*_IN, POINTER(Record), _REFUSED],
+    "sms_record_write": [POINTER(RecordFields), *_IN, *_IN, *_OUT, _REFUSED],
     "sms_joiner_open": [_JOINER, c_size_t, c_size_t],
     "sms_joiner_open_seeded": [_JOINER, c_size_t, c_size_t, c_uint64, c_uint64],
     "sms_joiner_close": [_JOINER],
     "sms_joiner_offer": [_JOINER, c_uint64, *_IN, POINTER(c_uint32), _REFUSED],
+    "sms_joiner_offer_data": [_JOINER, c_uint64, POINTER(DataOffer), *_IN, *_IN, POINTER(c_uint32), _REFUSED],
     "sms_joiner_text": [_JOINER, *_OUT],
     "sms_joiner_would_finish": [_JOINER, *_IN, POINTER(c_uint8), _REFUSED],
+    "sms_joiner_would_finish_data": [_JOINER, POINTER(DataOffer), *_IN, *_IN, POINTER(c_uint8), _REFUSED],
     "sms_joiner_age": [_JOINER, c_uint64],
     "sms_joiner_count": [_JOINER, POINTER(c_size_t)],
     "sms_joiner_each": [_JOINER, POINTER(Cursor), POINTER(OpenMessage)],
     "sms_joiner_origin": [_JOINER, c_uint64, *_OUT],
+    "sms_gateway_open": [_GATEWAY, POINTER(GatewayLimits)],
+    "sms_gateway_close": [_GATEWAY],
+    "sms_gateway_offer": [_GATEWAY, c_uint64, *_IN, *_IN, POINTER(c_uint32), _REFUSED],
+    "sms_gateway_would_finish": [_GATEWAY, *_IN, *_IN, POINTER(c_uint8), _REFUSED],
+    "sms_gateway_offer_data": [
+        _GATEWAY,
+        c_uint64,
+        POINTER(DataOffer),
+        *_IN,
+        *_IN,
+        *_IN,
+        POINTER(c_uint32),
+        _REFUSED,
+    ],
+    "sms_gateway_would_finish_data": [_GATEWAY, POINTER(DataOffer), *_IN, *_IN, *_IN, POINTER(c_uint8), _REFUSED],
+    "sms_gateway_text": [_GATEWAY, *_OUT],
+    "sms_gateway_age": [_GATEWAY, c_uint64],
+    "sms_gateway_count": [_GATEWAY, POINTER(c_size_t)],
+    "sms_gateway_each": [_GATEWAY, POINTER(Cursor), POINTER(GatewayMessage)],
+    "sms_gateway_origin": [_GATEWAY, c_uint64, *_OUT],
+    "sms_gateway_recipient": [_GATEWAY, c_uint64, *_OUT],
 }
 
 
 # What a call answers, where it is no status.
-ANSWERS: Dict[str, Any] = {"sms_joiner_close": None, "sms_version": c_uint32}
+ANSWERS: Dict[str, Any] = {"sms_joiner_close": None, "sms_gateway_close": None, "sms_version": c_uint32}
 
 
 def _path() -> str:

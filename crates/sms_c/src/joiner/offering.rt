@@ -5,14 +5,12 @@ ghost use Rattle.sms_c.specs.Offers.{HasNoText, HasText, IsUnread, LacksText, Op
 ghost use Rattle.sms_c.specs.Changes.{next_number};
 ghost use Rattle.sms_c.specs.Kept.{count};
 ghost use Rattle.sms_c.specs.Status as numbers;
-ghost use Rattle.sms_c.specs.declared.status.Failure.TheVariants.{Memory};
 
 use crate::joiner::Handle;
 use crate::joiner::inside::Inside;
-use crate::joiner::kept::Kept;
 use crate::joiner::reading::{told, units_of};
-use crate::status::{Failure, OK, Refused, status_of};
-use sms_join::{Offer, OfferFault};
+use crate::joiner::taking::take;
+use crate::status::{Failure, OK, Refused};
 use std::alloc::Global;
 use std::mem;
 
@@ -43,19 +41,7 @@ fn offered(
     let units = units_of(alloc, &view)?;
     let origin = view.origin.to_value(alloc)?;
     let place = view.user.concat();
-    match inside
-        .joiner
-        .offer(seconds, &origin, view.stamp, place, units)
-    {
-        Ok(Offer::Repeat) => Ok(0),
-        Ok(Offer::Kept) => Ok(1),
-        Ok(Offer::Finished(text)) => {
-            inside.text = text;
-            Ok(2)
-        }
-        Err(OfferFault::TooManyOpen) => Err(Failure::TooManyOpen),
-        Err(OfferFault::Memory) => Err(Failure::Memory),
-    }
+    take(inside, seconds, &origin, view.stamp, place, units)
 }
 
 /// Offers a joiner an SMS-DELIVER that came at a moment.

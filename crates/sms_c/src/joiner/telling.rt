@@ -3,7 +3,7 @@
 ghost use Rattle.std.specs.Prelude.{◌≡◌, None, IfSome, IfOk};
 ghost use Rattle.sms_tpdu.specs.declared.user_data.concat.Width.{Width as TheWidth};
 ghost use Rattle.sms_join.specs.Joiner.Sets.{open_sets};
-ghost use Rattle.sms_join.specs.Key.{maximum_of};
+ghost use Rattle.sms_join.specs.Key.{maximum_of, recipient_of};
 ghost use Rattle.sms_join.specs.OpenSets.{IsOpen};
 ghost use Rattle.sms_c.specs.Changes.{next_number};
 ghost use Rattle.sms_c.specs.OpenMessages.{step_status, ShowsFirst, ShowsSequences, ShowsSet};
@@ -53,7 +53,7 @@ pub struct Cursor {
 }
 
 /// How many bits a reference has.
-fn bits_of(width: Width) -> u16
+pub fn bits_of(width: Width) -> u16
     ensures { result ≡ seen.bits_of width }
 {
     match width {
@@ -63,7 +63,7 @@ fn bits_of(width: Width) -> u16
 }
 
 /// Which sequences of an open set have come, each by its bit.
-fn come_of(set: &OpenSet, maximum: u8) -> [u8; COME]
+pub fn come_of(set: &OpenSet, maximum: u8) -> [u8; COME]
     requires is_open { IsOpen set.now }
     requires maximum { maximum ≡ maximum_of set.now.key }
     ensures { ShowsSequences set.now.sequences result }
@@ -80,7 +80,8 @@ fn come_of(set: &OpenSet, maximum: u8) -> [u8; COME]
 
 /// What C sees of an open set.
 fn shown(set: &OpenSet) -> OpenMessage
-    requires { IsOpen set.now }
+    requires is_open { IsOpen set.now }
+    requires recipient { recipient_of set.now.key ≡ None }
     ensures { ShowsSet set.now result }
 {
     let Key::Segmented {

@@ -2,6 +2,7 @@
 
 ghost use Rattle.std.specs.Prelude.{◌≡◌, ◌≤◌, length, Some, None, Err, IfOk, IfErr, MatchResult, OnErr};
 ghost use Rattle.sms_c.specs.HandedOut.{ArePut, LackRoom};
+ghost use Rattle.sms_c.specs.RecordWriting.{centre_told};
 ghost use Rattle.sms_c.specs.SeenRelay as seen;
 ghost use Rattle.sms_c.specs.Status.{IsNotRoom, status_in};
 ghost use Rattle.sms_c.specs.Wrapping.{IsCentre, OfData};
@@ -16,10 +17,11 @@ use sms_relay::{RpBody, RpMessage, Side};
 use std::alloc::Global;
 
 /// The address of a service centre that a text spells; none of no text.
-fn centre_of(alloc: Global, text: &[u8]) -> Result<Option<RpAddress>, Failure>
+pub fn centre_of(alloc: Global, text: &[u8]) -> Result<Option<RpAddress>, Failure>
     ensures fault { MatchResult result (λ _. centre_fault text.now ≡ None)
         (λ why. centre_fault text.now ≡ Some why) }
     ensures centre { IfOk result (IsCentre text.now) }
+    ensures told { IfOk result (λ centre. centre ≡ centre_told text.now) }
 {
     if text.is_empty() {
         return Ok(None);

@@ -49,7 +49,7 @@ use Rattle.sms_card.specs.declared.fault.RecordFault.TheVariants.{Short, Unit as
 
 -- ---- the units do not look at what follows them
 
-deliver_self : IsSelfContained deliver
+pub deliver_self : IsSelfContained deliver
 unfolding deliver
 deliver_self =
     chain_self_contained _ _ (octet_by_self units.Short deliver_flags) (λ flags.
@@ -60,7 +60,7 @@ deliver_self =
     chain_self_contained _ _ (user_data_self flags.header (alphabet_at dcs)) (λ user.
     λ v octets rest other r. r))))))
 
-submit_self : IsSelfContained submit
+pub submit_self : IsSelfContained submit
 unfolding submit
 submit_self =
     chain_self_contained _ _ (octet_by_self units.Short submit_flags) (λ flags.
@@ -72,7 +72,7 @@ submit_self =
     chain_self_contained _ _ (user_data_self flags.header (alphabet_at dcs)) (λ user.
     λ v octets rest other r. r)))))))
 
-command_self : IsSelfContained command
+pub command_self : IsSelfContained command
 unfolding command
 command_self =
     chain_self_contained _ _ (octet_by_self units.Short command_flags) (λ flags.
