@@ -6,8 +6,7 @@ use Rattle.std.specs.List.{filter}
 use Rattle.circular_buffer.specs.Buffer.{last_item}
 use Rattle.sms_join.specs.declared.age.Age.{Age}
 use Rattle.sms_join.specs.declared.key.Key.{Key}
-use Rattle.sms_join.specs.Gateway.Finishings.{not_before, is_forgotten, finishings_at, keys_at}
-use Rattle.sms_join.specs.Inside.Gateways.{Fall, FallFrom}
+use Rattle.sms_join.specs.Gateway.Finishings.{not_before, Fall, FallFrom, is_forgotten, finishings_at, keys_at}
 
 -- ---- falling moments
 

@@ -20,8 +20,8 @@ use Rattle.sms_join.specs.Joiner.Same.{IsSame}
 use Rattle.sms_join.specs.OpenSets.{SetValue, IsOpen, AreOpen, all_pieces}
 use Rattle.sms_join.specs.OpenSets.Offered.{without_set, TellsOffer}
 use Rattle.sms_join.specs.Gateway.Value.{LimitsValue}
-use Rattle.sms_join.specs.Gateway.Finishings.{not_before, finishings_after, finishings_at, keys_at}
-use Rattle.sms_join.specs.Inside.Gateways.{AreTimed, Fall, gateway_of, noted_by}
+use Rattle.sms_join.specs.Gateway.Finishings.{not_before, Fall, finishings_after, finishings_at, keys_at}
+use Rattle.sms_join.specs.Inside.Gateways.{AreTimed, gateway_of, noted_by}
 use Rattle.sms_join.specs.Inside.Ages.{young_of}
 use Rattle.sms_join.specs.Inside.Keeping.{IsKept, in_order}
 use Rattle.sms_join.specs.Inside.Turns.{arranged}

@@ -2,8 +2,8 @@
 
 ghost use Rattle.std.specs.Prelude.{◌≡◌, ◌∷◌, take, Some};
 ghost use Rattle.circular_buffer.specs.Buffer.{buffer};
-ghost use Rattle.sms_join.specs.Gateway.Finishings.{finishings_at, not_before};
-ghost use Rattle.sms_join.specs.Inside.Gateways.{Fall, noted_by};
+ghost use Rattle.sms_join.specs.Gateway.Finishings.{finishings_at, not_before, Fall};
+ghost use Rattle.sms_join.specs.Inside.Gateways.{noted_by};
 
 use crate::age::Age;
 use crate::offer::{Offer, OfferFault};

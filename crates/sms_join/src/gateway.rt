@@ -12,7 +12,7 @@ ghost use Rattle.sms_join.specs.Joiner.Same.{IsSame};
 ghost use Rattle.sms_join.specs.Joiner.Offering.{is_first, SaysAnswer};
 ghost use Rattle.sms_join.specs.Gateway.Answers.{is_passed, gateway_aged, gateway_answer, gateway_finishings, gateway_offered, gateway_would_finish};
 ghost use Rattle.sms_join.specs.Gateway.Distinct.{AreDistinct};
-ghost use Rattle.sms_join.specs.Gateway.Finishings.{finishings_at};
+ghost use Rattle.sms_join.specs.Gateway.Finishings.{finishings_at, Fall};
 ghost use Rattle.sms_join.specs.Gateway.Remembered.{IsRememberedAt};
 ghost use Rattle.sms_join.specs.OpenSets.{all_pieces, AreOpen};
 ghost use Rattle.sms_join.specs.OpenSets.Offered.{TellsOffer};
@@ -230,6 +230,7 @@ impl Gateway {
         ensures count { result ≡ length self.now.holds.finished }
         ensures few { result ≤ self.now.limits.remembered }
         ensures moments { length self.now.finishings ≡ length self.now.holds.finished }
+        ensures fall { Fall self.now.finishings }
         ensures distinct { AreDistinct self.now.holds }
     {
         self.keeper.have_kept();

@@ -1,14 +1,24 @@
 -- When the keys that are remembered finished, and which are forgotten as time goes. All lists have
 -- the newest entry first.
-use Rattle.std.specs.Prelude.{ℕ, ◌+◌, Bool, false, not, if◌then◌else◌, nat_le, max, List, [], ◌∷◌, take, Option, None, Some}
+use Rattle.std.specs.Prelude.{ℕ, ◌+◌, ◌≤◌, Bool, false, not, if◌then◌else◌, nat_le, max, List, [], ◌∷◌, take, Option, None, Some}
 use Rattle.std.specs.List.{filter}
 use Rattle.sms_join.specs.declared.key.Key.{Key}
 use Rattle.sms_join.specs.Joiner.{Answer, Repeat, Kept, Finished, TooManyOpen}
 
--- A finishing counts at the moment of the one before it, where an earlier one is told.
+-- A finishing counts at the moment of the one before it, where an earlier moment is told.
 abbrev pub not_before : List ℕ → ℕ → ℕ
 not_before [] now = now
 not_before (m ∷ ms) now = max m now
+
+-- None is later than this moment, and none than the one ahead of it.
+abbrev pub FallFrom : ℕ → List ℕ → Type 0
+FallFrom n [] = Unit {0}
+FallFrom n (m ∷ ms) = (m ≤ n) × FallFrom m ms
+
+-- No moment is later than the one ahead of it.
+abbrev pub Fall : List ℕ → Type 0
+Fall [] = Unit {0}
+Fall (m ∷ ms) = FallFrom m ms
 
 -- An answer that finishes a set is noted, in place of the oldest, where as many keys are remembered
 -- as can be.

@@ -6,7 +6,7 @@ use Rattle.sms_join.specs.declared.gateway_limits.Alone.{Alone}
 use Rattle.sms_join.specs.declared.offer.Offer.{Offer}
 use Rattle.sms_join.specs.declared.offer.Offer.TheVariants as offers
 use Rattle.sms_join.specs.declared.offer.OfferFault.{OfferFault}
-use Rattle.sms_join.specs.Gateway.Finishings.{not_before}
+use Rattle.sms_join.specs.Gateway.Finishings.{not_before, Fall}
 use Rattle.sms_join.specs.Joiner.Value.{JoinerValue}
 use Rattle.sms_join.specs.Gateway.Value.{GatewayValue}
 
@@ -31,15 +31,6 @@ noted_by room ms now (Ok offers.Repeat) = ms
 noted_by room ms now (Ok offers.Kept) = ms
 noted_by room ms now (Ok (offers.Finished text)) = take room (not_before ms now ∷ ms)
 noted_by room ms now (Err fault) = ms
-
--- None is later than this moment, and none than the one ahead of it.
-abbrev pub FallFrom : ℕ → List ℕ → Type 0
-FallFrom n [] = Unit {0}
-FallFrom n (m ∷ ms) = (m ≤ n) × FallFrom m ms
-
-abbrev pub Fall : List ℕ → Type 0
-Fall [] = Unit {0}
-Fall (m ∷ ms) = FallFrom m ms
 
 -- Each key that is remembered has its moment, and none of the limits is 0.
 pub record AreTimed (v : JoinerValue) (finishings : List ℕ) (capacity : ℕ) : Type 0 where
