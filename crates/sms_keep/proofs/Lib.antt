@@ -1,1 +1,12 @@
 mod Spelled
+mod SameKeys
+mod Apart
+mod PlacesBack
+mod Lengths
+mod KeysBack
+mod SetsBack
+mod OneSaved
+mod ReadBack
+mod Distinct
+mod Savable
+mod AddressBack

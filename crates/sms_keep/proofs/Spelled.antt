@@ -1,7 +1,7 @@
 -- What is written place by place, set by set, key by key.
-use Rattle.std.proofs.Common.{◌≡◌, ℕ, zero, suc, ◌+◌, ◌-◌, ◌<◌, ◌≤◌, List, [], ◌∷◌, ◌++◌, drop, length, map, slice_get, Some, option_map, refl, sym, ap, ◌∙◌, length-append, arith}
+use Rattle.std.proofs.Common.{◌≡◌, ℕ, zero, suc, ◌+◌, ◌-◌, ◌<◌, ◌≤◌, List, [], ◌∷◌, ◌++◌, drop, length, map, slice_get, Some, option_map, refl, sym, ap, subst, ◌∙◌, length-append, arith}
 use Rattle.std.proofs.lemmas.List.{append_assoc, flat_map_more}
-use Rattle.std.specs.List.{flat_map}
+use Rattle.std.specs.List.{flat_map, AllByRecursion}
 use Rattle.sms_join.specs.declared.key.Key.{Key}
 use Rattle.sms_join.specs.OpenSets.{SetValue, units_for}
 use Rattle.sms_join.specs.Gateway.Value.{GatewayValue}
@@ -53,6 +53,13 @@ drop_all [] zero l = refl
 drop_all [] (suc i) l = refl
 drop_all (x ∷ xs) zero l = absurd (omega (arith, l))
 drop_all (x ∷ xs) (suc i) l = drop_all xs i (omega (arith, l))
+
+-- what holds of those from this index on
+pub key_sound : {X : Type 0} (P : X → Type 0) (xs : List X) (i j k : ℕ) (x : X) → slice_get xs i ≡ Some x → suc i ≡ j → i ≡ k
+    → P x → AllByRecursion P (drop j xs) → AllByRecursion P (drop k xs)
+key_sound P xs i j k x e f g one others =
+    subst (λ n. AllByRecursion P (drop n xs)) g
+    (subst (AllByRecursion P) (sym (drop_next xs i x e)) (one, subst (λ n. AllByRecursion P (drop n xs)) (sym f) others))
 
 -- those from this index on are written
 abbrev pub written_from : List Key → List ℕ → ℕ → List ℕ

@@ -1,1 +1,4 @@
 pub mod Saved
+pub mod Held
+pub mod Restored
+pub mod Inside

@@ -1,10 +1,16 @@
-//! Keys as they are saved.
+//! Keys as they are saved, and back.
 
-ghost use Rattle.std.specs.Prelude.{◌≡◌, option_copied, option_map, IfOk};
+ghost use Rattle.std.specs.Prelude.{◌≡◌, None, Some, option_copied, option_map, IfOk, IfSome, OnOk};
 ghost use Rattle.sms_field.specs.Address.{address_octets};
+ghost use Rattle.sms_field.specs.Address.Value.{HasSpelling};
+ghost use Rattle.sms_join.specs.Key.{origin_of, recipient_of};
+ghost use Rattle.sms_saved.specs.Fits.{AddressFits, MessageFits};
 ghost use Rattle.sms_keep.specs.Saved.{saved_key, saved_message, saved_width};
+ghost use Rattle.sms_keep.specs.Held.{HasAddresses, IsAddress};
+ghost use Rattle.sms_keep.specs.Inside.Saving.{KeyIsSound};
+ghost use Rattle.sms_keep.specs.Inside.Restoring.{IsAddressOf, IsKeyOf};
 
-use sms_field::{Address, address_laws};
+use sms_field::{Address, Stamp, address_laws};
 use sms_join::Key;
 use sms_saved::{AddressOctets, Key as SavedKey, Message, Width as SavedWidth};
 use sms_tpdu::Width;
@@ -12,7 +18,9 @@ use std::alloc::{AllocError, Global};
 
 /// The octets of an address.
 fn octets_of(alloc: Global, address: &Address) -> Result<AddressOctets, AllocError>
-    ensures { IfOk result (λ octets. octets ≡ address_octets address.now) }
+    ensures value { IfOk result (λ octets. octets ≡ address_octets address.now) }
+    ensures spelled { HasSpelling address.now }
+    ensures few { AddressFits (address_octets address.now) }
 {
     address_laws();
     let _kind = address.type_of_number;
@@ -24,12 +32,15 @@ fn octets_of(alloc: Global, address: &Address) -> Result<AddressOctets, AllocErr
 }
 
 /// The octets of a recipient, or none.
-fn recipient_of(
+fn recipient_octets(
     alloc: Global,
     recipient: Option<&Address>,
 ) -> Result<Option<AddressOctets>, AllocError>
-    ensures { IfOk result (λ octets. octets
+    ensures value { IfOk result (λ octets. octets
         ≡ option_map address_octets (option_copied recipient.entry)) }
+    ensures spelled { OnOk result (IfSome (option_copied recipient.entry) HasSpelling) }
+    ensures few { OnOk result (IfSome (option_map address_octets
+        (option_copied recipient.entry)) AddressFits) }
 {
     match recipient {
         None => Ok(None),
@@ -49,7 +60,8 @@ fn width_of(width: Width) -> SavedWidth
 
 /// Which message of a sender it is.
 fn message_of(key: &Key) -> Message
-    ensures { result ≡ saved_message key.now }
+    ensures value { result ≡ saved_message key.now }
+    ensures fits { MessageFits (saved_message key.now) }
 {
     match key {
         Key::Single { stamp, .. } | Key::SingleTo { stamp, .. } => Message::Single {
@@ -76,13 +88,107 @@ fn message_of(key: &Key) -> Message
 
 /// The key.
 pub(crate) fn key_of(alloc: Global, key: &Key) -> Result<SavedKey, AllocError>
-    ensures { IfOk result (λ saved. saved ≡ saved_key key.now) }
+    ensures value { IfOk result (λ saved. saved ≡ saved_key key.now) }
+    ensures sound { OnOk result (KeyIsSound key.now) }
 {
     let origin = octets_of(alloc, key.origin())?;
-    let recipient = recipient_of(alloc, key.recipient())?;
+    let recipient = recipient_octets(alloc, key.recipient())?;
     Ok(SavedKey {
         origin,
         recipient,
         message: message_of(key),
     })
+}
+
+/// The address that is written as these octets.
+fn address_from(alloc: Global, octets: &AddressOctets) -> Result<Option<Address>, AllocError>
+    ensures { IfOk result (IsAddressOf octets.now) }
+{
+    address_laws();
+    let Ok((address, _)) = Address::read(alloc, octets.as_slice()) else {
+        return Ok(None);
+    };
+    let _kind = address.type_of_number;
+    let written = address.write(alloc)?;
+    if written.as_slice() == octets.as_slice() {
+        Ok(Some(address))
+    } else {
+        Ok(None)
+    }
+}
+
+/// Which element it was.
+fn width_from(width: SavedWidth) -> Width
+    ensures { saved_width result ≡ width }
+{
+    match width {
+        SavedWidth::Eight => Width::Eight,
+        SavedWidth::Sixteen => Width::Sixteen,
+    }
+}
+
+/// The key without a recipient.
+fn key_alone(origin: Address, message: Message) -> Key
+    ensures origin { origin_of result ≡ origin }
+    ensures recipient { recipient_of result ≡ None }
+    ensures message { saved_message result ≡ message }
+{
+    match message {
+        Message::Single { stamp } => Key::Single {
+            origin,
+            stamp: Stamp::new(stamp),
+        },
+        Message::Segmented {
+            width,
+            reference,
+            maximum,
+        } => Key::Segmented {
+            origin,
+            width: width_from(width),
+            reference,
+            maximum,
+        },
+    }
+}
+
+/// The key for a recipient.
+fn key_to(recipient: Address, origin: Address, message: Message) -> Key
+    ensures origin { origin_of result ≡ origin }
+    ensures recipient { recipient_of result ≡ Some recipient }
+    ensures message { saved_message result ≡ message }
+{
+    match message {
+        Message::Single { stamp } => Key::SingleTo {
+            recipient,
+            origin,
+            stamp: Stamp::new(stamp),
+        },
+        Message::Segmented {
+            width,
+            reference,
+            maximum,
+        } => Key::SegmentedTo {
+            recipient,
+            origin,
+            width: width_from(width),
+            reference,
+            maximum,
+        },
+    }
+}
+
+/// The key that is saved so; none where the octets of its addresses are none.
+pub(crate) fn key_from(alloc: Global, key: &SavedKey) -> Result<Option<Key>, AllocError>
+    ensures { IfOk result (IsKeyOf key.now) }
+{
+    let Some(origin) = address_from(alloc, &key.origin)? else {
+        return Ok(None);
+    };
+    let Some(octets) = &key.recipient else {
+        return Ok(Some(key_alone(origin, key.message)));
+    };
+    let Some(recipient) = address_from(alloc, octets)? else {
+        return Ok(None);
+    };
+    Ok(Some(key_to(recipient, origin, key.message)))
 }

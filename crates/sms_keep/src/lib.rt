@@ -1,8 +1,16 @@
-//! What a gateway's joiner holds, written as octets for the next start of its program.
+//! What a gateway's joiner holds, written as octets for the next start of its program, and read
+//! back.
 #![tactic(auto)]
 
+mod fault;
 mod keys;
+mod keys_back;
+mod places;
+mod restoring;
 mod saving;
 mod sets;
+mod sets_back;
 
+pub use fault::{Fault, HeldFault, ReadFault};
+pub use restoring::{Restored, read};
 pub use saving::save;

@@ -1,0 +1,8 @@
+use Rattle.std.proofs.Common.{◌≡◌, ◌+◌, length, take}
+use Rattle.std.specs.List.{flat_map}
+use Rattle.sms_saved.specs.Spelling.{set}
+use Rattle.sms_saved.specs.Value.{view_set}
+use Rattle.sms_keep.proofs.places.sets_len.Given as goal
+
+abbrev pub invariant-loop-own : goal.invariant-loop-own
+invariant-loop-own l = l.total ≡ l.more + length (flat_map (λ y. set (view_set y)) (take l.own-index l.sets))
