@@ -1,7 +1,8 @@
 //! The command line of the short message tools.
 #![tactic(auto)]
 
-use sms_command::{command_with_seed, finish};
+use sms_command::{Folders, command_with_folders, finish};
+use sms_file::{FileFault, HostFolder};
 use std::env;
 use std::io::{self, BufReader, BufWriter, ErrorKind, Write};
 use std::process::ExitCode;
@@ -22,6 +23,20 @@ fn seed_drawn(rt: &HostRuntime) -> Option<u128> {
     }
 }
 
+/// The folders of the system.
+#[derive(Drop)]
+struct HostFolders {
+    rt: HostRuntime,
+}
+
+impl Folders for HostFolders {
+    type Folder = HostFolder<HostRuntime>;
+
+    fn open(self, path: &str) -> Result<HostFolder<HostRuntime>, FileFault> {
+        HostFolder::open(self.rt, path)
+    }
+}
+
 fn run(rt: &HostRuntime) -> io::Result<u8> {
     let alloc = rt.alloc();
     let words: Vec<String> = env::args(rt)?.collect(alloc)?;
@@ -31,7 +46,16 @@ fn run(rt: &HostRuntime) -> io::Result<u8> {
     let mut notes = io::writer(&errors);
     let seed = seed_drawn(rt);
     let words = words.as_slice();
-    let status = command_with_seed(alloc, words, seed, &mut input, &mut output, &mut notes);
+    let folders = HostFolders { rt: rt.clone()? };
+    let status = command_with_folders(
+        alloc,
+        words,
+        seed,
+        folders,
+        &mut input,
+        &mut output,
+        &mut notes,
+    );
     Ok(finish(status, &mut output, &mut io::writer(rt)))
 }
 

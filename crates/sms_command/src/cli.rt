@@ -5,6 +5,7 @@ ghost use Rattle.std.specs.Prelude.{◌≤◌};
 use crate::chart::put_chart;
 use crate::encode::put_units;
 use crate::fault::Fault;
+use crate::folders::{Folders, NoFolders};
 use crate::join::join;
 use crate::lines::Form;
 use crate::play::play_script;
@@ -19,22 +20,24 @@ use std::convert::AsStr;
 use std::io::{Read, Write, sink};
 
 /// Does what a request asks, and writes what comes of it. A script, and lines, are read from the
-/// input. What is lost where units are joined goes to the notes; keys are hashed with a seed there.
-fn answer<R: Read, W: Write, N: Write>(
+/// input. What is lost where units are joined goes to the notes; keys are hashed with a seed there,
+/// and what is open stands in a folder.
+fn answer<F: Folders, R: Read, W: Write, N: Write>(
     alloc: Global,
-    request: Request<'_>,
+    request: &Request<'_>,
     seed: Option<u128>,
+    folders: F,
     input: &mut R,
     output: &mut W,
     notes: &mut N,
 ) -> Result<Done, Fault> {
     match request {
-        Request::Show(shown) => return show(alloc, shown, input, output),
+        Request::Show(shown) => return show(alloc, *shown, input, output),
         Request::Chart => put_chart(alloc, input, output)?,
-        Request::Join(joined) => return join(alloc, joined, seed, input, output, notes),
-        Request::Encode(draft) => put_units(alloc, &draft, output)?,
-        Request::Split(long) => put_segments(alloc, &long, output)?,
-        Request::Play(played) => return play(alloc, played, input, output),
+        Request::Join(joined) => return join(alloc, joined, seed, folders, input, output, notes),
+        Request::Encode(draft) => put_units(alloc, draft, output)?,
+        Request::Split(long) => put_segments(alloc, long, output)?,
+        Request::Play(played) => return play(alloc, *played, input, output),
     }
     Ok(Done::Whole)
 }
@@ -57,7 +60,7 @@ fn refuse<W: Write>(alloc: Global, is_explained: bool, fault: &Fault, output: &m
     ensures { result ≤ 3 }
 {
     let mut page = Page::new(alloc);
-    match fault.put(alloc, is_explained, &mut page) {
+    match fault.put(alloc, None, is_explained, &mut page) {
         Ok(()) => {
             let _ = page.write_to(output);
         }
@@ -81,9 +84,33 @@ fn explain<W: Write>(alloc: Global, error: &clap::Error, output: &mut W) -> u8
     if error.exit_code() == 0 { 0 } else { 2 }
 }
 
+/// Does what the words ask, as `command_with_seed` does. Where units are joined, and what is open is
+/// to be kept in a file, its folder is opened and the file replaced there.
+pub fn command_with_folders<S: AsStr, F: Folders, R: Read, W: Write, N: Write>(
+    alloc: Global,
+    words: &[S],
+    seed: Option<u128>,
+    folders: F,
+    input: &mut R,
+    output: &mut W,
+    notes: &mut N,
+) -> u8
+    ensures { result ≤ 3 }
+{
+    match parse_words(alloc, words) {
+        Ok(request) => match answer(alloc, &request, seed, folders, input, output, notes) {
+            Ok(Done::Whole) => 0,
+            Ok(Done::Faulty) => 1,
+            Err(fault) => refuse(alloc, request.is_explained(), &fault, output),
+        },
+        Err(error) => explain(alloc, &error, output),
+    }
+}
+
 /// Does what the words ask, as `command_with_notes` does. Where a seed is given and units are joined,
 /// their keys are hashed with it, so that a sender who does not know it cannot pick keys that are
-/// slow to find. Nothing that is written depends on it.
+/// slow to find. Nothing that is written depends on it. No folder is opened: `join --state` is
+/// answered so.
 pub fn command_with_seed<S: AsStr, R: Read, W: Write, N: Write>(
     alloc: Global,
     words: &[S],
@@ -94,14 +121,7 @@ pub fn command_with_seed<S: AsStr, R: Read, W: Write, N: Write>(
 ) -> u8
     ensures { result ≤ 3 }
 {
-    match parse_words(alloc, words) {
-        Ok(request) => match answer(alloc, request, seed, input, output, notes) {
-            Ok(Done::Whole) => 0,
-            Ok(Done::Faulty) => 1,
-            Err(fault) => refuse(alloc, request.is_explained(), &fault, output),
-        },
-        Err(error) => explain(alloc, &error, output),
-    }
+    command_with_folders(alloc, words, seed, NoFolders, input, output, notes)
 }
 
 /// Does what the words ask, the program's name first, and answers the exit status: 0 done, 1

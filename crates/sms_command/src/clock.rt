@@ -4,7 +4,7 @@ ghost use Rattle.std.specs.Prelude.{◌≡◌};
 ghost use Rattle.sms_command.specs.Inside.Clock.{new_clock, first_clock, ticked};
 ghost use Rattle.sms_command.specs.Inside.Clock.{after_first, after_sure, after_row, after_far};
 ghost use Rattle.sms_command.specs.Inside.Clock.{is_far_after, goes_on, is_refuted, standing_after};
-ghost use Rattle.sms_command.specs.Inside.Clock.{opened_at};
+ghost use Rattle.sms_command.specs.Inside.Clock.{is_unset, opened_at, recalled};
 
 use sms_field::Address;
 
@@ -182,6 +182,16 @@ fn after_far(time: u64, row: &Row, origin: &Address, moment: u64) -> Clock
     after_sure(least, origin, moment)
 }
 
+/// Whether no unit had a stamp yet.
+fn is_unset(standing: &Standing) -> bool
+    ensures { result ≡ is_unset standing.now }
+{
+    match standing {
+        Standing::Unset => true,
+        _ => false,
+    }
+}
+
 impl Clock {
     /// The clock before the first unit.
     pub fn new() -> Clock
@@ -208,6 +218,17 @@ impl Clock {
             Standing::Ahead(row) => after_row(self.time, row, origin, moment),
         };
         *self = next;
+    }
+
+    /// The same of a unit that was taken long ago: one that lies more than a week ahead of the clock
+    /// moves nothing, unless it sets the clock.
+    pub fn take_near(&mut self, origin: &Address, moment: u64)
+        ensures { self.new ≡ recalled self.old origin.now moment }
+    {
+        if !is_unset(&self.standing) && is_far_after(moment, self.time) {
+            return;
+        }
+        self.take(origin, moment);
     }
 
     /// The moment at which a set is opened whose first segment came last, with a stamp of this

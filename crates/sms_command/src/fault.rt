@@ -1,9 +1,11 @@
 //! Why a command gives no answer.
 
-ghost use Rattle.std.specs.Prelude.{◌≤◌};
+ghost use Rattle.std.specs.Prelude.{◌≡◌, ◌≤◌, OnErr};
 
 use crate::digits::Spot;
 use sms_card::RecordFault;
+use sms_file::FileFault;
+use sms_keep::ReadFault;
 use sms_page::{Page, PageFault};
 use sms_relay::RelayFault;
 use sms_tpdu::{DataFault, UnitFault};
@@ -70,6 +72,12 @@ pub enum Fault {
     /// The output takes no more.
     #[error("write failed")]
     Write,
+    /// A file is no state of such a joiner.
+    #[error("state: {0}")]
+    State(sms_keep::Fault),
+    /// The file of a state was not opened, read or replaced.
+    #[error("state: {0}")]
+    File(FileFault),
     /// Memory ran out.
     #[error("out of memory")]
     Memory,
@@ -87,9 +95,9 @@ impl Fault {
             Fault::BadAddress(_) | Fault::TextTooLong | Fault::TooManySegments => 1,
             Fault::LineTooLong | Fault::NoText => 1,
             Fault::Record(_) | Fault::Septets(_) => 1,
-            Fault::Play(PlayFault::Script { .. }) => 1,
+            Fault::Play(PlayFault::Script { .. }) | Fault::State(_) => 1,
             Fault::WrongOption | Fault::ReferenceTooLarge | Fault::BadScheme => 2,
-            Fault::Play(_) => 3,
+            Fault::Play(_) | Fault::File(_) => 3,
             Fault::Read | Fault::Write | Fault::Memory => 3,
         }
     }
@@ -99,15 +107,20 @@ impl Fault {
         self.status() == 1
     }
 
-    /// Adds the line of the fault. Where it is to be explained, the place and the character of
-    /// digits or of an address that are wrong come after it.
+    /// Adds the line of the fault, after the number of the line of input where that is given. Where it
+    /// is to be explained, the place and the character of digits or of an address that are wrong
+    /// come after it. Where memory for its words runs out, nothing is added.
     pub fn put(
         &self,
         alloc: Global,
+        number: Option<u64>,
         is_explained: bool,
         page: &mut Page,
-    ) -> Result<(), AllocError> {
+    ) -> Result<(), AllocError>
+        ensures refused { OnErr result (page.new ≡ page.old) }
+    {
         let line = self.to_string(alloc)?;
+        put_number(page, number);
         page.put(line.as_bytes());
         if is_explained {
             self.put_explanation(page);
@@ -151,6 +164,15 @@ impl Fault {
     }
 }
 
+/// Adds the number of a line of input, where it is given.
+fn put_number(page: &mut Page, number: Option<u64>) {
+    if let Some(number) = number {
+        page.put(b"line ");
+        page.put_decimal(number);
+        page.put(b": ");
+    }
+}
+
 impl From<AllocError> for Fault {
     fn from(_error: AllocError) -> Fault {
         Fault::Memory
@@ -160,6 +182,21 @@ impl From<AllocError> for Fault {
 impl<T: Drop> From<AllocFailed<T>> for Fault {
     fn from(_error: AllocFailed<T>) -> Fault {
         Fault::Memory
+    }
+}
+
+impl From<FileFault> for Fault {
+    fn from(fault: FileFault) -> Fault {
+        Fault::File(fault)
+    }
+}
+
+impl From<ReadFault> for Fault {
+    fn from(fault: ReadFault) -> Fault {
+        match fault {
+            ReadFault::Memory => Fault::Memory,
+            ReadFault::At(fault) => Fault::State(fault),
+        }
     }
 }
 

@@ -193,15 +193,17 @@ impl Lines {
         }
     }
 
-    /// Ends the answer with a fault, and gives the page. A line says the fault, after the number of
-    /// the line of input where that is given; JSON has it as the last member.
+    /// Ends the answer with a fault, and leaves it on a page. A line says the fault, after the number
+    /// of the line of input where that is given; JSON has it as the last member. Where memory for
+    /// the words of the fault runs out, the answer ends without it.
     pub fn finish_with(
         self,
         alloc: Global,
         number: Option<u64>,
         is_explained: bool,
         fault: &Fault,
-    ) -> Result<Page, AllocError> {
+        page: &mut Page,
+    ) -> Result<(), AllocError> {
         let Lines {
             out,
             layer,
@@ -209,17 +211,16 @@ impl Lines {
             ..
         } = self;
         match out {
-            Out::Plain(mut page) => {
-                put_number(&mut page, number);
-                fault.put(alloc, is_explained, &mut page)?;
-                Ok(page)
+            Out::Plain(told) => {
+                *page = told;
+                fault.put(alloc, number, is_explained, page)
             }
             Out::Json(mut object) => {
                 close_layers(&mut object, inner);
-                object.name("fault");
-                put_fault(alloc, &mut object, layer, fault)?;
+                let put = put_fault(alloc, &mut object, layer, fault);
                 object.close();
-                Ok(object.into_line())
+                *page = object.into_line();
+                put
             }
         }
     }
@@ -232,16 +233,8 @@ fn close_layers(object: &mut Object, count: u8) {
     }
 }
 
-/// Adds the number of a line of input, where it is given.
-fn put_number(page: &mut Page, number: Option<u64>) {
-    if let Some(number) = number {
-        page.put(b"line ");
-        page.put_decimal(number);
-        page.put(b": ");
-    }
-}
-
-/// Adds a fault: its layer, the place counted from the first octet of the layer, and the reason.
+/// Adds a fault as a member: its layer, the place counted from the first octet of the layer, and the
+/// reason. Where memory for the reason runs out, nothing is added.
 fn put_fault(
     alloc: Global,
     object: &mut Object,
@@ -249,6 +242,7 @@ fn put_fault(
     fault: &Fault,
 ) -> Result<(), AllocError> {
     let reason = fault.reason(alloc)?;
+    object.name("fault");
     object.open();
     object.text_named("layer", layer.name());
     object.name("at");

@@ -66,6 +66,23 @@ fn take_or_again<T: Taker, W: Write>(
     take_line(taker, line, page)
 }
 
+/// Hands on a line, and writes what is told where it is time.
+pub fn take_one<T: Taker, W: Write>(
+    taker: &mut T,
+    line: Line<'_>,
+    page: &mut Page,
+    output: &mut W,
+) -> Result<(), Fault> {
+    if !page.has_room() {
+        page.write_to(output)?;
+    }
+    take_or_again(taker, line, page, output)?;
+    if page.is_full() {
+        page.write_to(output)?;
+    }
+    Ok(())
+}
+
 /// Hands on the lines that an input has, and writes what is told of them.
 fn take_all<T: Taker, R: Read, W: Write>(
     taker: &mut T,
@@ -78,13 +95,7 @@ fn take_all<T: Taker, R: Read, W: Write>(
         let Some(line) = feed.next_line(input, page, output)? else {
             break;
         };
-        if !page.has_room() {
-            page.write_to(output)?;
-        }
-        take_or_again(taker, line, page, output)?;
-        if page.is_full() {
-            page.write_to(output)?;
-        }
+        take_one(taker, line, page, output)?;
     }
     taker.finish(page)
 }

@@ -111,7 +111,7 @@ fn put_entry(
     let told = put_digits(alloc, shown, digits, room, &mut lines);
     match told {
         Err(fault) if fault.is_of_input() => {
-            *page = lines.finish_with(alloc, number, shown.is_explained, &fault)?;
+            lines.finish_with(alloc, number, shown.is_explained, &fault, page)?;
             Ok(true)
         }
         _ => {

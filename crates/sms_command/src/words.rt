@@ -15,6 +15,9 @@ const VERSION: &str = "0.1";
 /// The greatest number of texts that are open or remembered.
 const COUNT_MAX: u64 = 1_000_000;
 
+/// After how many lines a state is written each time, unless it is told.
+const OFTEN: u64 = 10_000;
+
 /// What stands below the help of `play`.
 const SCRIPT_HELP: &str = "\
 The script is read from standard input, for example:
@@ -219,19 +222,37 @@ pub enum Carried {
     Septets,
 }
 
+/// Where what a joiner holds is kept.
+#[derive(Clone, Copy)]
+pub struct StateFile<'a> {
+    /// The path of the file.
+    pub path: &'a str,
+    /// After how many lines it is written each time.
+    pub every: u64,
+}
+
 /// How units are joined.
 #[derive(Clone, Copy)]
-pub struct Joined {
-    /// How lines have their pieces; none where the options say two ways.
+pub struct Joined<'a> {
+    /// How lines have their pieces; none where the options say two ways, or one of them wants
+    /// another.
     pub pieces: Option<Pieces>,
+    /// Whether each line begins with its recipient.
+    pub has_recipients: bool,
     /// How many sets of segments may be open.
     pub open: usize,
     /// How many that are whole are remembered.
     pub remembered: usize,
+    /// For how many seconds they are, where that has an end.
+    pub remember_for: Option<u64>,
+    /// What becomes of texts in one piece.
+    pub alone: sms_join::Alone,
     /// How the texts are written.
     pub form: Form,
     /// Whether repeats and refusals are told.
     pub is_verbose: bool,
+    /// Where what the joiner holds is kept, if it is.
+    pub state: Option<StateFile<'a>>,
 }
 
 /// How a script is played.
@@ -254,7 +275,7 @@ pub enum Request<'a> {
     Encode(Draft<'a>),
     Split(LongText<'a>),
     /// Units are joined.
-    Join(Joined),
+    Join(Joined<'a>),
     /// A script is played.
     Play(Played),
     /// A script is played and drawn.
@@ -293,6 +314,8 @@ enum WordForm {
     Reference,
     /// An option with a number from 1 on.
     Count,
+    /// An option with a number from 1 on, which has this name and may be as great as can be.
+    Number(&'static str),
 }
 
 /// A word of a subcommand, or an option with its hyphens left out.
@@ -557,9 +580,34 @@ static SUBCOMMANDS: [Subcommand; 6] = [
                 help: "How many texts that are whole are remembered, 32 unless given",
             },
             Word {
+                name: "remember-for",
+                form: WordForm::Number("SECONDS"),
+                help: "For how long they are; without it until as many others came",
+            },
+            Word {
+                name: "alone",
+                form: WordForm::Choice(&["remember", "pass"]),
+                help: "A text in one piece is remembered, unless given; pass: it is told each time it comes",
+            },
+            Word {
+                name: "to",
+                form: WordForm::Flag,
+                help: "A line begins with the recipient's number and a blank; texts for two are never joined",
+            },
+            Word {
                 name: "json",
                 form: WordForm::Flag,
                 help: "A line has an object in JSON for each text",
+            },
+            Word {
+                name: "state",
+                form: WordForm::Value("FILE"),
+                help: "What is open and remembered is kept in FILE, so that a run that was cut off goes on when it is begun again on the same input",
+            },
+            Word {
+                name: "every",
+                form: WordForm::Number("N"),
+                help: "--state: FILE is written after so many lines each time, 10000 unless given, and at the end",
             },
             Word {
                 name: "verbose",
@@ -634,6 +682,10 @@ fn form_of<'a>(arg: Arg<'a>, word: &Word) -> Arg<'a> {
             .long(word.name)
             .value_name("N")
             .value_parser(ValueParser::unsigned(1, COUNT_MAX)),
+        WordForm::Number(value) => arg
+            .long(word.name)
+            .value_name(value)
+            .value_parser(ValueParser::unsigned(1, u64::MAX)),
     }
 }
 
@@ -821,18 +873,47 @@ fn carried_of(found: &ArgMatches<'_>) -> Option<Carried> {
     }
 }
 
+/// What becomes of texts in one piece, by a word.
+fn alone_of(word: Option<&str>) -> sms_join::Alone {
+    match word {
+        Some("pass") => sms_join::Alone::Passed,
+        _ => sms_join::Alone::Remembered,
+    }
+}
+
+/// How lines have their pieces; none where the options say two things, or `every` alone.
+fn pieces_of(found: &ArgMatches<'_>) -> Option<Pieces> {
+    if found.get_one::<u64>("every").is_some() && found.get_str("state").is_none() {
+        return None;
+    }
+    let carried = carried_of(found)?;
+    Some(Pieces {
+        carried,
+        heeds_languages: found.get_flag("languages"),
+    })
+}
+
+/// Where what a joiner holds is kept, if it is.
+fn state_of<'a>(found: &ArgMatches<'a>) -> Option<StateFile<'a>> {
+    let path = found.get_str("state")?;
+    Some(StateFile {
+        path,
+        every: found.get_one::<u64>("every").unwrap_or(OFTEN),
+    })
+}
+
 /// How units are joined.
-fn joined_of<'a>(found: &ArgMatches<'_>) -> Option<Request<'a>> {
-    let heeds_languages = found.get_flag("languages");
+fn joined_of<'a>(found: &ArgMatches<'a>) -> Option<Request<'a>> {
     Some(Request::Join(Joined {
-        pieces: carried_of(found).map(|carried| Pieces {
-            carried,
-            heeds_languages,
-        }),
+        pieces: pieces_of(found),
+        has_recipients: found.get_flag("to"),
         open: found.get_one::<usize>("open").unwrap_or(16),
         remembered: found.get_one::<usize>("remembered").unwrap_or(32),
+        remember_for: found.get_one::<u64>("remember-for"),
+        alone: alone_of(found.get_str("alone")),
         form: form_found(found),
         is_verbose: found.get_flag("verbose"),
+        state: state_of(found),
     }))
 }
 

@@ -30,13 +30,19 @@ mod former;
 #[cfg(test)]
 mod found;
 #[cfg(test)]
+mod gateways;
+#[cfg(test)]
 mod heard;
 #[cfg(test)]
 mod joins;
 #[cfg(test)]
 mod jumps;
 #[cfg(test)]
+mod kept;
+#[cfg(test)]
 mod languages;
+#[cfg(test)]
+mod lent;
 #[cfg(test)]
 mod lines;
 #[cfg(test)]

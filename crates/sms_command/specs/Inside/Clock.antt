@@ -94,6 +94,20 @@ after (Ahead row) time origin moment = after_row time row origin moment
 abbrev pub ticked : Clock → AddressValue → ℕ → Clock
 ticked clock origin moment = after clock.standing clock.time origin moment
 
+abbrev pub is_unset : Standing → Bool
+is_unset Unset = true
+is_unset (First first count) = false
+is_unset Sure = false
+is_unset (Ahead row) = false
+
+-- The clock after a unit that was taken long ago, of which no row is left: one that lies far ahead is
+-- passed over, unless it sets the clock.
+abbrev pub recalled : Clock → AddressValue → ℕ → Clock
+recalled clock origin moment =
+    if not (is_unset clock.standing) && is_far_after moment clock.time
+    then clock
+    else ticked clock origin moment
+
 -- A set is opened at the moment of its first segment where that lies ahead of the clock, else at
 -- the clock.
 abbrev pub opened_at : Clock → Option ℕ → ℕ

@@ -2,7 +2,7 @@
 use Rattle.std.specs.Prelude.{◌≡◌, ℕ, ◌==◌, ◌&&◌, Bool, List, [], length, get_or, Option, Result, Ok, Err, ⊤, if◌then◌else◌}
 use Rattle.sms_page.specs.Hexadecimal.{octets_of}
 use Rattle.sms_command.specs.declared.fault.Fault.{Fault}
-use Rattle.sms_command.specs.declared.fault.Fault.TheVariants.{Unit, Message, WrongOption, ReferenceTooLarge, BadHex, Record, Septets, BadScheme, BadLine, BadStamp, BadAddress, TextTooLong, TooManySegments, Play, NoText, LineTooLong, Read, Write, Memory}
+use Rattle.sms_command.specs.declared.fault.Fault.TheVariants.{Unit, Message, WrongOption, ReferenceTooLarge, BadHex, Record, Septets, BadScheme, BadLine, BadStamp, BadAddress, TextTooLong, TooManySegments, Play, NoText, LineTooLong, Read, Write, Memory, State, File}
 
 -- a hyphen, which says no octets
 abbrev pub is_hyphen : List ℕ → Bool
@@ -32,4 +32,6 @@ Tells NoText said = ⊥
 Tells LineTooLong said = ⊥
 Tells Read said = ⊥
 Tells Write said = ⊥
+Tells (State fault) said = ⊥
+Tells (File fault) said = ⊥
 Tells Memory said = ⊤
