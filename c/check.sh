@@ -67,12 +67,12 @@ in_c() {
 		guards=
 	fi
 	echo "== $cc, libsms.a ${guards:+under the sanitizers}"
-	for test in writers promises gateway data records; do
+	for test in writers promises gateway state data records; do
 		$cc $flags $guards "$here/tests/$test.c" "$prefix/lib/libsms.a" -o "$room/static"
 		"$room/static" "$units"
 	done
 	echo "== $cc, libsms.so"
-	for test in writers promises gateway data records; do
+	for test in writers promises gateway state data records; do
 		$cc $flags "$here/tests/$test.c" $dynamic -o "$room/shared"
 		"$room/shared" "$units"
 	done
@@ -159,7 +159,7 @@ if there python3; then
 	else
 		left_out "gcc brings no address sanitizer for python3"
 	fi
-	for example in read write join smpp gateway; do
+	for example in read write join smpp gateway restart; do
 		python3 "$here/../python/examples/$example.py" >"$room/told"
 		cmp "$room/told" "$here/examples/$example.out"
 	done

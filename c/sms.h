@@ -95,11 +95,24 @@ enum {
     SMS_BAD_SEPTET = 12,      /* 128 and more, where septets stand one an octet */
     SMS_BAD_STATUS = 13,      /* record: the first octet */
     SMS_NOT_PADDING = 14,     /* record: another octet than FF after the unit */
-    SMS_OTHER_LENGTH = 15     /* record: more than 176 octets */
+    SMS_OTHER_LENGTH = 15,    /* record: more than 176 octets */
+    SMS_NO_STATE = 16,        /* state, as all below: it begins as none */
+    SMS_NEWER = 17,           /* of a higher version */
+    SMS_BAD_FLAG = 18,        /* an octet that says none of the forms that may follow it */
+    SMS_OTHER_LIMITS = 19,    /* of a joiner with other limits */
+    SMS_TOO_MANY = 20,        /* more messages than the limits say */
+    SMS_NOT_OPEN = 21,        /* an open message with no segment, or each */
+    SMS_OUT_OF_ORDER = 22,    /* openings that do not rise */
+    SMS_REPEATED = 23,        /* a message that stands before */
+    SMS_TRAILING = 24,        /* octets after the end */
+    SMS_BAD_CHECKSUM = 25,
+    SMS_BAD_KEY = 26,         /* an address that is none, or that is written otherwise */
+    SMS_MOMENTS_FALL = 27     /* a finished message that finished before the one ahead of it */
 };
 
 /* The first octet that cannot stand where it does: with the octets before it some unit goes on, with
- * it none. Under SMS_SHORT the place is the number of octets. */
+ * it none. Under SMS_SHORT the place is the number of octets. Of a state it is the first octet of what is wrong, or
+ * passes the end (docs/SAVED.md). */
 typedef struct sms_refused {
     size_t place;
     uint32_t reason;
@@ -393,7 +406,7 @@ SMS_STATUS sms_split(const sms_reference *reference, const uint8_t *text, size_t
 
 /* ---- the version of the library: 1,000,000 for a major number, 1,000 for a minor one, 1 for a patch */
 
-#define SMS_VERSION 2002000
+#define SMS_VERSION 2003000
 
 /* That of the library that is loaded, to be compared with SMS_VERSION at run time. */
 uint32_t sms_version(void);
@@ -755,6 +768,22 @@ SMS_STATUS sms_gateway_text(sms_gateway *gateway, uint8_t *out, size_t room, siz
  * stays. A message that finishes at an earlier moment than the one before it counts as of that one's. SMS_CLOSED. Else
  * SMS_OK. */
 SMS_STATUS sms_gateway_age(sms_gateway *gateway, uint64_t seconds);
+
+/* ---- a gateway's joiner over a restart (docs/SAVED.md) */
+
+/* Writes all that the joiner holds as octets, for sms_gateway_read at the next start, with `taken`: a number of the
+ * caller's, which tells how much of its input is in there. The text that finished last is not. Nothing changes.
+ * SMS_CLOSED. Else SMS_OK, SMS_NO_ROOM or SMS_NO_MEMORY. To ask takes as long as to write. */
+SMS_STATUS sms_gateway_save(sms_gateway *gateway, uint64_t taken, uint8_t *out, size_t room, size_t *needed);
+/* Opens a joiner with what such octets, all of them, say that it held; *taken is the number that was saved. It answers
+ * all that comes as the saved one would. The seed may be another; nothing is forgotten till sms_gateway_age.
+ * SMS_OUT_OF_RANGE: as sms_gateway_open. SMS_REFUSED: they are no state of a joiner with these limits. SMS_NO_MEMORY.
+ * After another status than SMS_OK the joiner is as it was, open or closed. SMS_OK: what an open one held is gone, its
+ * cursors end, and no text has finished yet. */
+SMS_STATUS sms_gateway_read(sms_gateway *gateway, const sms_gateway_limits *limits, const uint8_t *octets, size_t count,
+                            uint64_t *taken, sms_refused *refused);
+
+/* ---- the open messages of a gateway's joiner */
 
 /* An open message, and whether it is for a recipient. */
 typedef struct sms_gateway_message {

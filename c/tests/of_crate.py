@@ -142,6 +142,15 @@ def calls():
 # The names of sms.h for those of the crate.
 STATUSES = {"MEMORY": "NO_MEMORY"}
 REASONS = {"BAD_ADDRESS": "BAD_RELAY_ADDRESS", "CENTRE": "BAD_RELAY_ADDRESS"}
+STATE_REASONS = {
+    "NOT_ASTATE": "NO_STATE",
+    "LONG_ADDRESS": "ADDRESS_TOO_LONG",
+    "NOT_SEPTET": "BAD_SEPTET",
+    "FLAG": "BAD_FLAG",
+    "CHECKSUM": "BAD_CHECKSUM",
+    "ADDRESS": "BAD_KEY",
+    "MOMENTS": "MOMENTS_FALL",
+}
 SENT = {"NotAsked": "RECORD_SENT"}
 KINDS = {"Transfer": "DATA", "Ack": "ACK", "Fail": "ERROR"}
 
@@ -163,6 +172,8 @@ def numbers():
     reasons.update({snake(name): number for name, number in arms(status, "DataFault").items()})
     for name, number in [*relay_faults.items(), *arms(status, "RecordFault").items()]:
         reasons[REASONS.get(snake(name), snake(name))] = number
+    for name, number in [*arms(status, "StateFault").items(), *arms(status, "HeldFault").items()]:
+        reasons[STATE_REASONS.get(snake(name), snake(name))] = number
     states, records = (TOP / "crates" / "sms_card" / "src" / "status.rt").read_text(encoding="utf-8"), source("records.rt")
     sent = re.findall(r"Status::Sent\(ReportState::(\w+)\) => (\d+)", states)
     units = {**arms(records, "ReceivedView"), **arms(records, "OriginatedView")}

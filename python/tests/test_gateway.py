@@ -131,6 +131,55 @@ class Gateways(unittest.TestCase):
         with self.assertRaises(sms.Closed):
             next(gateway.open_messages())
 
+    def test_saved_and_read_back(self):
+        first, second = sms.Deliver.write("+9", LONG, STAMP, reference=42)
+        other, last = sms.Deliver.write("+9", LONG.upper(), STAMP, reference=43)
+        lengths = {"open_for": timedelta(seconds=100), "remember_for": timedelta(seconds=50)}
+        with sms.Gateway(4, 4, **lengths) as gateway:
+            self.assertEqual([gateway.offer("Hotel", it, NOW) for it in (other, last)], [None, LONG.upper()])
+            self.assertIsNone(gateway.offer("+1001", first, NOW))
+            self.assertEqual(gateway.taken, 0)
+            empty, octets = gateway.save(), gateway.save(2**64 - 1)
+            self.assertEqual((empty[:9], len(empty)), (b"SMSSTATE\1", len(octets)))
+            self.assertEqual((gateway.text, gateway.open_count), (LONG.upper(), 1))
+            for wrong in (-1, 2**64):
+                with self.subTest(wrong=wrong), self.assertRaises(sms.OutOfRange):
+                    gateway.save(wrong)
+        with self.assertRaises(sms.Closed):
+            gateway.save()
+        for given in (octets, bytearray(octets), memoryview(octets)):
+            with sms.Gateway.read(given, 4, 4, **lengths, seed=5) as gateway:
+                self.assertEqual((gateway.taken, gateway.text, gateway.open_count), (2**64 - 1, "", 1))
+                self.assertEqual(gateway.outcome("Hotel", last, NOW), sms.Offer.REPEAT)
+                (message,) = gateway.open_messages()
+                self.assertEqual((message.recipient, message.sequences, message.moment), ("+1001", (1,), NOW))
+                self.assertEqual(gateway.offer("+1001", second, NOW), LONG)
+                gateway.age(after(50))
+                self.assertEqual(gateway.outcome("Hotel", last, after(50)), sms.Offer.KEPT)
+
+    def test_no_state(self):
+        with sms.Gateway(4, 4) as gateway:
+            octets = gateway.save(3)
+        newer, flipped = octets[:8] + b"\2" + octets[9:], octets[:-1] + bytes([octets[-1] ^ 1])
+        rows = [
+            (b"", {}, 0, sms.Reason.NO_STATE, "at 0: no state"),
+            (newer, {}, 8, sms.Reason.NEWER, "at 8: newer"),
+            (octets, {"pass_alone": True}, 9, sms.Reason.OTHER_LIMITS, "at 9: other limits"),
+            (octets, {"remembered": 5}, 9, sms.Reason.OTHER_LIMITS, "at 9: other limits"),
+            (octets[:40], {}, 35, sms.Reason.SHORT, "at 35: short"),
+            (octets + b"\0", {}, 67, sms.Reason.TRAILING, "at 67: trailing"),
+            (flipped, {}, 67, sms.Reason.BAD_CHECKSUM, "at 67: bad checksum"),
+        ]
+        for given, other, place, reason, text in rows:
+            with self.subTest(text=text), self.assertRaises(sms.Refused) as raised:
+                sms.Gateway.read(given, **{"open_max": 4, "remembered": 4, **other})
+            told = raised.exception
+            self.assertEqual((told.place, told.reason, str(told)), (place, reason, text))
+        with self.assertRaises(sms.OutOfRange):
+            sms.Gateway.read(octets, 0, 4)
+        with self.assertRaises(TypeError):
+            sms.Gateway.read(5, 4, 4)
+
     def test_threads(self):
         parts = sms.Deliver.write("+9", LONG, STAMP, reference=1)
         told = [None] * 8

@@ -29,9 +29,13 @@ impl GatewayLimits {
         GatewayLimits { open_max, remembered, open_for: 604_800, remember_for: None, pass_alone: false, seed: None }
     }
 
-    fn raw(&self) -> raw::GatewayLimits {
+    /// `OutOfRange` where a number of seconds is 0 that is from 1 on.
+    fn raw(&self) -> Result<raw::GatewayLimits, Error> {
+        if self.remember_for == Some(0) {
+            return Err(Error::OutOfRange);
+        }
         let seed = self.seed.unwrap_or_else(drawn);
-        raw::GatewayLimits {
+        Ok(raw::GatewayLimits {
             open_max: self.open_max,
             remembered: self.remembered,
             open_for: self.open_for,
@@ -41,7 +45,7 @@ impl GatewayLimits {
             has_seed: 1,
             pass_alone: u8::from(self.pass_alone),
             spare: [0; 6],
-        }
+        })
     }
 }
 
@@ -92,15 +96,34 @@ unsafe impl Send for Gateway {}
 impl Gateway {
     /// A joiner with these limits that holds nothing; `OutOfRange` where one of them cannot be.
     pub fn open(limits: &GatewayLimits) -> Result<Gateway, Error> {
-        if limits.remember_for == Some(0) {
-            return Err(Error::OutOfRange);
-        }
-        let mut gateway = raw::Gateway::CLOSED;
+        let (mut gateway, limits) = (raw::Gateway::CLOSED, limits.raw()?);
         // SAFETY: both are ours, and it is closed.
-        match unsafe { raw::sms_gateway_open(&mut gateway, &limits.raw()) } {
+        match unsafe { raw::sms_gateway_open(&mut gateway, &limits) } {
             raw::SMS_OK => Ok(Gateway(gateway)),
             status => Err(Error::of(status, raw::Refused::default())),
         }
+    }
+
+    /// The joiner that holds what was saved of one with these limits, and the number that was saved beside: it answers all
+    /// that comes as that one would. `Refused` where the octets are no such state. Nothing is forgotten till
+    /// [`age`](Gateway::age), the text is empty, and the seed may be another.
+    pub fn read(limits: &GatewayLimits, octets: &[u8]) -> Result<(Gateway, u64), Error> {
+        let (mut gateway, limits) = (raw::Gateway::CLOSED, limits.raw()?);
+        let (mut taken, mut refused) = (0, raw::Refused::default());
+        // SAFETY: the pointer is to as many octets as are counted with it, the rest is ours, and the joiner is closed.
+        match unsafe {
+            raw::sms_gateway_read(&mut gateway, &limits, octets.as_ptr(), octets.len(), &mut taken, &mut refused)
+        } {
+            raw::SMS_OK => Ok((Gateway(gateway), taken)),
+            status => Err(Error::of(status, refused)),
+        }
+    }
+
+    /// All that it holds but [`text`](Gateway::text), for [`read`](Gateway::read) at the next start, with a number of the
+    /// caller's, which tells how much of its input is in there.
+    pub fn save(&mut self, taken: u64) -> Result<Vec<u8>, Error> {
+        // SAFETY: the room is as counted, and the joiner is ours.
+        answer(0, |out, room, needed| unsafe { raw::sms_gateway_save(&mut self.0, taken, out, room, needed) })
     }
 
     /// Offers an SMS-DELIVER for a recipient that came at a moment, in seconds from the beginning of 2000. `BadAddress`

@@ -71,6 +71,18 @@ pub enum Reason {
     BadStatus,
     NotPadding,
     OtherLength,
+    NoState,
+    Newer,
+    BadFlag,
+    OtherLimits,
+    TooMany,
+    NotOpen,
+    OutOfOrder,
+    Repeated,
+    Trailing,
+    BadChecksum,
+    BadKey,
+    MomentsFall,
     /// A number that this crate has no name for.
     Other(u32),
 }
@@ -93,6 +105,18 @@ impl Reason {
             raw::SMS_BAD_STATUS => Reason::BadStatus,
             raw::SMS_NOT_PADDING => Reason::NotPadding,
             raw::SMS_OTHER_LENGTH => Reason::OtherLength,
+            raw::SMS_NO_STATE => Reason::NoState,
+            raw::SMS_NEWER => Reason::Newer,
+            raw::SMS_BAD_FLAG => Reason::BadFlag,
+            raw::SMS_OTHER_LIMITS => Reason::OtherLimits,
+            raw::SMS_TOO_MANY => Reason::TooMany,
+            raw::SMS_NOT_OPEN => Reason::NotOpen,
+            raw::SMS_OUT_OF_ORDER => Reason::OutOfOrder,
+            raw::SMS_REPEATED => Reason::Repeated,
+            raw::SMS_TRAILING => Reason::Trailing,
+            raw::SMS_BAD_CHECKSUM => Reason::BadChecksum,
+            raw::SMS_BAD_KEY => Reason::BadKey,
+            raw::SMS_MOMENTS_FALL => Reason::MomentsFall,
             other => Reason::Other(other),
         }
     }
@@ -116,13 +140,26 @@ impl fmt::Display for Reason {
             Reason::BadStatus => "bad status",
             Reason::NotPadding => "not padding",
             Reason::OtherLength => "other length",
+            Reason::NoState => "no state",
+            Reason::Newer => "newer",
+            Reason::BadFlag => "bad flag",
+            Reason::OtherLimits => "other limits",
+            Reason::TooMany => "too many",
+            Reason::NotOpen => "not open",
+            Reason::OutOfOrder => "out of order",
+            Reason::Repeated => "repeated",
+            Reason::Trailing => "trailing",
+            Reason::BadChecksum => "bad checksum",
+            Reason::BadKey => "bad key",
+            Reason::MomentsFall => "moments fall",
             Reason::Other(number) => return write!(f, "reason {number}"),
         })
     }
 }
 
 /// Octets are refused: the place is the first octet that cannot stand where it does, from 0, or the number of octets
-/// where some are missing at the end ([`Reason::Short`]).
+/// where some are missing at the end ([`Reason::Short`]). Of a saved state it is the first octet of what is wrong, or
+/// passes the end.
 #[derive(Clone, Copy, Debug, PartialEq, Eq, Hash)]
 pub struct Refused {
     pub place: usize,

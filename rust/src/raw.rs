@@ -2,7 +2,7 @@
 
 pub const SMS_ABI: u32 = 2;
 /// Of the header that these are the declarations of.
-pub const SMS_VERSION: u32 = 2_002_000;
+pub const SMS_VERSION: u32 = 2_003_000;
 
 pub const SMS_TEXT_MAX: usize = 480;
 pub const SMS_UNIT_MAX: usize = 192;
@@ -37,6 +37,18 @@ pub const SMS_BAD_SEPTET: u32 = 12;
 pub const SMS_BAD_STATUS: u32 = 13;
 pub const SMS_NOT_PADDING: u32 = 14;
 pub const SMS_OTHER_LENGTH: u32 = 15;
+pub const SMS_NO_STATE: u32 = 16;
+pub const SMS_NEWER: u32 = 17;
+pub const SMS_BAD_FLAG: u32 = 18;
+pub const SMS_OTHER_LIMITS: u32 = 19;
+pub const SMS_TOO_MANY: u32 = 20;
+pub const SMS_NOT_OPEN: u32 = 21;
+pub const SMS_OUT_OF_ORDER: u32 = 22;
+pub const SMS_REPEATED: u32 = 23;
+pub const SMS_TRAILING: u32 = 24;
+pub const SMS_BAD_CHECKSUM: u32 = 25;
+pub const SMS_BAD_KEY: u32 = 26;
+pub const SMS_MOMENTS_FALL: u32 = 27;
 
 pub const SMS_GSM7: u8 = 0;
 pub const SMS_EIGHT_BIT: u8 = 1;
@@ -512,6 +524,13 @@ extern "C" {
     ) -> u32;
     pub fn sms_gateway_text(gateway: *mut Gateway, out: *mut u8, room: usize, needed: *mut usize) -> u32;
     pub fn sms_gateway_age(gateway: *mut Gateway, seconds: u64) -> u32;
+    pub fn sms_gateway_save(
+        gateway: *mut Gateway, taken: u64, out: *mut u8, room: usize, needed: *mut usize,
+    ) -> u32;
+    pub fn sms_gateway_read(
+        gateway: *mut Gateway, limits: *const GatewayLimits, octets: *const u8, count: usize, taken: *mut u64,
+        refused: *mut Refused,
+    ) -> u32;
     pub fn sms_gateway_count(gateway: *mut Gateway, open_count: *mut usize) -> u32;
     pub fn sms_gateway_each(gateway: *mut Gateway, cursor: *mut Cursor, message: *mut GatewayMessage) -> u32;
     pub fn sms_gateway_origin(

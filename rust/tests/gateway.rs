@@ -1,6 +1,8 @@
 //! A gateway's joiner: recipients apart, ages, messages in one piece, and what is refused.
 
-use sms::{Data, Deliver, DeliverFields, Error, Gateway, GatewayLimits, Offer, Reference, Stamp, Standing};
+use sms::{
+    Data, Deliver, DeliverFields, Error, Gateway, GatewayLimits, Offer, Reason, Reference, Refused, Stamp, Standing,
+};
 
 const STAMP: Stamp = Stamp([0x99, 0x30, 0x92, 0x51, 0x61, 0x95, 0x80]);
 
@@ -75,6 +77,45 @@ fn refuses_limits_that_cannot_be() {
     limits.remember_for = Some(0);
     assert_eq!(Gateway::open(&limits).err(), Some(Error::OutOfRange));
     assert_eq!(Gateway::open(&GatewayLimits::new(1, usize::MAX)).err(), Some(Error::NoMemory));
+}
+
+#[test]
+fn is_saved_and_read_back() {
+    let mut limits = GatewayLimits::new(4, 4);
+    (limits.open_for, limits.remember_for) = (100, Some(50));
+    let mut gateway = Gateway::open(&limits).unwrap();
+    assert_eq!(gateway.offer(5, Some("Hotel"), &unit("b", 8, 0)), Ok(Offer::Kept));
+    assert_eq!(gateway.offer(6, Some("Hotel"), &unit("b", 8, 1)), Ok(Offer::Finished(long("b"))));
+    assert_eq!(gateway.offer(7, Some("+1001"), &unit("a", 7, 0)), Ok(Offer::Kept));
+    let octets = gateway.save(u64::MAX).unwrap();
+    assert_eq!((&octets[..9], gateway.text(), gateway.open_count()), (b"SMSSTATE\x01".as_slice(), Ok(long("b")), 1));
+    limits.seed = Some(5);
+    let (mut gateway, taken) = Gateway::read(&limits, &octets).unwrap();
+    assert_eq!((taken, gateway.text(), gateway.open_count()), (u64::MAX, Ok(String::new()), 1));
+    assert_eq!(gateway.offer(8, Some("Hotel"), &unit("b", 8, 0)), Ok(Offer::Repeat));
+    let told: Vec<_> = gateway.open_messages().map(Result::unwrap).collect();
+    assert_eq!((told[0].recipient.as_deref(), told[0].message.seconds), (Some("+1001"), 7));
+    assert_eq!(gateway.offer(8, Some("+1001"), &unit("a", 7, 1)), Ok(Offer::Finished(long("a"))));
+    gateway.age(56);
+    assert_eq!(gateway.offer(56, Some("Hotel"), &unit("b", 8, 0)), Ok(Offer::Kept));
+}
+
+#[test]
+fn refuses_what_is_no_state() {
+    let limits = GatewayLimits::new(4, 4);
+    let octets = Gateway::open(&limits).unwrap().save(3).unwrap();
+    let read = |limits: &GatewayLimits, octets: &[u8]| Gateway::read(limits, octets).err();
+    let refused = |place, reason| Some(Error::Refused(Refused { place, reason }));
+    assert_eq!(read(&limits, b""), refused(0, Reason::NoState));
+    assert_eq!(read(&limits, b"SMSSTATE\x02"), refused(8, Reason::Newer));
+    assert_eq!(read(&GatewayLimits::new(4, 5), &octets), refused(9, Reason::OtherLimits));
+    assert_eq!(read(&limits, &octets[..40]), refused(35, Reason::Short));
+    assert_eq!(read(&limits, &[octets.as_slice(), &[0]].concat()), refused(67, Reason::Trailing));
+    assert_eq!(read(&limits, &[&octets[..98], &[octets[98] ^ 1]].concat()), refused(67, Reason::BadChecksum));
+    assert_eq!(read(&GatewayLimits::new(0, 4), &octets), Some(Error::OutOfRange));
+    let mut limits = limits;
+    limits.remember_for = Some(0);
+    assert_eq!(read(&limits, &octets), Some(Error::OutOfRange));
 }
 
 #[test]

@@ -12,6 +12,7 @@ pub mod GatewayKept
 pub mod GatewayLimits
 pub mod GatewayMessages
 pub mod GatewayOffers
+pub mod GatewayStates
 pub mod HandedOut
 pub mod Inside
 pub mod Kept

@@ -13,6 +13,11 @@ use Rattle.sms_relay.specs.declared.fault.RelayFault.{RelayFault}
 use Rattle.sms_relay.specs.declared.fault.RelayFault.TheVariants as relay
 use Rattle.sms_card.specs.declared.fault.RecordFault.{RecordFault}
 use Rattle.sms_card.specs.declared.fault.RecordFault.TheVariants as card
+use Rattle.sms_saved.specs.declared.fault.StateFault.{StateFault}
+use Rattle.sms_saved.specs.declared.fault.StateFault.TheVariants as state
+use Rattle.sms_keep.specs.declared.fault.Fault.{Fault as HeldFaultAt}
+use Rattle.sms_keep.specs.declared.fault.HeldFault.{HeldFault}
+use Rattle.sms_keep.specs.declared.fault.HeldFault.TheVariants as held
 use Rattle.sms_c.specs.declared.status.Failure.{Failure}
 use Rattle.sms_c.specs.declared.status.Failure.TheVariants as why
 use Rattle.sms_c.specs.declared.status.Refused.{Refused}
@@ -81,6 +86,26 @@ record_reason (card.Unit why) = unit_reason why
 record_reason card.NotPadding = 14
 record_reason card.OtherLength = 15
 
+abbrev pub state_reason : StateFault → ℕ
+state_reason state.Short = 1
+state_reason state.LongAddress = 3
+state_reason state.NotSeptet = 12
+state_reason state.NotAState = 16
+state_reason (state.Newer _) = 17
+state_reason state.Flag = 18
+state_reason state.OtherLimits = 19
+state_reason state.TooMany = 20
+state_reason state.NotOpen = 21
+state_reason state.OutOfOrder = 22
+state_reason state.Repeated = 23
+state_reason state.Trailing = 24
+state_reason state.Checksum = 25
+
+abbrev pub held_reason : HeldFault → ℕ
+held_reason (held.State why) = state_reason why
+held_reason held.Address = 26
+held_reason held.Moments = 27
+
 -- what C is told of a fault
 abbrev pub data_refused : Fault DataFault → Refused
 data_refused fault = record { place = fault.place; reason = data_reason fault.why }
@@ -93,3 +118,6 @@ relay_refused fault = record { place = fault.place; reason = relay_reason fault.
 
 abbrev pub record_refused : Fault RecordFault → Refused
 record_refused fault = record { place = fault.place; reason = record_reason fault.why }
+
+abbrev pub held_refused : HeldFaultAt → Refused
+held_refused fault = record { place = fault.place; reason = held_reason fault.why }

@@ -18,6 +18,8 @@ mod offering;
 mod opening;
 mod origin;
 mod recipient;
+mod restoring;
+mod saving;
 mod taking;
 pub mod telling;
 

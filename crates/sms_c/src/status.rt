@@ -7,7 +7,9 @@ ghost use Rattle.sms_c.specs.declared.status.Failure.TheVariants.{Memory, NoRoom
 use sms_card::RecordFault;
 use sms_field::{Fault, TextFault};
 use sms_join::SplitFault;
+use sms_keep::HeldFault;
 use sms_relay::RelayFault;
+use sms_saved::StateFault;
 use sms_tpdu::{DataFault, UnitFault};
 use std::alloc::{AllocError, AllocFailed};
 
@@ -218,6 +220,49 @@ pub fn record_refused(out: &mut Refused, fault: Fault<RecordFault>) -> u32
 {
     let Fault { place, why } = fault;
     let reason = record_reason(why);
+    *out = Refused { place, reason };
+    Failure::Refused.status()
+}
+
+/// The number of what is wrong with octets that are no state.
+fn state_reason(fault: StateFault) -> u32
+    ensures { result ≡ numbers.state_reason fault }
+{
+    match fault {
+        StateFault::Short => 1,
+        StateFault::LongAddress => 3,
+        StateFault::NotSeptet => 12,
+        StateFault::NotAState => 16,
+        StateFault::Newer(_) => 17,
+        StateFault::Flag => 18,
+        StateFault::OtherLimits => 19,
+        StateFault::TooMany => 20,
+        StateFault::NotOpen => 21,
+        StateFault::OutOfOrder => 22,
+        StateFault::Repeated => 23,
+        StateFault::Trailing => 24,
+        StateFault::Checksum => 25,
+    }
+}
+
+/// The number of what is wrong with octets that are no state of a joiner.
+pub fn held_reason(fault: HeldFault) -> u32
+    ensures { result ≡ numbers.held_reason fault }
+{
+    match fault {
+        HeldFault::State(why) => state_reason(why),
+        HeldFault::Address => 26,
+        HeldFault::Moments => 27,
+    }
+}
+
+/// Tells where a state is refused, and why.
+pub fn held_refused(out: &mut Refused, fault: sms_keep::Fault) -> u32
+    ensures status { result ≡ 1 }
+    ensures told { out.new ≡ numbers.held_refused fault }
+{
+    let sms_keep::Fault { place, why } = fault;
+    let reason = held_reason(why);
     *out = Refused { place, reason };
     Failure::Refused.status()
 }

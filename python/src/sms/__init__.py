@@ -109,6 +109,18 @@ class Reason(enum.IntEnum):
     BAD_STATUS = 13
     NOT_PADDING = 14
     OTHER_LENGTH = 15
+    NO_STATE = 16
+    NEWER = 17
+    BAD_FLAG = 18
+    OTHER_LIMITS = 19
+    TOO_MANY = 20
+    NOT_OPEN = 21
+    OUT_OF_ORDER = 22
+    REPEATED = 23
+    TRAILING = 24
+    BAD_CHECKSUM = 25
+    BAD_KEY = 26
+    MOMENTS_FALL = 27
 
     @classmethod
     def _missing_(cls, value: object) -> Optional[Reason]:
@@ -135,7 +147,7 @@ class Error(Exception):
 
 class Refused(Error, ValueError):
     """Octets are refused: `place` is the first octet that cannot stand where it does, from 0, or the number of octets
-    where some are missing (`Reason.SHORT`)."""
+    where some are missing (`Reason.SHORT`). Of a saved state it is the first octet of what is wrong, or passes the end."""
 
     def __init__(self, place: int, reason: Reason):
         super().__init__(place, reason)

@@ -4,7 +4,7 @@ from __future__ import annotations
 
 import os
 import threading
-from ctypes import byref, c_size_t, c_uint8, c_uint32
+from ctypes import byref, c_size_t, c_uint8, c_uint32, c_uint64
 from dataclasses import dataclass
 from datetime import datetime, timedelta
 from typing import Iterator, NoReturn, Optional
@@ -64,22 +64,47 @@ class Gateway:
         pass_alone: bool = False,
         seed: Optional[int] = None,
     ):
+        limits = _limits(open_max, remembered, open_for, remember_for, pass_alone, seed)
         self._lock = threading.Lock()
         self._handle = raw.Gateway()
-        if seed is None:
-            seed = int.from_bytes(os.urandom(16), "little")
-        high, low = divmod(_number(seed, 0, 2**128 - 1, "a seed"), 2**64)
-        limits = raw.GatewayLimits(
-            _number(open_max, 1, _MOST, "a limit"),
-            _number(remembered, 1, _MOST, "a limit"),
-            _whole(open_for, 0),
-            0 if remember_for is None else _whole(remember_for, 1),
-            low,
-            high,
-            True,
-            bool(pass_alone),
-        )
+        self._taken = 0
         _raise(raw.lib.sms_gateway_open(byref(self._handle), byref(limits)))
+
+    @classmethod
+    def read(
+        cls,
+        octets: Octets,
+        open_max: int = 65536,
+        remembered: int = 65536,
+        *,
+        open_for: timedelta = timedelta(days=7),
+        remember_for: Optional[timedelta] = None,
+        pass_alone: bool = False,
+        seed: Optional[int] = None,
+    ) -> Gateway:
+        """The joiner that holds what was saved of one with these limits: it answers all that comes as that one would. Refused
+        where the octets are no such state. Nothing is forgotten till `age`; `text` is empty; the seed may be another."""
+        limits = _limits(open_max, remembered, open_for, remember_for, pass_alone, seed)
+        octets, taken, refused = _octets(octets), c_uint64(), raw.Refused()
+        gateway = cls.__new__(cls)
+        gateway._lock = threading.Lock()
+        gateway._handle = raw.Gateway()
+        given = byref(gateway._handle), byref(limits), octets, len(octets)
+        _raise(raw.lib.sms_gateway_read(*given, byref(taken), byref(refused)), refused)
+        gateway._taken = taken.value
+        return gateway
+
+    @property
+    def taken(self) -> int:
+        """The number that was saved beside what `read` gave back, and 0 of a joiner that was not read back."""
+        return self._taken
+
+    def save(self, taken: int = 0) -> bytes:
+        """All that it holds but `text`, for `read` at the next start, with a number of the caller's, which tells how much of
+        its input is in there."""
+        number = _number(taken, 0, 2**64 - 1, "a number of what was taken")
+        with self._lock:
+            return _answer(0, raw.lib.sms_gateway_save, byref(self._handle), number)
 
     def offer(self, recipient: Optional[str], octets: Octets, at: Optional[datetime] = None) -> Optional[str]:
         """Offers an SMS-DELIVER for a recipient that came at a moment (now, if none is given): the text where it finishes
@@ -249,6 +274,30 @@ class Gateway:
 def _text_of(recipient: Optional[str]) -> bytes:
     """The text of a recipient; empty where there is none."""
     return b"" if recipient is None else _utf8(recipient)
+
+
+def _limits(
+    open_max: int,
+    remembered: int,
+    open_for: timedelta,
+    remember_for: Optional[timedelta],
+    pass_alone: bool,
+    seed: Optional[int],
+) -> raw.GatewayLimits:
+    """How much a joiner keeps; a seed is drawn where there is none."""
+    if seed is None:
+        seed = int.from_bytes(os.urandom(16), "little")
+    high, low = divmod(_number(seed, 0, 2**128 - 1, "a seed"), 2**64)
+    return raw.GatewayLimits(
+        _number(open_max, 1, _MOST, "a limit"),
+        _number(remembered, 1, _MOST, "a limit"),
+        _whole(open_for, 0),
+        0 if remember_for is None else _whole(remember_for, 1),
+        low,
+        high,
+        True,
+        bool(pass_alone),
+    )
 
 
 def _whole(given: timedelta, least: int) -> int:

@@ -11,7 +11,7 @@ from typing import Any, Dict, List
 
 # The version of the header that these are the declarations of, the number of its interface, and the sizes that are
 # always enough.
-VERSION = 2_002_000
+VERSION = 2_003_000
 ABI = VERSION // 1_000_000
 TEXT_MAX, UNIT_MAX, PACKET_MAX, ADDRESS_TEXT_MAX = 480, 192, 258, 33
 # Of packets: CP-DATA and RP-DATA, CP-ACK and RP-ACK, CP-ERROR and RP-ERROR.
@@ -490,6 +490,8 @@ CALLS: Dict[str, List[Any]] = {
     "sms_gateway_would_finish_data": [_GATEWAY, POINTER(DataOffer), *_IN, *_IN, *_IN, POINTER(c_uint8), _REFUSED],
     "sms_gateway_text": [_GATEWAY, *_OUT],
     "sms_gateway_age": [_GATEWAY, c_uint64],
+    "sms_gateway_save": [_GATEWAY, c_uint64, *_OUT],
+    "sms_gateway_read": [_GATEWAY, POINTER(GatewayLimits), *_IN, POINTER(c_uint64), _REFUSED],
     "sms_gateway_count": [_GATEWAY, POINTER(c_size_t)],
     "sms_gateway_each": [_GATEWAY, POINTER(Cursor), POINTER(GatewayMessage)],
     "sms_gateway_origin": [_GATEWAY, c_uint64, *_OUT],
