@@ -8,7 +8,7 @@ use Rattle.sms_join.specs.declared.line.Opening.{Opening}
 use Rattle.sms_join.specs.OpenSets.{SetValue}
 use Rattle.sms_join.proofs.Turns.{turns_gone, turns_set}
 use Rattle.sms_join.specs.Inside.Turns.{AreBefore, AreApart, HaveTurns, has_turn}
-use Rattle.sms_join.specs.Inside.Lines.{AreAfter, Climbs, AreUnder, AreFrom, Splits, IsNoted, HasNumber, noted, noted_at, has_number, lies, AreNoted, InLine, AreInTime}
+use Rattle.sms_join.specs.Inside.Lines.{AreAfter, Climbs, AreUnder, AreFrom, Splits, IsNoted, noted, noted_at, has_number, lies, AreNoted, InLine, AreInTime}
 
 -- the opening of a set that lies at an index
 abbrev pub opening : SetValue → ℕ → Opening
@@ -138,40 +138,30 @@ own_at n i j [] m = absurd m
 own_at n i j (p ∷ ps) (inl e) = inl (ap (λ (b : Bool). cond b (record { turn = n; index = i }) p) (eq-eqb p.turn n (ap (λ (q : Opening). q.turn) e)))
 own_at n i j (p ∷ ps) (inr m) = inr (own_at n i j ps m)
 
--- writing to the place of a number notes it
+pub after_got : (n : ℕ) (os : List Opening) (p : ℕ) (o : Opening) → AreAfter n os → slice_get os p ≡ Some o → n < o.turn
+after_got n [] p o h e = absurd cc
+after_got n (x ∷ os) zero o h e = let same : x ≡ o = cc in subst (λ (q : Opening). n < q.turn) same h.0
+after_got n (x ∷ os) (suc p) o h e = after_got n os p o h.1 e
+
+-- writing to the place of an opening notes it
 none_noted : (n i m : ℕ) (os : List Opening) → n ≤ m → AreAfter m os → noted n i os ≡ os
 none_noted n i m [] l h = refl
 none_noted n i m (o ∷ os) l h =
     let a = h.0 in
     rw (ne_eqb o.turn n (λ e. omega arith), none_noted n i m os l h.1) refl
 
-pub record Written (n i p : ℕ) (os : List Opening) : Type 0 where
-  pub within : p < length os
-  pub is : (o : Opening) → o ≡ get_or os p o → set os p (record { turn = o.turn; index = i }) ≡ noted n i os
-
-pub written : (n i p : ℕ) (os : List Opening) → Climbs os → Splits n p os → HasNumber n os → Written n i p os
-written n i p [] h s m = absurd m.1
-written n i zero (o ∷ os) h s m = record { within = omega arith; is = λ q e. ap (λ (r : Opening). record { turn = r.turn; index = i } ∷ os) e ∙ here }
-  where
-    first : o.turn ≡ n
-    first = elim m.1 [
-      | inl e ↦ ap (λ (q : Opening). q.turn) e
-      | inr b ↦ (let l = after_noted o.turn os (record { turn = n; index = m.0 }) h.0 b in let k = s.0 in absurd (omega arith))
-    ]
-
-    here : record { turn = o.turn; index = i } ∷ os ≡ noted n i (o ∷ os)
-    here = rw (eq-eqb o.turn n first, none_noted n i o.turn os (omega (arith, first)) h.0, first) refl
-written n i (suc p) (o ∷ os) h s m =
-    let later : HasNumber n os = elim m.1 [
-      | inl e ↦ (let k = s.0 in let f = ap (λ (q : Opening). q.turn) e in absurd (omega arith))
-      | inr b ↦ (m.0, b)
-    ] in
-    let w = written n i p os h.1 s.1 later in
-    let k = s.0 in
-    record {
-      within = let l = w.within in omega arith;
-      is = λ q e. ap (λ l. o ∷ l) (w.is q e) ∙ ap (λ (b : Bool). cond b (record { turn = n; index = i }) o ∷ noted n i os) (sym (ne_eqb o.turn n (λ f. omega arith)));
-    }
+pub written : (i p : ℕ) (os : List Opening) (o q : Opening) → Climbs os → slice_get os p ≡ Some o → q ≡ get_or os p q → set os p (record { turn = q.turn; index = i }) ≡ noted o.turn i os
+written i p [] o q h there e = absurd cc
+written i zero (x ∷ os) o q h there e =
+    let same : x ≡ o = cc in
+    let turn : x.turn ≡ o.turn = ap (λ (r : Opening). r.turn) same in
+    ap (λ (r : Opening). record { turn = r.turn; index = i } ∷ os) (e ∙ same)
+    ∙ (ap (λ l. record { turn = o.turn; index = i } ∷ l) (sym (none_noted o.turn i x.turn os (omega (arith, turn)) h.0))
+    ∙ ap (λ (b : Bool). cond b (record { turn = o.turn; index = i }) x ∷ noted o.turn i os) (sym (eq-eqb x.turn o.turn turn)))
+written i (suc p) (x ∷ os) o q h there e =
+    let less : x.turn < o.turn = after_got x.turn os p o h.0 there in
+    ap (λ l. x ∷ l) (written i p os o q h.1 there e)
+    ∙ ap (λ (b : Bool). cond b (record { turn = o.turn; index = i }) x ∷ noted o.turn i os) (sym (ne_eqb x.turn o.turn (λ f. omega arith)))
 
 -- ---- a set goes, and the last one takes its place
 
@@ -216,19 +206,19 @@ got_none (x ∷ xs) zero e = absurd cc
 got_none (x ∷ xs) (suc i) e = let l = got_none xs i e in omega arith
 
 -- where a set comes from
-pub record Comes (ss : List SetValue) (i j : ℕ) (t : SetValue) : Type 0 where
+pub record Comes {X : Type 0} (ss : List X) (i j : ℕ) (t : X) : Type 0 where
   pub from : ℕ
   pub there : slice_get ss from ≡ Some t
   pub within : suc j < length ss
   pub place : ((j ≡ i) × (suc from ≡ length ss)) ⊎ ((j ≢ i) × (from ≡ j) × (suc j < length ss))
 
-pub comes : (ss : List SetValue) (i j : ℕ) (s t : SetValue) → i < length ss → slice_get (swap_remove ss i s) j ≡ Some t → Comes ss i j t
+pub comes : {X : Type 0} (ss : List X) (i j : ℕ) (s t : X) → i < length ss → slice_get (swap_remove ss i s) j ≡ Some t → Comes ss i j t
 comes ss i j s t l e =
     let h = taken (length ss - 1) j (set ss i (get_or ss (length ss - 1) s)) t e in
     elim (put_at ss i j (get_or ss (length ss - 1) s) t h.1) [
       | inl p ↦ record {
         from = length ss - 1;
-        there = last_got ss (length ss - 1) s (omega arith) ∙ ap (λ (v : SetValue). Some v) p.1;
+        there = last_got ss (length ss - 1) s (omega arith) ∙ ap (λ v. Some v) p.1;
         within = let k = h.0 in omega arith;
         place = inl (p.0, omega arith);
       }
@@ -299,10 +289,6 @@ line_dropped t ss i s os there h =
       turns = turns_gone t ss i s there l h.turns;
     }
 
--- the set that moves is noted
-pub moved_noted : (t : ℕ) (ss : List SetValue) (i : ℕ) (s m : SetValue) (os : List Opening) → i < length ss → InLine t os ss → slice_get (swap_remove ss i s) i ≡ Some m → HasNumber m.turn os
-moved_noted t ss i s m os l h e = let c = comes ss i i s m l e in (c.from, h.each c.from m c.there tt)
-
 drop_at : (n i p : ℕ) (os : List Opening) → drop p (noted n i os) ≡ noted n i (drop p os)
 drop_at n i zero os = refl
 drop_at n i (suc p) [] = refl
@@ -367,6 +353,14 @@ line_kept t os ss h = record {
   each = λ i s there a. kept_noted (lies ss) os (opening s i) (h.each i s there a) (lies_there ss i s there);
   turns = h.turns;
 }
+
+pub kept_few : (t : Opening → Bool) (os : List Opening) → length (filter t os) ≤ length os
+kept_few t [] = omega arith
+kept_few t (o ∷ os) = go (t o) (kept_few t os)
+  where
+    go : (b : Bool) → length (filter t os) ≤ length os → length (cond b (o ∷ filter t os) (filter t os)) ≤ suc (length os)
+    go true l = omega arith
+    go false l = omega arith
 
 -- ---- a piece comes
 

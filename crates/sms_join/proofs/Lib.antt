@@ -58,6 +58,8 @@ pub mod Keeping
 pub mod Told
 pub mod Order
 pub mod InLine
+pub mod Seats
+pub mod SeatsTaken
 pub mod OldDropped
 pub mod Passing
 pub mod Telling
@@ -69,3 +71,4 @@ pub mod OwnParts
 pub mod WithoutRecipients
 pub mod Gateways
 pub mod Recalled
+mod Under

@@ -11,7 +11,7 @@ use Rattle.sms_join.specs.declared.units.Units.{Units}
 use Rattle.sms_join.specs.Key.{same_key, maximum_of}
 use Rattle.sms_join.specs.OpenSets.{SetValue, has_set, is_in, units_for, place_of, with_piece}
 use Rattle.sms_join.specs.Joiner.Finishing.{lacks_only}
-use Rattle.sms_join.specs.OpenSets.Places.{filled, filled_from}
+use Rattle.sms_join.specs.OpenSets.Places.{filled, filled_from, set_by}
 use Rattle.sms_join.specs.Inside.Slots.{SlotValue, At, HasPlace, AreSlots, key_eq, filled_with, first_places, set_of, sets_of}
 use Rattle.sms_join.proofs.Same.{key_turned}
 
@@ -157,14 +157,14 @@ many_places (suc m) = ap suc (many_places m)
 -- ---- sets
 
 pub set_more : (k : Key) (opened turn n : ℕ) (ps : List (Option Units)) (u : Units) → 0 < n → n ≤ length ps → is_in n (filled_from 1 ps) ≡ false
-    → set_of (k, record { opened = opened; turn = turn; places = set ps (n - 1) (Some u) }) ≡ with_piece (set_of (k, record { opened = opened; turn = turn; places = ps })) n u
+    → set_by k opened turn (set ps (n - 1) (Some u)) ≡ with_piece (set_by k opened turn ps) n u
 set_more k opened turn n ps u a b h =
     let s = sequences_more 1 n ps (n - 1) u (omega arith) (omega arith) h in
     let t = units_more 1 n ps (n - 1) u (omega arith) (omega arith) h in
     λ i. record { key = k; opened = opened; turn = turn; sequences = s i; units = t i }
 
 pub set_first : (k : Key) (opened turn n m : ℕ) (u : Units) → 0 < n → n ≤ m
-    → set_of (k, record { opened = opened; turn = turn; places = first_places m n u }) ≡ record { key = k; opened = opened; turn = turn; sequences = n ∷ []; units = u ∷ [] }
+    → set_by k opened turn (first_places m n u) ≡ record { key = k; opened = opened; turn = turn; sequences = n ∷ []; units = u ∷ [] }
 set_first k opened turn n m u a b =
     let s = first_sequence 1 n m (n - 1) u (omega arith) (omega arith) in
     let t = first_units m (n - 1) u (omega arith) in

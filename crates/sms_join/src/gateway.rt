@@ -2,7 +2,7 @@
 
 mod putting_back;
 
-ghost use Rattle.std.specs.Prelude.{◌≡◌, ℕ, ◌<◌, ◌≤◌, [], length, option_copied, true, IfOk, OnOk, OnErr};
+ghost use Rattle.std.specs.Prelude.{◌≡◌, ℕ, ◌<◌, ◌≤◌, ◌-◌, ◌^◌, [], length, option_copied, true, IfOk, OnOk, OnErr};
 ghost use Rattle.sms_join.specs.declared.units.Units.{Units as TheUnits};
 ghost use Rattle.sms_join.specs.Piece.{piece_to};
 ghost use Rattle.sms_tpdu.specs.UserData.ConcatenationFound.{IsPlace};
@@ -16,7 +16,7 @@ ghost use Rattle.sms_join.specs.Gateway.Finishings.{finishings_at, Fall};
 ghost use Rattle.sms_join.specs.Gateway.Remembered.{IsRememberedAt};
 ghost use Rattle.sms_join.specs.OpenSets.{all_pieces, AreOpen};
 ghost use Rattle.sms_join.specs.OpenSets.Offered.{TellsOffer};
-ghost use Rattle.sms_join.specs.OpenSets.Told.{first_from, old_after, young_after, RiseInTurn};
+ghost use Rattle.sms_join.specs.OpenSets.Told.{first_from, old_after, young_after, AreUnder, RiseInTurn};
 
 use crate::age::Age;
 use crate::finishings::{forget_by, note_answer};
@@ -181,13 +181,16 @@ impl Gateway {
         answer
     }
 
-    /// How many sets are open, of all recipients: never more than may be.
+    /// How many sets are open, of all recipients: never more than may be. There is a number after
+    /// that of each opening.
     pub fn open_count(&self) -> usize
         ensures count { result ≡ open_sets self.now.holds.kept }
         ensures few { result ≤ self.now.limits.open_max }
         ensures told { result ≡ length self.now.told }
+        ensures turns { AreUnder (2 ^ 64 - 1) self.now.told }
     {
         self.keeper.have_kept();
+        self.keeper.have_numbers();
         self.keeper.open_count()
     }
 

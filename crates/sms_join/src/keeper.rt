@@ -2,7 +2,7 @@
 
 mod putting_back;
 
-ghost use Rattle.std.specs.Prelude.{◌≡◌, ℕ, ◌<◌, ◌≤◌, Bool, false, [], ◌∷◌, take, slice_get, option_copied, IfOk, OnOk, OnErr};
+ghost use Rattle.std.specs.Prelude.{◌≡◌, ℕ, ◌<◌, ◌≤◌, ◌-◌, ◌^◌, Bool, false, [], ◌∷◌, take, slice_get, option_copied, IfOk, OnOk, OnErr};
 ghost use Rattle.sms_join.specs.declared.units.Units.{Units as TheUnits};
 ghost use Rattle.sms_join.specs.Joiner.Finishing.{would_finish};
 ghost use Rattle.sms_join.specs.Piece.{piece_to, key_to};
@@ -13,7 +13,7 @@ ghost use Rattle.sms_join.specs.Joiner.Value.{SameLimits};
 ghost use Rattle.sms_join.specs.Joiner.Same.{IsSame};
 ghost use Rattle.sms_join.specs.Joiner.Offering.{Says, SaysAnswer};
 ghost use Rattle.sms_join.specs.OpenSets.Offered.{TellsOffer};
-ghost use Rattle.sms_join.specs.OpenSets.Told.{first_from};
+ghost use Rattle.sms_join.specs.OpenSets.Told.{first_from, AreUnder};
 ghost use Rattle.sms_join.specs.Inside.Ages.{old_of, young_of};
 ghost use Rattle.sms_join.specs.Inside.Keeping.{IsKept};
 ghost use Rattle.sms_join.specs.Inside.Turns.{arranged};
@@ -92,6 +92,13 @@ impl Keeper {
         ensures { IsKept self.now }
     {
         self.sets.have_turns();
+    }
+
+    /// That there is a number after that of each opening. It does nothing.
+    pub(crate) fn have_numbers(&self)
+        ensures { AreUnder (2 ^ 64 - 1) (arranged self.now.told) }
+    {
+        self.sets.have_numbers();
     }
 
     /// As `Joiner::offer` says.

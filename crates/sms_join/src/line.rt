@@ -1,9 +1,10 @@
 //! The line of openings, in which open sets are found in the order in which they were opened.
 
-ghost use Rattle.std.specs.Prelude.{◌≡◌, ◌<◌, ◌≤◌, ℕ, nat_lt, true, false, length, drop, slice_get, Some, IfSome};
+ghost use Rattle.std.specs.Prelude.{◌≡◌, ◌<◌, ◌≤◌, ◌+◌, ℕ, nat_lt, true, false, length, drop, slice_get, Some, IfSome};
+ghost use Rattle.std.specs.List.{filter};
 ghost use Rattle.sms_join.specs.declared.line.Opening.{Opening as TheOpening};
-ghost use Rattle.sms_join.specs.Inside.Slots.{sets_of};
-ghost use Rattle.sms_join.specs.Inside.Lines.{Climbs, Splits, HasNumber, noted, lies, walked, walked_at, InLine};
+ghost use Rattle.sms_join.specs.Inside.Slots.{AreSlots, sets_of};
+ghost use Rattle.sms_join.specs.Inside.Lines.{Climbs, Splits, noted, lies, walked, walked_at, InLine, AreSeated};
 
 use crate::hashing::Hashing;
 use crate::key::Key;
@@ -34,13 +35,13 @@ pub(crate) fn place_from(line: &VecDeque<Opening>, turn: u64) -> usize
     )
 }
 
-/// Notes that the set of an opening lies at another index.
-pub(crate) fn note(line: &mut VecDeque<Opening>, turn: u64, index: usize)
+/// Notes that the set of the opening at this place lies at another index.
+pub(crate) fn note(line: &mut VecDeque<Opening>, place: usize, index: usize)
     requires climbs { Climbs line.old.items }
-    requires there { HasNumber turn line.old.items }
-    ensures { line.new.items ≡ noted turn index line.old.items }
+    requires there { place < length line.old.items }
+    ensures { (opening : TheOpening) → slice_get line.old.items place ≡ Some opening
+        → line.new.items ≡ noted opening.turn index line.old.items }
 {
-    let place = place_from(line, turn);
     line[place].index = index;
 }
 
@@ -75,20 +76,55 @@ pub(crate) fn first_place(
     None
 }
 
-/// Forgets the openings whose sets have gone, where they are more than half, and gives their room
-/// back. That takes as long as the openings need which have come since the last time.
-pub(crate) fn tidy(line: &mut VecDeque<Opening>, slots: &IndexMap<Key, Slot, Hashing>)
-    ensures { (t : ℕ) → InLine t line.old.items (sets_of slots.now.entries)
-        → InLine t line.new.items (sets_of slots.now.entries) }
+/// Has each set take the seat at which its opening stands, where the first one stands at 0.
+fn take_seats(slots: &mut IndexMap<Key, Slot, Hashing>, line: &VecDeque<Opening>)
+    ensures sets { sets_of slots.new.entries ≡ sets_of slots.old.entries }
+    ensures slots { AreSlots slots.old.entries → AreSlots slots.new.entries }
+    ensures seats { (t : ℕ) → InLine t line.now.items (sets_of slots.old.entries)
+        → AreSeated 0 line.now.items slots.new.entries }
 {
-    let few = (2 * slots.len()).max(FEW_OPENINGS);
-    if line.len() <= few {
-        return;
+    for seat in 0..line.len() {
+        let opening = line[seat];
+        if lies(slots, opening) {
+            slots[opening.index].take_seat(seat);
+        }
     }
+}
+
+/// Forgets the openings whose sets have gone.
+fn forget_gone(line: &mut VecDeque<Opening>, slots: &IndexMap<Key, Slot, Hashing>)
+    ensures { line.new.items ≡ filter (lies (sets_of slots.now.entries)) line.old.items }
+{
     line.retain(
         |opening: &Opening| -> bool
             ensures { result ≡ lies (sets_of slots.entry.now.entries) opening.now }
         { lies(slots, *opening) },
     );
+}
+
+/// Forgets the openings whose sets have gone, where they are more than half, gives their room back,
+/// and says at which seat the first one stands from then on. That takes as long as the openings
+/// need which have come since the last time.
+pub(crate) fn tidy(
+    line: &mut VecDeque<Opening>,
+    slots: &mut IndexMap<Key, Slot, Hashing>,
+    front: usize,
+) -> usize
+    ensures sets { sets_of slots.new.entries ≡ sets_of slots.old.entries }
+    ensures slots { AreSlots slots.old.entries → AreSlots slots.new.entries }
+    ensures line { (t : ℕ) → InLine t line.old.items (sets_of slots.old.entries)
+        → InLine t line.new.items (sets_of slots.new.entries) }
+    ensures seats { (t : ℕ) → InLine t line.old.items (sets_of slots.old.entries)
+        → AreSeated front line.old.items slots.old.entries
+        → AreSeated result line.new.items slots.new.entries }
+    ensures end { result + length line.new.items ≤ front + length line.old.items }
+{
+    let few = (2 * slots.len()).max(FEW_OPENINGS);
+    if line.len() <= few {
+        return front;
+    }
+    forget_gone(line, slots);
     line.shrink_to(few);
+    take_seats(slots, line);
+    0
 }

@@ -2,7 +2,7 @@
 
 mod opening;
 
-ghost use Rattle.std.specs.Prelude.{◌≡◌, ℕ, suc, ◌<◌, ◌≤◌, [], ◌==◌, length, option_copied, position, slice_get, true, false, IfOk};
+ghost use Rattle.std.specs.Prelude.{◌≡◌, ℕ, suc, ◌<◌, ◌≤◌, ◌-◌, ◌^◌, [], ◌==◌, length, option_copied, position, slice_get, true, false, IfOk};
 ghost use Rattle.std.proofs.Math.ListN.{set};
 ghost use Rattle.std.specs.List.{swap_remove};
 ghost use Rattle.std.specs.Str.{chars};
@@ -19,7 +19,7 @@ ghost use Rattle.sms_join.specs.Inside.Turns.{AreBefore, HaveTurns, arranged};
 ghost use Rattle.sms_join.specs.Inside.Lines.{InLine, AreInTime, noted_at};
 ghost use Rattle.sms_join.specs.Inside.Ages.{old_of};
 ghost use Rattle.sms_join.specs.Inside.Dropping.{DropsOld};
-ghost use Rattle.sms_join.specs.OpenSets.Told.{first_from};
+ghost use Rattle.sms_join.specs.OpenSets.Told.{first_from, AreUnder};
 
 use crate::age::Age;
 use crate::dropping::{drop_at, drop_old};
@@ -47,6 +47,8 @@ pub(crate) struct OpenSets {
     most: usize,
     /// The openings of the sets, and some whose sets have gone.
     line: VecDeque<Opening>,
+    /// At which seat the first of them stands. The others have the seats that follow.
+    front: usize,
     /// How many openings there have been.
     turns: u64,
     /// The moment of the last of them.
@@ -58,11 +60,11 @@ pub(crate) struct OpenSets {
 }
 
 impl Model for OpenSets {
-    ghost use Rattle.std.specs.Prelude.{◌≡◌, List, length, true};
+    ghost use Rattle.std.specs.Prelude.{◌≡◌, ◌+◌, ◌≤◌, List, length, true};
     ghost use Rattle.sms_join.specs.OpenSets.{SetValue};
     ghost use Rattle.sms_join.specs.Inside.MostSets.{Follows};
     ghost use Rattle.sms_join.specs.Inside.Slots.{AreSlots, sets_of};
-    ghost use Rattle.sms_join.specs.Inside.Lines.{InLine, AreInTime, AreSince};
+    ghost use Rattle.sms_join.specs.Inside.Lines.{InLine, AreInTime, AreSince, AreSeated};
 
     ghost Value = { List SetValue };
 
@@ -71,7 +73,9 @@ impl Model for OpenSets {
     ghost invariant = { λ o. AreSlots o.slots.entries × Follows (length o.slots.entries) o.most
         × InLine o.turns o.line.items (sets_of o.slots.entries)
         × (o.in_time ≡ true → AreInTime o.latest (sets_of o.slots.entries))
-        × AreSince o.earliest (sets_of o.slots.entries) };
+        × AreSince o.earliest (sets_of o.slots.entries)
+        × AreSeated o.front o.line.items o.slots.entries
+        × (o.front + length o.line.items ≤ o.turns) };
 }
 
 impl OpenSets {
@@ -83,6 +87,7 @@ impl OpenSets {
             slots: IndexMap::with_hasher(alloc, hashing),
             most: 0,
             line: VecDeque::new(alloc),
+            front: 0,
             turns: 0,
             latest: 0,
             in_time: true,
@@ -102,6 +107,13 @@ impl OpenSets {
         ensures { AreBefore result self.now }
     {
         self.turns
+    }
+
+    /// That there is a number after that of each opening. It does nothing.
+    pub(crate) fn have_numbers(&self)
+        ensures { AreUnder (2 ^ 64 - 1) (arranged self.now) }
+    {
+        let _turns = self.openings();
     }
 
     /// How many there are.
@@ -182,9 +194,9 @@ impl OpenSets {
         requires { index < length self.old }
         ensures { At self.old index (λ set. self.new ≡ swap_remove self.old index set) }
     {
-        drop_at(&mut self.slots, &mut self.line, index);
+        drop_at(&mut self.slots, &mut self.line, self.front, index);
         self.most = give_room_back(&mut self.slots, self.most);
-        tidy(&mut self.line, &self.slots);
+        self.front = tidy(&mut self.line, &mut self.slots, self.front);
     }
 
     /// All of them, in order of opening.
@@ -230,9 +242,15 @@ impl OpenSets {
         if !age.is_past(self.earliest) {
             return;
         }
-        drop_old(&mut self.slots, &mut self.line, age, self.in_time);
+        self.front = drop_old(
+            &mut self.slots,
+            &mut self.line,
+            self.front,
+            age,
+            self.in_time,
+        );
         self.earliest = earliest_left(self.in_time, self.earliest, &self.slots);
         self.most = give_room_back(&mut self.slots, self.most);
-        tidy(&mut self.line, &self.slots);
+        self.front = tidy(&mut self.line, &mut self.slots, self.front);
     }
 }

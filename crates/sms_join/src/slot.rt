@@ -22,6 +22,8 @@ pub(crate) struct Slot {
     opened: u64,
     /// How many sets had been opened before.
     turn: u64,
+    /// At which seat of the line its opening stands.
+    seat: usize,
     /// How many places are filled.
     filled: usize,
     places: Vec<Option<Units>>,
@@ -34,7 +36,12 @@ impl Model for Slot {
 
     ghost Value = { SlotValue };
 
-    ghost view = { λ s. record { opened = s.opened; turn = s.turn; places = s.places.items } };
+    ghost view = { λ s. record {
+      opened = s.opened;
+      turn = s.turn;
+      seat = s.seat;
+      places = s.places.items;
+    } };
 
     ghost invariant = { λ s. s.filled ≡ length (come s.places.items) };
 }
@@ -81,13 +88,25 @@ pub(crate) fn count_filled(places: &[Option<Units>]) -> usize
 
 impl Slot {
     /// The set of these places, of which so many are filled.
-    pub(crate) fn new(opened: u64, turn: u64, count: usize, places: Vec<Option<Units>>) -> Slot
+    pub(crate) fn new(
+        opened: u64,
+        turn: u64,
+        seat: usize,
+        count: usize,
+        places: Vec<Option<Units>>,
+    ) -> Slot
         requires { count ≡ length (filled places.items) }
-        ensures { result ≡ record { opened = opened; turn = turn; places = places.items } }
+        ensures { result ≡ record {
+          opened = opened;
+          turn = turn;
+          seat = seat;
+          places = places.items;
+        } }
     {
         Slot {
             opened,
             turn,
+            seat,
             filled: count,
             places,
         }
@@ -105,6 +124,20 @@ impl Slot {
         ensures { result ≡ self.now.turn }
     {
         self.turn
+    }
+
+    /// At which seat of the line its opening stands.
+    pub(crate) fn seat(&self) -> usize
+        ensures { result ≡ self.now.seat }
+    {
+        self.seat
+    }
+
+    /// Its opening stands at this seat from now on.
+    pub(crate) fn take_seat(&mut self, seat: usize)
+        ensures { self.new ≡ record self.old { seat = seat } }
+    {
+        self.seat = seat;
     }
 
     /// When it was opened.

@@ -1,9 +1,11 @@
 -- A reader may pass this by: contracts of private functions, and proofs, alone cite it.
 --
 -- The line of openings in which open sets are found in the order in which they were opened.
-use Rattle.std.specs.Prelude.{◌≡◌, ℕ, zero, suc, ◌<◌, ◌≤◌, ◌⊎◌, Bool, false, if◌then◌else◌, ◌==◌, List, [], ◌∷◌, drop, slice_get, Option, None, Some}
+use Rattle.std.specs.Prelude.{◌≡◌, ℕ, zero, suc, ◌-◌, ◌<◌, ◌≤◌, ◌⊎◌, Bool, false, if◌then◌else◌, ◌==◌, List, [], ◌∷◌, drop, slice_get, Option, None, Some}
+use Rattle.sms_join.specs.declared.key.Key.{Key}
 use Rattle.sms_join.specs.declared.line.Opening.{Opening}
 use Rattle.sms_join.specs.OpenSets.{SetValue}
+use Rattle.sms_join.specs.Inside.Slots.{SlotValue}
 use Rattle.sms_join.specs.Inside.Turns.{HaveTurns}
 
 -- Each opening came after that of this number.
@@ -35,10 +37,6 @@ Splits n (suc p) (o ∷ os) = (o.turn < n) × Splits n p os
 abbrev pub IsNoted : Opening → List Opening → Type 0
 IsNoted o [] = ⊥
 IsNoted o (p ∷ ps) = (p ≡ o) ⊎ IsNoted o ps
-
--- The opening of this number is there.
-abbrev pub HasNumber : ℕ → List Opening → Type 0
-HasNumber n os = (i : ℕ) × IsNoted (record { turn = n; index = i }) os
 
 -- For the opening of this number, the set lies at this index.
 abbrev pub noted : ℕ → ℕ → List Opening → List Opening
@@ -85,6 +83,13 @@ pub record InLine (t : ℕ) (os : List Opening) (ss : List SetValue) : Type 0 wh
   pub under : AreUnder t os
   pub each : AreNoted (λ s. Unit {0}) ss os
   pub turns : HaveTurns t ss
+
+-- The opening of each set stands in the line at the seat that the set has, and says at which index the set lies. The first opening
+-- stands at this seat, and those after it at the seats that follow.
+abbrev pub AreSeated : ℕ → List Opening → List (Key × SlotValue) → Type 0
+AreSeated front os es =
+    (i : ℕ) (e : Key × SlotValue) → slice_get es i ≡ Some e
+    → (front ≤ e.1.seat) × (slice_get os (e.1.seat - front) ≡ Some (record { turn = e.1.turn; index = i }))
 
 -- No set was opened at an earlier moment than one before it, and none after this moment.
 pub record AreInTime (latest : ℕ) (ss : List SetValue) : Type 0 where

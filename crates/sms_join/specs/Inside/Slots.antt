@@ -14,11 +14,12 @@ use Rattle.sms_join.specs.OpenSets.Places.{set_by}
 abbrev pub key_eq : Key → Key → Bool
 key_eq = (derived.ghosts).eq
 
--- the moment of the set's first piece; the number of its opening; and at each place, of which the first is that of sequence 1,
--- the units of the piece that has come
+-- the moment of the set's first piece; the number of its opening, and at which seat of the line that stands; and at each place, of
+-- which the first is that of sequence 1, the units of the piece that has come
 pub record SlotValue : Type 0 where
   pub opened : ℕ
   pub turn : ℕ
+  pub seat : ℕ
   pub places : List (Option Units)
 
 -- the units at each place, and these where none have come

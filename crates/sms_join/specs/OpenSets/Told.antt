@@ -15,6 +15,11 @@ abbrev pub RiseInTurn : List SetValue → Type 0
 RiseInTurn [] = Unit {0}
 RiseInTurn (s ∷ ss) = AreAbove s.turn ss × RiseInTurn ss
 
+-- Each was opened by an opening of a number below this one.
+abbrev pub AreUnder : ℕ → List SetValue → Type 0
+AreUnder n [] = Unit {0}
+AreUnder n (s ∷ ss) = (s.turn < n) × AreUnder n ss
+
 -- Each is of this recipient, or of none.
 abbrev pub AreFor : Option AddressValue → List SetValue → Type 0
 AreFor r [] = Unit {0}

@@ -84,10 +84,12 @@ impl OpenSets {
         let turn = self.turns;
         let index = self.slots.len();
         let next = next_turn(turn)?;
-        tidy(&mut self.line, &self.slots);
+        self.front = tidy(&mut self.line, &mut self.slots, self.front);
+        let seat = self.front + self.line.len();
         self.line.push_back(Opening { turn, index })?;
         self.turns = next;
-        self.slots.insert(key, Slot::new(now, turn, count, places))?;
+        self.slots
+            .insert(key, Slot::new(now, turn, seat, count, places))?;
         self.most = self.slots.len().max(self.most);
         self.in_time = index == 0 || (self.in_time && self.latest <= now);
         self.latest = now;

@@ -1,10 +1,10 @@
-use Rattle.std.proofs.Common.{◌≡◌, ℕ, ◌<◌, List, length, slice_get, Some, Option, sym, ap, ◌∙◌, subst}
+use Rattle.std.proofs.Common.{◌≡◌, ℕ, ◌-◌, ◌<◌, ◌≤◌, List, length, Option, sym, ap, ◌∙◌, subst}
 use Rattle.std.specs.List.{swap_remove}
 use Rattle.sms_join.specs.declared.key.Key.{Key}
 use Rattle.sms_join.specs.OpenSets.{SetValue}
-use Rattle.sms_join.specs.Inside.Slots.{SlotValue, At, AreSlots, set_of, sets_of}
-use Rattle.sms_join.specs.Inside.Lines.{HasNumber, noted, noted_at}
-use Rattle.sms_join.proofs.InLine.{moved_noted}
+use Rattle.sms_join.specs.Inside.Slots.{SlotValue, At, AreSlots, sets_of}
+use Rattle.sms_join.specs.Inside.Lines.{noted_at}
+use Rattle.sms_join.proofs.Seats.{Moves, moves, moved_noted, seats_gone}
 use Rattle.sms_join.proofs.Slots.{sets_length, sets_none, sets_some, sets_swapped, slots_swapped, Dropped, dropped}
 use Rattle.sms_join.proofs.dropping.drop_at.Goals as goal
 
@@ -17,22 +17,22 @@ all_swapped es fs i d = λ s there. ap sets_of d.is ∙ sets_swapped es i d.own 
 all_slots : (es fs : List (Key × SlotValue)) (i : ℕ) → AreSlots es → Dropped es i fs → AreSlots fs
 all_slots es fs i h d = subst AreSlots (sym d.is) (slots_swapped es i d.own h d.there)
 
-gone : (c : goal.After-turn) → Dropped c.args.slots.now.entries c.args.index c.swap_remove_index-dropped.new.self.entries
+gone : (c : goal.After-seat) → Dropped c.args.slots.now.entries c.args.index c.swap_remove_index-dropped.new.self.entries
 gone c =
     dropped c.args.slots.now.entries c.swap_remove_index-dropped.new.self.entries c.args.index c.swap_remove_index-dropped.result
     c.swap_remove_index-dropped.ensures.entry (within c.args.slots.now.entries c.args.index c.requires.there) c.swap_remove_index-dropped.ensures.entries
 
+-- where the set that moves was, and at which seat its opening stands
+moved : (c : goal.After-seat) → Moves c.args.front c.args.line.now.items (c.in-Some.field-0-0.now, c.in-Some.moved.now)
+moved c =
+    moves c.args.front c.args.slots.now.entries c.swap_remove_index-dropped.new.self.entries c.args.index (c.in-Some.field-0-0.now, c.in-Some.moved.now) c.args.line.now.items
+    (within c.args.slots.now.entries c.args.index c.requires.there) (gone c) c.requires.seats (sym c.in-Some.ensures.entry)
+
 pub note-requires-clause-there : goal.note-requires-clause-there
-note-requires-clause-there c =
-    let d = gone c in
-    let es : List (Key × SlotValue) = c.args.slots.now.entries in
-    let m : slice_get (sets_of c.swap_remove_index-dropped.new.self.entries) c.args.index ≡ Some (set_of (c.in-Some.field-0-0.now, c.in-Some.moved.now)) =
-    sets_some c.swap_remove_index-dropped.new.self.entries c.args.index (c.in-Some.field-0-0.now, c.in-Some.moved.now) (sym c.in-Some.ensures.entry) in
-    let is : sets_of c.swap_remove_index-dropped.new.self.entries ≡ swap_remove (sets_of es) c.args.index (set_of d.own) =
-    all_swapped es c.swap_remove_index-dropped.new.self.entries c.args.index d (set_of d.own) (sets_some es c.args.index d.own d.there) in
-    subst (λ (n : ℕ). HasNumber n c.args.line.now.items) (sym c.turn.ensures)
-    (moved_noted c.requires.line.0 (sets_of es) c.args.index (set_of d.own) (set_of (c.in-Some.field-0-0.now, c.in-Some.moved.now)) c.args.line.now.items c.requires.there c.requires.line.1
-    (subst (λ (l : List SetValue). slice_get l c.args.index ≡ Some (set_of (c.in-Some.field-0-0.now, c.in-Some.moved.now))) is m))
+note-requires-clause-there c = subst (λ (n : ℕ). n - c.args.front < length c.args.line.now.items) (sym c.seat.ensures) (moved c).within
+
+pub overflow_sub-seat : goal.overflow_sub-seat
+overflow_sub-seat c = subst (λ (n : ℕ). c.args.front ≤ n) (sym c.seat.ensures) (moved c).seated.0
 
 pub note-requires-clause-climbs : goal.note-requires-clause-climbs
 note-requires-clause-climbs c = c.requires.line.1.climbs
@@ -50,10 +50,16 @@ returns-in-Some-clause-sets c = all_swapped c.args.slots.now.entries c.swap_remo
 
 pub returns-in-Some-clause-line : goal.returns-in-Some-clause-line
 returns-in-Some-clause-line c =
-    c.note.ensures
-    ∙ (ap (λ (n : ℕ). noted n c.args.index c.args.line.now.items) c.turn.ensures
+    let m = moves c.args.front c.args.slots.now.entries c.swap_remove_index-dropped.new.self.entries c.args.index (c.in-Some.field-0-0.now, c.in-Some.moved.now) c.args.line.now.items
+    (within c.args.slots.now.entries c.args.index c.requires.there) (gone-2 c) c.requires.seats (sym c.in-Some.ensures.entry) in
+    moved_noted c.args.front c.args.index c.seat.result c.args.line.now.items c.note.new.line.items (c.in-Some.field-0-0.now, c.in-Some.moved.now) m c.seat.ensures c.note.ensures
     ∙ sym (ap (λ (r : Option SetValue). noted_at r c.args.index c.args.line.now.items)
-    (sets_some c.swap_remove_index-dropped.new.self.entries c.args.index (c.in-Some.field-0-0.now, c.in-Some.moved.now) (sym c.in-Some.ensures.entry))))
+    (sets_some c.swap_remove_index-dropped.new.self.entries c.args.index (c.in-Some.field-0-0.now, c.in-Some.moved.now) (sym c.in-Some.ensures.entry)))
+
+pub returns-in-Some-clause-seats : goal.returns-in-Some-clause-seats
+returns-in-Some-clause-seats c =
+    seats_gone c.args.front c.args.slots.now.entries c.swap_remove_index-dropped.new.self.entries c.args.index c.args.line.now.items c.note.new.line.items
+    (within c.args.slots.now.entries c.args.index c.requires.there) (gone-2 c) c.requires.line.1.turns.apart (returns-in-Some-clause-line c) c.requires.seats
 
 gone-3 : (c : goal.Joined-dropped-2) → Dropped c.args.slots.now.entries c.args.index c.swap_remove_index-dropped.new.self.entries
 gone-3 c =
@@ -70,3 +76,8 @@ pub returns-clause-line : goal.returns-clause-line
 returns-clause-line c =
     sym (ap (λ (r : Option SetValue). noted_at r c.args.index c.args.line.now.items)
     (sets_none c.swap_remove_index-dropped.new.self.entries c.args.index (sym c.in_default.ensures.entry)))
+
+pub returns-clause-seats : goal.returns-clause-seats
+returns-clause-seats c =
+    seats_gone c.args.front c.args.slots.now.entries c.swap_remove_index-dropped.new.self.entries c.args.index c.args.line.now.items c.args.line.now.items
+    (within c.args.slots.now.entries c.args.index c.requires.there) (gone-3 c) c.requires.line.1.turns.apart (returns-clause-line c) c.requires.seats

@@ -7,8 +7,9 @@ use Rattle.sms_join.specs.declared.age.Age.{Age}
 use Rattle.sms_join.specs.declared.key.Key.{Key}
 use Rattle.sms_join.specs.Inside.Slots.{SlotValue, At, AreSlots, sets_of}
 use Rattle.sms_join.proofs.InLine.{got_within, got_there}
-use Rattle.sms_join.proofs.Passing.{Ages, ages_first, ages_next, ages_front, ages_drop, ages_end, ages_stop, none_lies, one_lies, young_lies, none_of_it, noted_length, drop_one}
+use Rattle.sms_join.proofs.Passing.{ages_first, ages_next, ages_front, ages_drop, ages_end, ages_stop, none_lies, one_lies, young_lies, none_of_it, noted_length, drop_one}
 use Rattle.sms_join.proofs.Slots.{sets_length, at_slot}
+use Rattle.sms_join.proofs.Seats.{Walks, seats_front}
 use Rattle.sms_join.proofs.dropping.drop_old.Goals.{then-lies+then-is_old, then-lies+else-is_old+else-in_time, else-lies}
 use Rattle.sms_join.proofs.dropping.drop_old.Goals as goal
 
@@ -26,8 +27,12 @@ old_at : (age : Age) (es : List (Key × SlotValue)) (i : ℕ) (v : SlotValue) (b
 old_at age es i v b h is e f = at_slot es i v (λ s. s.opened + age.longest ≤ age.now) h is (λ k l. leb-true (v.opened + age.longest) age.now (sym e ∙ f))
 
 pub loop-place-init : goal.loop-place-init
-loop-place-init c =
-    (c.requires.slots, ages_first c.args.age c.requires.line.0 (sets_of c.args.slots.now.entries) c.args.line.now.items c.args.in_time c.requires.line.1)
+loop-place-init c = (
+  c.requires.slots,
+  ages_first c.args.age c.requires.line.0 (sets_of c.args.slots.now.entries) c.args.line.now.items c.args.in_time c.requires.line.1,
+  c.requires.seats,
+  omega arith,
+)
 
 pub index-requires : goal.index-requires
 index-requires c =
@@ -67,26 +72,26 @@ loop-place-preserved c = elim c.if-lies.branch [
       w.drop_at.new.line.items c.loop-place.place c.args.in_time c.index-opening.result.now l w.drop_at.ensures.sets w.drop_at.ensures.line c.requires.line.1 inv q.0
       (slice_get_read c.loop-place.line.items c.len.result c.loop-place.place c.index-opening.result.now (c.len.ensures ∙ c.loop-place.line.ok.0) c.loop-place-test.true c.index-opening.ensures) q.1 i s at)
       (wrong c.args.in_time c.if-in_time-2.false) dropped in
-      subst (λ m. AreSlots m.entries × Ages c.args.age (sets_of c.args.slots.now.entries) c.args.line.now.items (sets_of m.entries) c.if-lies.line.items (c.loop-place.place + 1) c.args.in_time) (sym w.slots-is)
-      (subst (λ v. AreSlots w.drop_at.new.slots.entries × Ages c.args.age (sets_of c.args.slots.now.entries) c.args.line.now.items (sets_of w.drop_at.new.slots.entries) v.items (c.loop-place.place + 1) c.args.in_time)
-      (sym w.line-is) (w.drop_at.ensures.slots, next))
+      subst (λ m. Walks c.args.age c.args.in_time (sets_of c.args.slots.now.entries) c.args.line.now.items (c.args.front + length c.args.line.now.items) m.entries c.if-lies.line.items (c.loop-place.place + 1) c.loop-place.first) (sym w.slots-is)
+      (subst (λ v. Walks c.args.age c.args.in_time (sets_of c.args.slots.now.entries) c.args.line.now.items (c.args.front + length c.args.line.now.items) w.drop_at.new.slots.entries v.items (c.loop-place.place + 1) c.loop-place.first)
+      (sym w.line-is) (w.drop_at.ensures.slots, next, w.drop_at.ensures.seats, (let n = c.loop-place.invariant.3 in omega (arith, n, len))))
   | then-lies+else-is_old+else-in_time w ↦
       let next = ages_next c.args.age (sets_of c.args.slots.now.entries) c.args.line.now.items (sets_of c.loop-place.slots.entries) c.loop-place.line.items c.loop-place.place c.args.in_time c.index-opening.result.now
       (slice_get_read c.loop-place.line.items c.len.result c.loop-place.place c.index-opening.result.now (c.len.ensures ∙ c.loop-place.line.ok.0) c.loop-place-test.true c.index-opening.ensures)
       (young_lies c.args.age (sets_of c.loop-place.slots.entries) c.index-opening.result.now
       (young_at c.args.age c.loop-place.slots.entries c.index-opening.result.now.index w.index.result.now w.is_old.result c.loop-place.invariant.0 w.index.ensures w.is_old.ensures w.if-is_old.false))
       (wrong c.args.in_time c.if-in_time-2.false) c.loop-place.invariant.1 in
-      subst (λ m. AreSlots m.entries × Ages c.args.age (sets_of c.args.slots.now.entries) c.args.line.now.items (sets_of m.entries) c.if-lies.line.items (c.loop-place.place + 1) c.args.in_time) (sym w.slots-is)
-      (subst (λ v. AreSlots c.loop-place.slots.entries × Ages c.args.age (sets_of c.args.slots.now.entries) c.args.line.now.items (sets_of c.loop-place.slots.entries) v.items (c.loop-place.place + 1) c.args.in_time)
-      (sym w.line-is) (c.loop-place.invariant.0, next))
+      subst (λ m. Walks c.args.age c.args.in_time (sets_of c.args.slots.now.entries) c.args.line.now.items (c.args.front + length c.args.line.now.items) m.entries c.if-lies.line.items (c.loop-place.place + 1) c.loop-place.first) (sym w.slots-is)
+      (subst (λ v. Walks c.args.age c.args.in_time (sets_of c.args.slots.now.entries) c.args.line.now.items (c.args.front + length c.args.line.now.items) c.loop-place.slots.entries v.items (c.loop-place.place + 1) c.loop-place.first)
+      (sym w.line-is) (c.loop-place.invariant.0, next, c.loop-place.invariant.2, c.loop-place.invariant.3))
   | else-lies w ↦
       let next = ages_next c.args.age (sets_of c.args.slots.now.entries) c.args.line.now.items (sets_of c.loop-place.slots.entries) c.loop-place.line.items c.loop-place.place c.args.in_time c.index-opening.result.now
       (slice_get_read c.loop-place.line.items c.len.result c.loop-place.place c.index-opening.result.now (c.len.ensures ∙ c.loop-place.line.ok.0) c.loop-place-test.true c.index-opening.ensures)
       (λ i s at old. none_lies (sets_of c.loop-place.slots.entries) c.index-opening.result.now (sym c.lies.ensures ∙ w.if-lies.false) i s at)
       (wrong c.args.in_time c.if-in_time-2.false) c.loop-place.invariant.1 in
-      subst (λ m. AreSlots m.entries × Ages c.args.age (sets_of c.args.slots.now.entries) c.args.line.now.items (sets_of m.entries) c.if-lies.line.items (c.loop-place.place + 1) c.args.in_time) (sym w.slots-is)
-      (subst (λ v. AreSlots c.loop-place.slots.entries × Ages c.args.age (sets_of c.args.slots.now.entries) c.args.line.now.items (sets_of c.loop-place.slots.entries) v.items (c.loop-place.place + 1) c.args.in_time)
-      (sym w.line-is) (c.loop-place.invariant.0, next))
+      subst (λ m. Walks c.args.age c.args.in_time (sets_of c.args.slots.now.entries) c.args.line.now.items (c.args.front + length c.args.line.now.items) m.entries c.if-lies.line.items (c.loop-place.place + 1) c.loop-place.first) (sym w.slots-is)
+      (subst (λ v. Walks c.args.age c.args.in_time (sets_of c.args.slots.now.entries) c.args.line.now.items (c.args.front + length c.args.line.now.items) c.loop-place.slots.entries v.items (c.loop-place.place + 1) c.loop-place.first)
+      (sym w.line-is) (c.loop-place.invariant.0, next, c.loop-place.invariant.2, c.loop-place.invariant.3))
 ]
 
 pub loop-place-smaller : goal.loop-place-smaller
@@ -109,21 +114,38 @@ loop-place-preserved-then-in_time-2 c = elim c.if-lies.branch [
       let dropped = ages_drop c.args.age c.requires.line.0 (sets_of c.args.slots.now.entries) c.args.line.now.items (sets_of c.loop-place.slots.entries) (sets_of w.drop_at.new.slots.entries) c.loop-place.line.items
       w.drop_at.new.line.items c.loop-place.place c.args.in_time c.index-opening.result.now l w.drop_at.ensures.sets w.drop_at.ensures.line c.requires.line.1 inv
       (old_at c.args.age c.loop-place.slots.entries c.index-opening.result.now.index w.index.result.now w.is_old.result c.loop-place.invariant.0 w.index.ensures w.is_old.ensures w.if-is_old.true l.own l.there) in
-      let next = ages_front c.args.age c.requires.line.0 (sets_of c.args.slots.now.entries) c.args.line.now.items (sets_of w.drop_at.new.slots.entries) w.drop_at.new.line.items c.loop-place.place c.args.in_time q.0
-      c.pop_front.new.self.items q.1 (c.pop_front.ensures.rest ∙ ap (λ v. drop 1 v.items) w.line-is)
-      (none_of_it c.args.age c.requires.line.0 (sets_of c.args.slots.now.entries) c.args.line.now.items (sets_of c.loop-place.slots.entries) (sets_of w.drop_at.new.slots.entries) c.loop-place.line.items
+      let popped : c.pop_front.new.self.items ≡ drop 1 w.drop_at.new.line.items = c.pop_front.ensures.rest ∙ ap (λ v. drop 1 v.items) w.line-is in
+      let left =
+      none_of_it c.args.age c.requires.line.0 (sets_of c.args.slots.now.entries) c.args.line.now.items (sets_of c.loop-place.slots.entries) (sets_of w.drop_at.new.slots.entries) c.loop-place.line.items
       w.drop_at.new.line.items c.loop-place.place c.args.in_time c.index-opening.result.now l w.drop_at.ensures.sets w.drop_at.ensures.line c.requires.line.1 inv q.0
-      (slice_get_read c.loop-place.line.items c.len.result c.loop-place.place c.index-opening.result.now (c.len.ensures ∙ c.loop-place.line.ok.0) c.loop-place-test.true c.index-opening.ensures) q.1)
+      (slice_get_read c.loop-place.line.items c.len.result c.loop-place.place c.index-opening.result.now (c.len.ensures ∙ c.loop-place.line.ok.0) c.loop-place-test.true c.index-opening.ensures) q.1 in
+      let next = ages_front c.args.age c.requires.line.0 (sets_of c.args.slots.now.entries) c.args.line.now.items (sets_of w.drop_at.new.slots.entries) w.drop_at.new.line.items c.loop-place.place c.args.in_time q.0
+      c.pop_front.new.self.items q.1 popped left
       c.if-in_time-2.true dropped in
-      subst (λ m. AreSlots m.entries × Ages c.args.age (sets_of c.args.slots.now.entries) c.args.line.now.items (sets_of m.entries) c.pop_front.new.self.items c.loop-place.place c.args.in_time) (sym w.slots-is) (w.drop_at.ensures.slots, next)
+      subst (λ m. Walks c.args.age c.args.in_time (sets_of c.args.slots.now.entries) c.args.line.now.items (c.args.front + length c.args.line.now.items) m.entries c.pop_front.new.self.items c.loop-place.place (c.loop-place.first + 1)) (sym w.slots-is) (
+        w.drop_at.ensures.slots,
+        next,
+        seats_front c.loop-place.first w.drop_at.new.line.items c.pop_front.new.self.items q.0 w.drop_at.new.slots.entries
+            (ap (slice_get w.drop_at.new.line.items) (sym (dropped.front c.if-in_time-2.true)) ∙ q.1) popped left w.drop_at.ensures.seats,
+        (let n = c.loop-place.invariant.3 in let d = drop_one w.drop_at.new.line.items (omega (arith, len, c.len.ensures, c.loop-place.line.ok.0, c.loop-place-test.true)) in
+            let e = ap (λ l. length l) popped in omega (arith, n, len, d, e)),
+      )
   | then-lies+else-is_old+else-in_time w ↦ absurd (wrong c.args.in_time w.if-in_time.false c.if-in_time-2.true)
   | else-lies w ↦
+      let at = slice_get_read c.loop-place.line.items c.len.result c.loop-place.place c.index-opening.result.now (c.len.ensures ∙ c.loop-place.line.ok.0) c.loop-place-test.true c.index-opening.ensures in
+      let popped : c.pop_front.new.self.items ≡ drop 1 c.loop-place.line.items = c.pop_front.ensures.rest ∙ ap (λ v. drop 1 v.items) w.line-is in
+      let left = none_lies (sets_of c.loop-place.slots.entries) c.index-opening.result.now (sym c.lies.ensures ∙ w.if-lies.false) in
       let next = ages_front c.args.age c.requires.line.0 (sets_of c.args.slots.now.entries) c.args.line.now.items (sets_of c.loop-place.slots.entries) c.loop-place.line.items c.loop-place.place c.args.in_time c.index-opening.result.now
-      c.pop_front.new.self.items
-      (slice_get_read c.loop-place.line.items c.len.result c.loop-place.place c.index-opening.result.now (c.len.ensures ∙ c.loop-place.line.ok.0) c.loop-place-test.true c.index-opening.ensures) (c.pop_front.ensures.rest ∙ ap (λ v. drop 1 v.items) w.line-is)
-      (none_lies (sets_of c.loop-place.slots.entries) c.index-opening.result.now (sym c.lies.ensures ∙ w.if-lies.false))
+      c.pop_front.new.self.items at popped left
       c.if-in_time-2.true c.loop-place.invariant.1 in
-      subst (λ m. AreSlots m.entries × Ages c.args.age (sets_of c.args.slots.now.entries) c.args.line.now.items (sets_of m.entries) c.pop_front.new.self.items c.loop-place.place c.args.in_time) (sym w.slots-is) (c.loop-place.invariant.0, next)
+      subst (λ m. Walks c.args.age c.args.in_time (sets_of c.args.slots.now.entries) c.args.line.now.items (c.args.front + length c.args.line.now.items) m.entries c.pop_front.new.self.items c.loop-place.place (c.loop-place.first + 1)) (sym w.slots-is) (
+        c.loop-place.invariant.0,
+        next,
+        seats_front c.loop-place.first c.loop-place.line.items c.pop_front.new.self.items c.index-opening.result.now c.loop-place.slots.entries
+            (ap (slice_get c.loop-place.line.items) (sym (c.loop-place.invariant.1.front c.if-in_time-2.true)) ∙ at) popped left c.loop-place.invariant.2,
+        (let n = c.loop-place.invariant.3 in let d = drop_one c.loop-place.line.items (omega (arith, c.len.ensures, c.loop-place.line.ok.0, c.loop-place-test.true)) in
+            let e = ap (λ l. length l) popped in omega (arith, n, d, e)),
+      )
 ]
 
 pub loop-place-smaller-then-in_time-2 : goal.loop-place-smaller-then-in_time-2

@@ -1,6 +1,7 @@
 use Rattle.std.proofs.Common.{◌≡◌, List, length, ◌∙◌, sym, ap, subst}
 use Rattle.sms_join.specs.Gateway.Value.{GatewayValue}
 use Rattle.sms_join.specs.Joiner.Sets.{open_sets}
+use Rattle.sms_join.specs.OpenSets.Told.{AreUnder}
 use Rattle.sms_join.specs.Piece.{Piece}
 use Rattle.sms_join.proofs.Arranged.{arranged_length}
 use Rattle.sms_join.proofs.Keeping.{kept_same}
@@ -18,3 +19,6 @@ returns-clause-told c =
     (c.open_count.ensures.count
     ∙ (ap (λ (ps : List Piece). open_sets ps) c.have_kept.ensures.pieces
     ∙ (sets_count c.self.inside.keeper.told c.have_kept.ensures.are_open ∙ sym (arranged_length c.self.inside.keeper.told))))
+
+pub returns-clause-turns : goal.returns-clause-turns
+returns-clause-turns c = subst (λ (v : GatewayValue). AreUnder 18446744073709551615 v.told) c.self.view_is c.have_numbers.ensures

@@ -6,6 +6,7 @@ use Rattle.sms_join.specs.Inside.MostSets.{Follows}
 use Rattle.sms_join.specs.Inside.Lines.{InLine, AreInTime, AreSince}
 use Rattle.sms_join.proofs.InLine.{line_put, time_put}
 use Rattle.sms_join.proofs.Since.{since_put}
+use Rattle.sms_join.proofs.Seats.{seats_put}
 use Rattle.sms_join.specs.OpenSets.{SetValue, is_in, with_piece}
 use Rattle.sms_join.specs.OpenSets.Places.{filled_from}
 use Rattle.sms_join.specs.Inside.Slots.{SlotValue, At, HasPlace, set_of, sets_of}
@@ -63,6 +64,9 @@ invariant_of-self c = (
       (time_put c.self.inside.latest (sets_of c.self.inside.slots.entries) c.args.index (own c).0 (with_piece (own c).0 c.args.sequence c.args.units) (own c).1 refl refl (c.self.invariant.3 e)),
   subst (AreSince c.self.inside.earliest) (sym (changed c))
       (since_put c.self.inside.earliest (sets_of c.self.inside.slots.entries) c.args.index (own c).0 (with_piece (own c).0 c.args.sequence c.args.units) (own c).1 refl c.self.invariant.4),
+  seats_put c.self.inside.front c.self.inside.line.items c.self.inside.slots.entries c.args.index c.index_mut.result.now c.put.new.self c.index_mut.ensures.value
+      (ap (λ (v : SlotValue). v.turn) c.put.ensures) (ap (λ (v : SlotValue). v.seat) c.put.ensures) c.self.invariant.5,
+  c.self.invariant.6,
 )
 
 pub returns : goal.returns
