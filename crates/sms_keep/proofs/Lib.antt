@@ -9,4 +9,7 @@ mod OneSaved
 mod ReadBack
 mod Distinct
 mod Savable
+mod PlainDigits
+mod PlainNames
+mod PlainAddress
 mod AddressBack

@@ -10,22 +10,24 @@ ghost use Rattle.sms_keep.specs.Held.{HasAddresses, IsAddress};
 ghost use Rattle.sms_keep.specs.Inside.Saving.{KeyIsSound};
 ghost use Rattle.sms_keep.specs.Inside.Restoring.{IsAddressOf, IsKeyOf};
 
+use crate::plain::is_plain;
 use sms_field::{Address, Stamp, address_laws};
 use sms_join::Key;
 use sms_saved::{AddressOctets, Key as SavedKey, Message, Width as SavedWidth};
 use sms_tpdu::Width;
 use std::alloc::{AllocError, Global};
 
-/// The octets of an address.
-fn octets_of(alloc: Global, address: &Address) -> Result<AddressOctets, AllocError>
+/// The octets of an address, which are written in this room.
+fn octets_of(room: &mut Vec<u8>, address: &Address) -> Result<AddressOctets, AllocError>
     ensures value { IfOk result (λ octets. octets ≡ address_octets address.now) }
     ensures spelled { HasSpelling address.now }
     ensures few { AddressFits (address_octets address.now) }
 {
     address_laws();
     let _kind = address.type_of_number;
-    let octets = address.write(alloc)?;
-    match AddressOctets::new(&octets) {
+    room.clear();
+    address.write_to(room)?;
+    match AddressOctets::new(room) {
         Some(octets) => Ok(octets),
         None => unreachable!(),
     }
@@ -33,7 +35,7 @@ fn octets_of(alloc: Global, address: &Address) -> Result<AddressOctets, AllocErr
 
 /// The octets of a recipient, or none.
 fn recipient_octets(
-    alloc: Global,
+    room: &mut Vec<u8>,
     recipient: Option<&Address>,
 ) -> Result<Option<AddressOctets>, AllocError>
     ensures value { IfOk result (λ octets. octets
@@ -44,7 +46,7 @@ fn recipient_octets(
 {
     match recipient {
         None => Ok(None),
-        Some(address) => Ok(Some(octets_of(alloc, address)?)),
+        Some(address) => Ok(Some(octets_of(room, address)?)),
     }
 }
 
@@ -86,13 +88,13 @@ fn message_of(key: &Key) -> Message
     }
 }
 
-/// The key.
-pub(crate) fn key_of(alloc: Global, key: &Key) -> Result<SavedKey, AllocError>
+/// The key, whose addresses are written in this room, one after the other.
+pub(crate) fn key_of(room: &mut Vec<u8>, key: &Key) -> Result<SavedKey, AllocError>
     ensures value { IfOk result (λ saved. saved ≡ saved_key key.now) }
     ensures sound { OnOk result (KeyIsSound key.now) }
 {
-    let origin = octets_of(alloc, key.origin())?;
-    let recipient = recipient_octets(alloc, key.recipient())?;
+    let origin = octets_of(room, key.origin())?;
+    let recipient = recipient_octets(room, key.recipient())?;
     Ok(SavedKey {
         origin,
         recipient,
@@ -109,8 +111,7 @@ fn address_from(alloc: Global, octets: &AddressOctets) -> Result<Option<Address>
         return Ok(None);
     };
     let _kind = address.type_of_number;
-    let written = address.write(alloc)?;
-    if written.as_slice() == octets.as_slice() {
+    if is_plain(octets.as_slice()) {
         Ok(Some(address))
     } else {
         Ok(None)

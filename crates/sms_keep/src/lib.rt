@@ -6,6 +6,7 @@ mod fault;
 mod keys;
 mod keys_back;
 mod places;
+mod plain;
 mod restoring;
 mod saving;
 mod sets;

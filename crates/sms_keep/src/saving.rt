@@ -12,7 +12,7 @@ use crate::keys::key_of;
 use crate::sets::put_sets;
 use sms_join::{Alone, Gateway, GatewayLimits, Key, ToldSets};
 use sms_saved::laws::keys_have_own_octets;
-use sms_saved::{Limits, Writer};
+use sms_saved::{ADDRESS_MAX, Limits, Writer};
 use std::alloc::{AllocError, Global};
 
 /// Whether messages in one piece are passed through.
@@ -53,7 +53,7 @@ fn next_of(sets: ToldSets<'_>) -> Result<u64, AllocError>
 
 /// The key of a message, and the moment at which it finished.
 fn put_finished(
-    alloc: Global,
+    room: &mut Vec<u8>,
     writer: &mut Writer,
     key: &Key,
     moment: u64,
@@ -63,11 +63,11 @@ fn put_finished(
     ensures sound { OnOk result (KeyIsSound key.now) }
     ensures fits { moment < 2 ^ 64 }
 {
-    writer.put_key(&key_of(alloc, key)?, moment)
+    writer.put_key(&key_of(room, key)?, moment)
 }
 
 /// The keys that are remembered, the oldest first.
-fn put_keys(alloc: Global, writer: &mut Writer, gateway: &Gateway) -> Result<(), AllocError>
+fn put_keys(room: &mut Vec<u8>, writer: &mut Writer, gateway: &Gateway) -> Result<(), AllocError>
     ensures value { OnOk result (writer.new ≡ writer.old ++ counted remembered
         (saved_finishings gateway.now.holds.finished gateway.now.finishings)) }
     ensures sound { OnOk result (AllByRecursion KeyIsSound gateway.now.holds.finished) }
@@ -78,7 +78,7 @@ fn put_keys(alloc: Global, writer: &mut Writer, gateway: &Gateway) -> Result<(),
     for done in 0..count {
         match gateway.remembered_at(count - 1 - done) {
             None => unreachable!(),
-            Some(own) => put_finished(alloc, writer, own.key, own.moment)?,
+            Some(own) => put_finished(room, writer, own.key, own.moment)?,
         }
     }
     Ok(())
@@ -97,7 +97,8 @@ pub fn save(alloc: Global, gateway: &Gateway, taken: u64) -> Result<Vec<u8>, All
     let limits = limits_of(gateway.limits());
     let next = next_of(gateway.open_sets())?;
     let mut writer = Writer::begin(alloc, limits, taken, next, gateway.open_count())?;
-    put_sets(alloc, &mut writer, gateway.open_sets())?;
-    put_keys(alloc, &mut writer, gateway)?;
+    let mut room = Vec::with_capacity(alloc, ADDRESS_MAX)?;
+    put_sets(&mut room, &mut writer, gateway.open_sets())?;
+    put_keys(&mut room, &mut writer, gateway)?;
     writer.end()
 }

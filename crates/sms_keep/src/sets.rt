@@ -12,7 +12,7 @@ ghost use Rattle.sms_keep.specs.Inside.Saving.{SetIsSound};
 use crate::keys::key_of;
 use sms_join::{OpenSet, ToldSets, Units};
 use sms_saved::{UnitsView, Writer};
-use std::alloc::{AllocError, Global};
+use std::alloc::AllocError;
 
 /// 16-bit units, lent.
 fn wide_view(units: &[u16]) -> UnitsView<'_>
@@ -49,18 +49,18 @@ fn put_places(writer: &mut Writer, own: &OpenSet<'_>) -> Result<(), AllocError>
 }
 
 /// A set.
-fn put_set(alloc: Global, writer: &mut Writer, own: &OpenSet<'_>) -> Result<(), AllocError>
+fn put_set(room: &mut Vec<u8>, writer: &mut Writer, own: &OpenSet<'_>) -> Result<(), AllocError>
     ensures value { OnOk result (writer.new ≡ writer.old ++ set (saved_set own.now)) }
     ensures sound { OnOk result (SetIsSound own.now) }
 {
-    let key = key_of(alloc, own.key())?;
+    let key = key_of(room, own.key())?;
     writer.begin_set(&key, own.moment(), own.turn())?;
     put_places(writer, own)
 }
 
 /// The sets.
 pub(crate) fn put_sets(
-    alloc: Global,
+    room: &mut Vec<u8>,
     writer: &mut Writer,
     sets: ToldSets<'_>,
 ) -> Result<(), AllocError>
@@ -69,7 +69,7 @@ pub(crate) fn put_sets(
     ensures sound { OnOk result (AllByRecursion SetIsSound sets.entry) }
 {
     for own in sets {
-        put_set(alloc, writer, &own)?;
+        put_set(room, writer, &own)?;
     }
     Ok(())
 }

@@ -5,6 +5,7 @@ mod address;
 mod again;
 mod digest;
 mod fault;
+mod key_octets;
 pub mod laws;
 pub mod limits;
 mod putting;

@@ -3,6 +3,7 @@
 ghost use Rattle.std.specs.Prelude.{◌≡◌, ◌++◌, ◌∷◌, [], not, false, OnOk, IfOk};
 ghost use Rattle.sms_saved.specs.Fits.{is_among};
 
+use crate::key_octets::KeyOctets;
 use indexmap::IndexSet;
 use std::alloc::{AllocError, Global};
 use std::hash::RandomState;
@@ -14,15 +15,15 @@ use std::random::RandomSource;
 /// hashed with a seed.
 #[derive(Drop)]
 pub(crate) struct Seen<'a> {
-    keys: IndexSet<&'a [u8], RandomState>,
+    keys: IndexSet<KeyOctets<'a>, RandomState>,
 }
 
 impl<'a> Model for Seen<'a> {
-    ghost use Rattle.std.specs.Prelude.{ℕ, List, map};
+    ghost use Rattle.std.specs.Prelude.{ℕ, List};
 
     ghost Value = { List (List ℕ) };
 
-    ghost view = { λ s. map (λ k. k.now) s.keys.keys };
+    ghost view = { λ s. s.keys.keys };
 }
 
 /// The octets of a seed, the lowest first, as often as they are asked for.
@@ -64,7 +65,7 @@ impl<'a> Seen<'a> {
         ensures noted { is_among self.old key.now ≡ false
             → OnOk result (self.new ≡ self.old ++ key.now ∷ []) }
     {
-        let (_, is_new) = self.keys.insert_full(key)?;
+        let (_, is_new) = self.keys.insert_full(KeyOctets::new(key))?;
         Ok(is_new)
     }
 }
