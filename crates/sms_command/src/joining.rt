@@ -1,36 +1,34 @@
 //! What joins the pieces of lines, and tells what comes of it.
 
-ghost use Rattle.std.specs.Prelude.{◌≡◌, IfSome};
 ghost use Rattle.sms_tpdu.specs.UserData.ConcatenationFound.{IsPlace};
 
 use crate::clock::Clock;
 use crate::fault::Fault;
-use crate::lines::{Form, Layer, Lines};
+use crate::lines::{Layer, Lines};
 use crate::losses::Losses;
 use crate::many::Taker;
-use crate::open_set::put_open;
 use crate::piece::{Piece, Pieces};
 use crate::printed::Number;
-use crate::recipient::addressed_in;
+use crate::recipient::{Addressed, addressed_in};
 use crate::shown::Done;
-use crate::whole_text::{Whole, put_whole};
 use crate::words::Joined;
 use sms_field::{Address, Stamp};
-use sms_join::{Gateway, GatewayLimits, Offer, OfferFault, read_units};
+use sms_join::{Gateway, GatewayLimits, read_units};
 use sms_keep::save;
 use sms_page::Page;
+use sms_told::{Offered, Source, Telling, put_old_sets, put_open_sets};
 use std::alloc::{AllocError, Global};
 use std::io::Write;
 
 /// The stamp of a piece that has none: no set is known by it.
 const NO_STAMP: [u8; 7] = [0; 7];
 
-/// Where a piece comes from.
+/// The line in which a piece comes.
 #[derive(Clone, Copy)]
-struct Source<'a> {
-    /// The number of its line.
+struct Arrival<'a> {
+    /// The number of the line.
     number: u64,
-    /// For whom it is, where the line says so.
+    /// For whom the piece is, where the line says so.
     recipient: Option<&'a Address>,
 }
 
@@ -63,10 +61,8 @@ pub struct Joining {
     pieces: Pieces,
     /// Whether each line begins with its recipient.
     has_recipients: bool,
-    form: Form,
-    is_verbose: bool,
-    /// Whether an object tells the line of a text.
-    tells_lines: bool,
+    /// How what comes of pieces is told.
+    telling: Telling,
     joiner: Gateway,
     /// The clock that the stamps set.
     clock: Clock,
@@ -86,9 +82,11 @@ impl Joining {
             alloc,
             pieces: way.pieces,
             has_recipients: joined.has_recipients,
-            form: joined.form,
-            is_verbose: joined.is_verbose,
-            tells_lines: joined.state.is_some(),
+            telling: Telling {
+                form: joined.form,
+                is_verbose: joined.is_verbose,
+                tells_lines: joined.state.is_some(),
+            },
             joiner,
             clock,
             losses: Losses::none(),
@@ -111,25 +109,6 @@ impl Joining {
         Ok(done)
     }
 
-    /// Adds a member of what is told of an answer: one line of its own.
-    fn tell(&mut self, number: u64, told: &str, page: &mut Page) {
-        if !self.is_verbose {
-            return;
-        }
-        if self.form == Form::Plain {
-            page.put(b"line ");
-            page.put_decimal(number);
-            page.put(b": ");
-            page.put(told.as_bytes());
-            page.put_one(b'\n');
-            return;
-        }
-        let mut lines = Lines::new(self.form, page.take(self.alloc));
-        lines.put("line", Number(number));
-        lines.put("told", told);
-        *page = lines.finish();
-    }
-
     /// Adds a fault of a line.
     fn tell_fault(
         &mut self,
@@ -139,7 +118,7 @@ impl Joining {
         page: &mut Page,
     ) -> Result<(), Fault> {
         self.is_faulty = true;
-        let mut lines = Lines::new(self.form, page.take(self.alloc));
+        let mut lines = Lines::new(self.telling.form, page.take(self.alloc));
         lines.put_json("line", Number(number));
         lines.begin(layer);
         lines.finish_with(self.alloc, Some(number), false, fault, page)?;
@@ -172,50 +151,24 @@ impl Joining {
 
     /// Tells the sets that are old at a moment, where that is asked for, in order of opening.
     fn tell_old(&self, now: u64, page: &mut Page) -> Result<(), Fault> {
-        if !self.is_verbose {
+        if !self.telling.is_verbose {
             return Ok(());
         }
-        let mut next = self.joiner.old_from(0, now);
-        for _ in 0..self.joiner.open_count() {
-            let Some(set) = next else {
-                break;
-            };
-            put_open(self.alloc, self.form, "dropped", &set, page)?;
-            next = self.joiner.old_from(set.turn().saturating_add(1), now);
-        }
-        Ok(())
-    }
-
-    /// Tells all sets, in order of opening.
-    fn tell_open(&self, page: &mut Page) -> Result<(), Fault> {
-        let mut next = self.joiner.open_from(0);
-        for _ in 0..self.joiner.open_count() {
-            let Some(set) = next else {
-                break;
-            };
-            put_open(self.alloc, self.form, "open", &set, page)?;
-            next = self.joiner.open_from(set.turn().saturating_add(1));
-        }
+        put_old_sets(self.alloc, self.telling.form, &self.joiner, now, page)?;
         Ok(())
     }
 
     /// Tells in one line what is lost, where something is and nothing else tells it.
     fn tell_losses<N: Write>(&self, notes: &mut N) {
-        if !self.is_verbose {
+        if !self.telling.is_verbose {
             self.losses.tell(self.joiner.open_count(), notes);
         }
-    }
-
-    /// Tells that a segment is turned away.
-    fn turn_away(&mut self, number: u64, page: &mut Page) {
-        self.losses.turn_away();
-        self.tell(number, "too many open sets", page);
     }
 
     /// The moment at which a piece counts that has a stamp of this moment, if it has one. A text
     /// that it finishes counts as finished at the clock: a stamp that lies ahead of that is not
     /// believed alone.
-    fn counted_at(&self, source: Source<'_>, piece: &Piece, moment: Option<u64>) -> u64
+    fn counted_at(&self, arrival: Arrival<'_>, piece: &Piece, moment: Option<u64>) -> u64
         requires { IsPlace piece.now.concat }
     {
         let now = self.clock.opening(moment);
@@ -225,113 +178,114 @@ impl Joining {
         let stamp = piece.stamp.unwrap_or(Stamp::new(NO_STAMP));
         let finishes = self
             .joiner
-            .would_finish(source.recipient, &piece.origin, stamp, piece.concat);
+            .would_finish(arrival.recipient, &piece.origin, stamp, piece.concat);
         if finishes { self.clock.time } else { now }
-    }
-
-    /// Adds a text that is whole.
-    fn put_text(
-        &self,
-        source: Source<'_>,
-        origin: &Address,
-        moment: Option<u64>,
-        text: &str,
-        page: &mut Page,
-    ) -> Result<(), Fault> {
-        let whole = Whole {
-            line: if self.tells_lines {
-                Some(source.number)
-            } else {
-                None
-            },
-            recipient: source.recipient,
-            origin,
-            moment,
-            text,
-        };
-        put_whole(self.alloc, self.form, &whole, page)
     }
 
     /// Offers a piece, of which the moment is given, and adds what comes of it.
     fn offer(
         &mut self,
-        source: Source<'_>,
+        arrival: Arrival<'_>,
         piece: Piece,
         moment: Option<u64>,
         page: &mut Page,
     ) -> Result<(), Fault>
         requires { IsPlace piece.concat }
     {
-        let now = self.counted_at(source, &piece, moment);
+        let now = self.counted_at(arrival, &piece, moment);
         let Piece {
             origin,
             stamp,
             concat,
             units,
         } = piece;
-        let stamp = stamp.unwrap_or(Stamp::new(NO_STAMP));
-        let to = source.recipient;
-        match self.joiner.offer(now, to, &origin, stamp, concat, units) {
-            Ok(Offer::Finished(text)) => {
-                self.put_text(source, &origin, moment, &text, page)?;
-                drop(text);
-            }
-            Ok(Offer::Kept) => {}
-            Ok(Offer::Repeat) => self.tell(source.number, "repeat", page),
-            Err(OfferFault::TooManyOpen) => self.turn_away(source.number, page),
-            Err(OfferFault::Memory) => return Err(Fault::Memory),
+        let source = Source {
+            number: arrival.number,
+            recipient: arrival.recipient,
+            origin: &origin,
+            moment,
+        };
+        let piece = Offered {
+            now,
+            stamp: stamp.unwrap_or(Stamp::new(NO_STAMP)),
+            concat,
+            units,
+        };
+        let joiner = &mut self.joiner;
+        if self
+            .telling
+            .offer(self.alloc, joiner, &source, piece, page)?
+        {
+            self.losses.turn_away();
         }
         Ok(())
     }
 
     /// Adds the text of a message in one piece that has no stamp, by which a repeat would be known.
-    fn pass(&mut self, source: Source<'_>, piece: Piece, page: &mut Page) -> Result<(), Fault> {
+    fn pass(&mut self, arrival: Arrival<'_>, piece: Piece, page: &mut Page) -> Result<(), Fault> {
         let Piece { origin, units, .. } = piece;
         let text = read_units(self.alloc, &[units])?;
-        self.put_text(source, &origin, None, &text, page)
+        let source = Source {
+            number: arrival.number,
+            recipient: arrival.recipient,
+            origin: &origin,
+            moment: None,
+        };
+        self.telling.put_text(self.alloc, &source, &text, page)?;
+        Ok(())
     }
 
     /// Takes a piece, after what is old at its moment is dropped.
-    fn take_piece(&mut self, source: Source<'_>, piece: Piece, page: &mut Page) -> Result<(), Fault>
+    fn take_piece(
+        &mut self,
+        arrival: Arrival<'_>,
+        piece: Piece,
+        page: &mut Page,
+    ) -> Result<(), Fault>
         requires { IsPlace piece.concat }
     {
         if piece.stamp.is_none() && piece.concat.is_none() {
-            return self.pass(source, piece, page);
+            return self.pass(arrival, piece, page);
         }
         let moment = piece.stamp.and_then(|stamp| stamp.moment());
         let gone = self.go_on(&piece.origin, moment, page);
-        let offered = self.offer(source, piece, moment, page);
+        let offered = self.offer(arrival, piece, moment, page);
         gone?;
         offered
     }
 
-    /// Takes a piece, if a line has one.
-    fn take_found(
-        &mut self,
-        source: Source<'_>,
-        found: Option<Piece>,
-        page: &mut Page,
-    ) -> Result<(), Fault>
-        requires { IfSome found (λ piece. IsPlace piece.concat) }
-    {
-        match found {
-            Some(piece) => self.take_piece(source, piece, page),
-            None => Ok(()),
+    /// A line with its recipient, where lines have one.
+    fn addressed<'a>(&self, line: Result<&'a [u8], Fault>) -> Result<Addressed<'a>, Fault> {
+        let line = line?;
+        if self.has_recipients {
+            return addressed_in(self.alloc, line);
         }
+        Ok(Addressed {
+            recipient: None,
+            line,
+        })
     }
 
-    /// Takes a line, without its recipient where it had one.
-    fn take_line(
+    /// Takes a line with its recipient.
+    fn take_addressed(
         &mut self,
-        source: Source<'_>,
-        line: Result<&[u8], Fault>,
+        number: u64,
+        addressed: &Addressed<'_>,
         page: &mut Page,
     ) -> Result<(), Fault> {
+        let arrival = Arrival {
+            number,
+            recipient: addressed.recipient.as_ref(),
+        };
         let mut layer = Layer::Digits;
         let room = &mut self.room;
-        match self.pieces.take(self.alloc, line, room, &mut layer) {
-            Ok(found) => self.take_found(source, found, page),
-            Err(fault) => self.take_fault(source.number, layer, fault, page),
+        match self
+            .pieces
+            .take(self.alloc, addressed.line, room, &mut layer)
+        {
+            Ok(Some(piece)) => self.take_piece(arrival, piece, page),
+            Ok(None) => Ok(()),
+            Err(fault) => self.take_fault(number, layer, fault, page),
         }
     }
 
@@ -348,25 +302,6 @@ impl Joining {
         }
         Err(fault)
     }
-
-    /// Takes a line that begins with its recipient.
-    fn take_addressed(
-        &mut self,
-        number: u64,
-        line: Result<&[u8], Fault>,
-        page: &mut Page,
-    ) -> Result<(), Fault> {
-        match addressed_in(self.alloc, line) {
-            Ok(addressed) => {
-                let source = Source {
-                    number,
-                    recipient: Some(&addressed.recipient),
-                };
-                self.take_line(source, Ok(addressed.line), page)
-            }
-            Err(fault) => self.take_fault(number, Layer::Digits, fault, page),
-        }
-    }
 }
 
 impl Taker for Joining {
@@ -376,14 +311,10 @@ impl Taker for Joining {
         line: Result<&[u8], Fault>,
         page: &mut Page,
     ) -> Result<(), Fault> {
-        if self.has_recipients {
-            return self.take_addressed(number, line, page);
+        match self.addressed(line) {
+            Ok(addressed) => self.take_addressed(number, &addressed, page),
+            Err(fault) => self.take_fault(number, Layer::Digits, fault, page),
         }
-        let source = Source {
-            number,
-            recipient: None,
-        };
-        self.take_line(source, line, page)
     }
 
     /// A piece that is offered once more is told as a repeat.
@@ -392,6 +323,7 @@ impl Taker for Joining {
     }
 
     fn finish(&mut self, page: &mut Page) -> Result<(), Fault> {
-        self.tell_open(page)
+        put_open_sets(self.alloc, self.telling.form, &self.joiner, page)?;
+        Ok(())
     }
 }

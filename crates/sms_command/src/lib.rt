@@ -2,7 +2,6 @@
 //! split, scripts that are played.
 #![tactic(auto)]
 
-mod address_text;
 mod addresses;
 mod alone;
 mod any;
@@ -23,7 +22,6 @@ mod kinds;
 mod lines;
 mod losses;
 mod many;
-mod open_set;
 mod outcomes;
 mod piece;
 mod piece_units;
@@ -43,7 +41,6 @@ mod split;
 mod status_reports;
 mod status_words;
 mod talk;
-mod whole_text;
 mod words;
 
 pub use cli::{command, command_with_folders, command_with_notes, command_with_seed};

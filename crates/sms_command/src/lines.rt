@@ -6,16 +6,8 @@ ghost use Rattle.sms_page.specs.Plain.{is_plain};
 
 use crate::fault::Fault;
 use sms_page::{Object, Page};
+use sms_told::Form;
 use std::alloc::{AllocError, Global};
-
-/// How an answer is written.
-#[derive(Clone, Copy, Debug, PartialEq, Eq)]
-pub enum Form {
-    /// Each member is a line: its name, a colon, its value.
-    Plain,
-    /// All are members of an object in JSON.
-    Json,
-}
 
 /// A value of an answer.
 pub trait Printed: Drop {

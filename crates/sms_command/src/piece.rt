@@ -60,13 +60,12 @@ impl Pieces {
     pub fn take(
         self,
         alloc: Global,
-        line: Result<&[u8], Fault>,
+        line: &[u8],
         room: &mut Vec<u8>,
         layer: &mut Layer,
     ) -> Result<Option<Piece>, Fault>
         ensures { IfOk result (λ piece. IfSome piece (λ piece. IsPlace piece.concat)) }
     {
-        let line = line?;
         match self.carried {
             Carried::Record => {
                 let octets = read_octets(room, line, true)?;

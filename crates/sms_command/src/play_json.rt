@@ -5,7 +5,7 @@ ghost use Rattle.std.specs.List.{list_all};
 ghost use Rattle.sms_page.specs.Plain.{is_plain};
 
 use crate::fault::Fault;
-use crate::lines::{Form, Lines, Printed};
+use crate::lines::{Lines, Printed};
 use crate::outcomes::{is_fault, told_of};
 use crate::printed::{Number, put_address};
 use crate::run::{Happened, Running, Teller, Watching, run_script};
@@ -13,6 +13,7 @@ use crate::shown::Done;
 use crate::words::Played;
 use sms_page::{Object, Page};
 use sms_script::{Packet, Script};
+use sms_told::Form;
 use sms_world::{
     Breach, Doubt, Ground, PlayFault, Status, TextSegment, disorder_text, ground_text, number_told,
 };

@@ -6,11 +6,11 @@ ghost use Rattle.sms_page.specs.Page.{Puts};
 ghost use Rattle.sms_page.specs.Plain.{is_plain};
 ghost use Rattle.sms_page.specs.Escapes.{escaped, line};
 
-use crate::address_text::AddressText;
 use crate::lines::Printed;
 use sms_field::{Address, AddressView, RpAddressView, Stamp, StampDate, Validity};
 use sms_page::{Object, Page, put_line};
-use sms_tpdu::{Concat, HeaderView, Width};
+use sms_told::{AddressText, bits_of};
+use sms_tpdu::{Concat, HeaderView};
 use std::alloc::Global;
 
 /// A bit, as `yes` or `no`.
@@ -159,26 +159,6 @@ pub fn put_address(alloc: Global, object: &mut Object, address: &Address) {
     match AddressText::of(alloc, address) {
         Ok(text) => Party::new(text.as_str(), Numbering::of(address)).json(object),
         Err(_) => object.cut(),
-    }
-}
-
-/// A moment in seconds since the beginning of 2000; none as `-`, and as null in JSON.
-#[derive(Clone, Copy)]
-pub struct Moment(pub Option<u64>);
-
-impl Printed for Moment {
-    fn plain(&self, page: &mut Page) {
-        match self.0 {
-            Some(seconds) => page.put_decimal(seconds),
-            None => page.put_one(b'-'),
-        }
-    }
-
-    fn json(&self, object: &mut Object) {
-        match self.0 {
-            Some(seconds) => object.number(seconds),
-            None => object.nothing(),
-        }
     }
 }
 
@@ -397,14 +377,6 @@ fn seconds_of(octet: u8) -> u64 {
 /// A concatenation: the bits of its reference, the reference, the maximum and the sequence.
 #[derive(Clone, Copy)]
 pub struct ConcatText(pub Concat);
-
-/// The bits of a reference.
-pub fn bits_of(width: Width) -> u64 {
-    match width {
-        Width::Eight => 8,
-        Width::Sixteen => 16,
-    }
-}
 
 impl Printed for ConcatText {
     fn plain(&self, page: &mut Page) {

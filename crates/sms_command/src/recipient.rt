@@ -34,25 +34,22 @@ fn parts_of<'a>(line: &'a [u8]) -> Option<Parts<'a>>
 /// A line with its recipient.
 #[derive(Drop)]
 pub struct Addressed<'a> {
-    /// For whom it is, as the gateway says.
-    pub recipient: Address,
+    /// For whom it is, as the gateway says, where it says so.
+    pub recipient: Option<Address>,
     /// The line without it.
     pub line: &'a [u8],
 }
 
 /// The recipient in front of a line, and the line.
-pub fn addressed_in<'a>(
-    alloc: Global,
-    line: Result<&'a [u8], Fault>,
-) -> Result<Addressed<'a>, Fault> {
-    let Some(parts) = parts_of(line?) else {
+pub fn addressed_in<'a>(alloc: Global, line: &'a [u8]) -> Result<Addressed<'a>, Fault> {
+    let Some(parts) = parts_of(line) else {
         return Err(Fault::BadLine);
     };
     let Ok(word) = str::from_utf8(parts.front) else {
         return Err(Fault::BadLine);
     };
     Ok(Addressed {
-        recipient: address_of(alloc, word)?,
+        recipient: Some(address_of(alloc, word)?),
         line: parts.rest.trim_ascii_start(),
     })
 }

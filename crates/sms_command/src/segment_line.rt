@@ -1,11 +1,12 @@
 //! The line of a segment.
 
 use crate::fault::Fault;
-use crate::lines::{Form, Lines};
+use crate::lines::Lines;
 use crate::printed::{Answer, Hexadecimal, Octet};
 use crate::words::LongText;
 use sms_language::{Locking, Single, Tables};
 use sms_page::Page;
+use sms_told::Form;
 use sms_tpdu::UnitsView;
 use std::alloc::Global;
 use std::io::Write;

@@ -4,7 +4,6 @@ ghost use Rattle.std.specs.Prelude.{◌≡◌, true};
 ghost use Rattle.std.specs.List.{list_all};
 ghost use Rattle.sms_page.specs.Plain.{is_plain};
 
-use crate::address_text::AddressText;
 use crate::fault::Fault;
 use crate::lines::{Layer, Lines};
 use crate::printed::{
@@ -15,6 +14,7 @@ use crate::reports::{show_deliver_ack, show_deliver_error, show_submit_ack, show
 use crate::status_reports::{show_command, show_status_report};
 use crate::words::UnitKind;
 use sms_field::{AddressView, Alphabet, FieldFault, RpAddressView, alphabet_of};
+use sms_told::{AddressText, Telephone};
 use sms_tpdu::{BodyView, DeliverView, HeaderView, SubmitView, UserDataView};
 use std::alloc::{AllocError, Global};
 
@@ -99,7 +99,7 @@ pub fn put_centre(lines: &mut Lines, name: &str, centre: &Option<RpAddressView<'
 {
     match centre {
         Some(address) => {
-            let text = AddressText::of_centre(address);
+            let text = Telephone::seen(address.type_of_number(), &address.digits());
             lines.put(
                 name,
                 Party::new(text.as_str(), Numbering::of_centre(address)),

@@ -4,7 +4,7 @@ use crate::alone::show_alone;
 use crate::digits::read_octets;
 use crate::fault::Fault;
 use crate::kinds::kind_told;
-use crate::lines::{Form, Layer, Lines};
+use crate::lines::{Layer, Lines};
 use crate::many::{Taker, take_lines};
 use crate::printed::Number;
 use crate::records::show_record;
@@ -12,6 +12,7 @@ use crate::relay::{show_cp, show_rp};
 use crate::show::{show_centre, show_unit};
 use crate::words::{Kind, Shown};
 use sms_page::Page;
+use sms_told::Form;
 use std::alloc::Global;
 use std::io::{Read, Write};
 

@@ -1,11 +1,11 @@
 //! What the words of a command line ask for.
 
-use crate::lines::Form;
 use crate::piece::Pieces;
 use clap::builder::ValueParser;
 use clap::error::ErrorKind;
 use clap::{Arg, ArgAction, ArgMatches, Command, Error, value_parser};
 use sms_national::Language;
+use sms_told::Form;
 use std::alloc::{AllocError, Global};
 use std::convert::AsStr;
 
