@@ -1,0 +1,6 @@
+pub mod Faults
+pub mod Feed
+pub mod Lines
+pub mod Shown
+pub mod Takers
+pub mod Units

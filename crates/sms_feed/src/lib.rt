@@ -1,0 +1,15 @@
+//! The lines of an input, one after another, and what is told of each.
+#![tactic(auto)]
+
+mod chatter;
+mod fault;
+mod feed;
+mod line;
+mod lines;
+mod taker;
+
+pub use fault::FeedFault;
+pub use feed::Feed;
+pub use line::Line;
+pub use lines::{take_lines, take_one};
+pub use taker::Taker;
