@@ -29,9 +29,9 @@ pub record GivesLine (octets : List ℕ) (old new : FeedValue) (remaining : Opti
     (number : ℕ) (line : Option (List ℕ)) : Type 0 where
   pub first : List ℕ
   pub rest : List ℕ
-  pub lines : lines octets ≡ first ∷ lines rest
-  pub line : line ≡ few first
-  pub number : number ≡ next_number old.number
+  pub begins : lines octets ≡ first ∷ lines rest
+  pub octets_are : line ≡ few first
+  pub counted : number ≡ next_number old.number
   pub after : Awaits new remaining rest
 
 -- No line is given, since no octet comes next.

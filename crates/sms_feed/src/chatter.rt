@@ -3,18 +3,16 @@
 ghost use Rattle.std.specs.Prelude.{◌≡◌};
 ghost use Rattle.sms_feed.specs.Units.{is_chatter, is_nothing};
 
-/// How the lines begin that a modem says, but for those that stand whole.
-static CHATTER: [&str; 4] = ["+CMGL:", "+CMGR:", "+CMT:", "AT"];
-
 /// Whether a line is what a modem says around the units that it lists.
 fn is_chatter(line: &[u8]) -> bool
     ensures { result ≡ is_chatter line.now }
 {
     line == b"OK".as_slice()
         || line == b"ERROR".as_slice()
-        || CHATTER
-            .iter()
-            .any(|front| line.starts_with(front.as_bytes()))
+        || line.starts_with(b"+CMGL:")
+        || line.starts_with(b"+CMGR:")
+        || line.starts_with(b"+CMT:")
+        || line.starts_with(b"AT")
 }
 
 /// Whether a line without the blanks around it has no unit.

@@ -1,26 +1,38 @@
 //! Lines that are taken one after another.
 
-ghost use Rattle.std.specs.Prelude.{◌≡◌, ◌++◌, ℕ, List, Option, Some, OnOk, false, true, option_copied};
+ghost use Rattle.std.specs.Prelude.{◌≡◌, ℕ, List, [], Option, Some, OnOk, false, option_copied};
 ghost use Rattle.std.specs.Io.KnownBytes.{Appends};
 ghost use Rattle.sms_script.specs.Lines.{lines};
-ghost use Rattle.sms_page.specs.Page.{PageValue, Puts};
-ghost use Rattle.sms_feed.specs.Shown.{shown};
-ghost use Rattle.sms_feed.specs.Takers.{Tells, TellsOn};
-ghost use Rattle.sms_feed.specs.Units.{TellsLine, TellsAtLast, TellsAll};
+ghost use Rattle.sms_page.specs.Page.{PageValue};
+ghost use Rattle.sms_feed.specs.Feed.{Awaits};
+ghost use Rattle.sms_feed.specs.Shown.{Stays};
+ghost use Rattle.sms_feed.specs.Takers.{Hands, HandsOne, HandsToEnd, HandsToOutput, standing};
 
 use crate::chatter::is_nothing;
 use crate::fault::FeedFault;
 use crate::feed::Feed;
 use crate::line::Line;
 use crate::taker::Taker;
-use sms_page::Page;
-use std::alloc::{AllocError, Global};
+use sms_page::{Page, PageFault};
+use std::alloc::Global;
 use std::io::{Error, ErrorKind, Read, Write};
+
+/// Writes what stands on a page.
+fn write_page<W: Write>(page: &mut Page, output: &mut W) -> Result<(), FeedFault>
+    ensures stays { OnOk result
+        (Stays (W.contents output.old) page.old (W.contents output.new) page.new) }
+    ensures empty { OnOk result (page.new ≡ record { octets = []; is_cut = false }) }
+    ensures whole { OnOk result
+        (Appends (W.contents output.old) (W.contents output.new) page.old.octets) }
+{
+    page.write_to(output)?;
+    Ok(())
+}
 
 /// Hands on a line that has a unit. Empty lines, and what a modem says, are passed over.
 fn take_line<T: Taker>(taker: &mut T, line: Line<'_>, page: &mut Page) -> Result<(), T::Fault>
-    ensures { OnOk result (Tells (λ told. TellsLine T.takes taker.old line.number
-        (option_copied line.octets.entry) told taker.new) page.old page.new) }
+    ensures { OnOk result (Hands T.takes taker.old line.entry.number
+        (option_copied line.entry.octets) page.old taker.new page.new) }
 {
     let Some(octets) = line.octets else {
         return taker.take(line.number, None, page);
@@ -40,9 +52,10 @@ fn take_or_again<T: Taker, W: Write>(
     page: &mut Page,
     output: &mut W,
 ) -> Result<(), T::Fault>
-    ensures { OnOk result (TellsOn (λ told. TellsAtLast T.takes taker.old line.number
-        (option_copied line.octets.entry) told taker.new)
-        (W.contents output.old) page.old (W.contents output.new) page.new) }
+    ensures { OnOk result (HandsOne T.takes
+        (standing taker.old (W.contents output.old) page.old)
+        line.entry.number (option_copied line.entry.octets)
+        (standing taker.new (W.contents output.new) page.new)) }
 {
     let (before, was_cut) = (page.count(), page.is_cut());
     take_line(taker, line, page)?;
@@ -50,7 +63,7 @@ fn take_or_again<T: Taker, W: Write>(
         return Ok(());
     }
     page.back_to(before);
-    page.write_to(output)?;
+    write_page(page, output)?;
     take_line(taker, line, page)
 }
 
@@ -62,16 +75,65 @@ pub fn take_one<T: Taker, W: Write>(
     page: &mut Page,
     output: &mut W,
 ) -> Result<(), T::Fault>
-    ensures { OnOk result (TellsOn (λ told. TellsAtLast T.takes taker.old line.number
-        (option_copied line.octets.entry) told taker.new)
-        (W.contents output.old) page.old (W.contents output.new) page.new) }
+    ensures { OnOk result (HandsOne T.takes
+        (standing taker.old (W.contents output.old) page.old)
+        line.entry.number (option_copied line.entry.octets)
+        (standing taker.new (W.contents output.new) page.new)) }
 {
     if !page.has_room() {
-        page.write_to(output)?;
+        write_page(page, output)?;
     }
     take_or_again(taker, line, page, output)?;
     if page.is_full() {
-        page.write_to(output)?;
+        write_page(page, output)?;
     }
     Ok(())
+}
+
+/// Hands on the lines that an input has, and what is told at the end.
+fn take_all<T: Taker, R: Read, W: Write>(
+    taker: &mut T,
+    feed: &mut Feed,
+    page: &mut Page,
+    input: &mut R,
+    output: &mut W,
+) -> Result<(), T::Fault>
+    ensures { (octets : List ℕ) → Awaits feed.old (R.remaining input.old) octets
+        → OnOk result (HandsToEnd T.takes T.ends
+        (standing taker.old (W.contents output.old) page.old)
+        feed.old.number (lines octets)
+        (standing taker.new (W.contents output.new) page.new)) }
+{
+    for _ in 0..u64::MAX {
+        let Some(line) = feed.next_line(input, page, output)? else {
+            return taker.finish(page);
+        };
+        take_one(taker, line, page, output)?;
+    }
+    Err(T::Fault::from(FeedFault::Read(Error::from(ErrorKind::Other))))
+}
+
+/// Hands on the lines that an input has, each once and in order, and writes what is told of them.
+/// Where it ends early, what was told before stands.
+pub fn take_lines<T: Taker, R: Read, W: Write>(
+    alloc: Global,
+    taker: &mut T,
+    input: &mut R,
+    output: &mut W,
+) -> Result<(), T::Fault>
+    ensures { (octets : List ℕ) → R.remaining input.old ≡ Some octets
+        → OnOk result (HandsToOutput T.takes T.ends taker.old (W.contents output.old)
+        (lines octets) taker.new (W.contents output.new)) }
+{
+    let mut feed = match Feed::new(alloc) {
+        Ok(feed) => feed,
+        Err(_) => return Err(T::Fault::from(FeedFault::Page(PageFault::Memory))),
+    };
+    let mut page = Page::new(alloc);
+    let taken = take_all(taker, &mut feed, &mut page, input, output);
+    let written = write_page(&mut page, output);
+    drop(page);
+    drop(feed);
+    written?;
+    taken
 }
