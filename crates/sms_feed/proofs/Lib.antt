@@ -1,3 +1,4 @@
 pub mod Handing
 pub mod Staying
 pub mod HandedOn
+pub mod Taking

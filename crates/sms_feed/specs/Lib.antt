@@ -1,6 +1,7 @@
 pub mod Faults
 pub mod Feed
 pub mod Lines
+pub mod Next
 pub mod Shown
 pub mod Takers
 pub mod Units

@@ -1,5 +1,8 @@
 //! Why an input gives no line.
 
+ghost use Rattle.std.specs.Prelude.{◌≡◌};
+ghost use Rattle.sms_feed.specs.declared.fault.FeedFault.TheVariants.{Page};
+
 use sms_page::PageFault;
 use std::io;
 
@@ -13,6 +16,8 @@ pub enum FeedFault {
 }
 
 impl From<PageFault> for FeedFault {
+    ghost from_gives = { λ fault given. given ≡ Page fault };
+
     fn from(fault: PageFault) -> FeedFault {
         FeedFault::Page(fault)
     }

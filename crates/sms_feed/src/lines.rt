@@ -105,10 +105,10 @@ fn take_all<T: Taker, R: Read, W: Write>(
         (standing taker.new (W.contents output.new) page.new)) }
 {
     for _ in 0..u64::MAX {
-        let Some(line) = feed.next_line(input, page, output)? else {
+        if !feed.advance(input, page, output)? {
             return taker.finish(page);
-        };
-        take_one(taker, line, page, output)?;
+        }
+        take_one(taker, feed.line(), page, output)?;
     }
     Err(T::Fault::from(FeedFault::Read(Error::from(ErrorKind::Other))))
 }
