@@ -1,12 +1,13 @@
 -- Lines that are handed on one after another.
 use Rattle.std.proofs.Common.{◌≡◌, ◌⊎◌, inl, inr, ℕ, Bool, true, false, List, [], ◌∷◌, ◌++◌, Option, None, Some, Result, Ok, Err, OnOk, sym, refl, ◌∙◌, ap, subst, append-nil, append_assoc}
+use Rattle.std.specs.Io.KnownBytes.{Appends}
 use Rattle.sms_script.specs.Lines.{lines}
 use Rattle.sms_page.specs.Page.{PageValue}
 use Rattle.sms_feed.specs.Feed.{FeedValue, Awaits}
 use Rattle.sms_feed.specs.Lines.{few, next_number}
 use Rattle.sms_feed.specs.Next.{GoesOn, StandsAtFirst, number_then}
 use Rattle.sms_feed.specs.Shown.{Stays}
-use Rattle.sms_feed.specs.Takers.{Takes, Ends, HandsOne, HandsAll, HandsToEnd, Standing, standing}
+use Rattle.sms_feed.specs.Takers.{Takes, Ends, HandsOne, HandsAll, HandsToEnd, HandsToOutput, Standing, standing}
 use Rattle.sms_feed.proofs.HandedOn.{one_after}
 use Rattle.sms_feed.proofs.Staying.{stays_same, stays_then}
 
@@ -95,3 +96,24 @@ ends_there octets more feed remaining is g = let at : GoesOn octets (Ok false) f
 
 pub next_is : (n : ℕ) (more : Bool) (feed : FeedValue) → more ≡ true → feed.number ≡ number_then n (Ok more) → feed.number ≡ next_number n
 next_is n more feed is g = subst (λ b. feed.number ≡ number_then n (Ok b)) is g
+
+-- before the first line
+abbrev pub before_all : FeedValue
+before_all = record { number = 0; line = None; left = []; is_long = false; has_ended = false }
+
+pub awaits_all : (feed : FeedValue) (remaining : Option (List ℕ)) (octets : List ℕ) → feed ≡ before_all → remaining ≡ Some octets → Awaits feed remaining octets
+awaits_all feed remaining octets is known = subst (λ f. Awaits f remaining octets) (sym is)
+    (record { thrown = []; later = octets; known = known; whole = refl; ended = λ e. absurd cc; none = λ e. refl; long = λ e. absurd cc })
+
+pub to_output : {T : Type 0} (takes : Takes T) (ends : Ends T) (old : T) (w : Option (List ℕ)) (feed : FeedValue) (page : PageValue) (ls : List (List ℕ)) (new : T) (w2 : Option (List ℕ)) (p2 : PageValue) (w3 : Option (List ℕ)) (p3 : PageValue)
+    → feed ≡ before_all → page ≡ record { octets = []; is_cut = false } → p3 ≡ record { octets = []; is_cut = false } → Stays w2 p2 w3 p3 → Appends w2 w3 p2.octets
+    → HandsToEnd takes ends (standing old w page) feed.number ls (standing new w2 p2) → HandsToOutput takes ends old w ls new w3
+to_output takes ends old w feed page ls new w2 p2 w3 p3 first empty left s appends h =
+    record {
+      last = standing new w2 p2;
+      hands = subst (λ f. HandsToEnd takes ends (standing old w (record { octets = []; is_cut = false })) f.number ls (standing new w2 p2)) first
+        (subst (λ p. HandsToEnd takes ends (standing old w p) feed.number ls (standing new w2 p2)) empty h);
+      taker = refl;
+      whole = sym s.cut ∙ ap (λ p. p.is_cut) left;
+      rest = appends;
+    }
