@@ -4,6 +4,7 @@ ghost use Rattle.std.specs.Prelude.{◌≡◌, ◌≤◌, OnErr};
 
 use crate::digits::Spot;
 use sms_card::RecordFault;
+use sms_feed::FeedFault;
 use sms_file::FileFault;
 use sms_keep::ReadFault;
 use sms_page::{Page, PageFault};
@@ -205,6 +206,15 @@ impl From<PageFault> for Fault {
         match fault {
             PageFault::Output(error) => Fault::from(error),
             PageFault::Memory => Fault::Memory,
+        }
+    }
+}
+
+impl From<FeedFault> for Fault {
+    fn from(fault: FeedFault) -> Fault {
+        match fault {
+            FeedFault::Page(fault) => Fault::from(fault),
+            FeedFault::Read(_) => Fault::Read,
         }
     }
 }

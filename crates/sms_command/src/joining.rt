@@ -6,12 +6,12 @@ use crate::clock::Clock;
 use crate::fault::Fault;
 use crate::lines::{Layer, Lines};
 use crate::losses::Losses;
-use crate::many::Taker;
 use crate::piece::{Piece, Pieces};
 use crate::printed::Number;
 use crate::recipient::{Addressed, addressed_in};
 use crate::shown::Done;
 use crate::words::Joined;
+use sms_feed::Taker;
 use sms_field::{Address, Stamp};
 use sms_join::{Gateway, GatewayLimits, read_units};
 use sms_keep::save;
@@ -305,13 +305,19 @@ impl Joining {
 }
 
 impl Taker for Joining {
+    type Fault = Fault;
+
+    ghost takes = { λ old number line page new page_then. ⊤ };
+
+    ghost ends = { λ old page new page_then. new ≡ old };
+
     fn take(
         &mut self,
         number: u64,
-        line: Result<&[u8], Fault>,
+        line: Option<&[u8]>,
         page: &mut Page,
     ) -> Result<(), Fault> {
-        match self.addressed(line) {
+        match self.addressed(line.ok_or(Fault::LineTooLong)) {
             Ok(addressed) => self.take_addressed(number, &addressed, page),
             Err(fault) => self.take_fault(number, Layer::Digits, fault, page),
         }

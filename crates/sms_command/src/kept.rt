@@ -3,13 +3,12 @@
 ghost use Rattle.std.specs.Prelude.{◌≡◌, ◌%◌, ◌==◌, ◌&&◌, nat_lt, nat_le};
 
 use crate::fault::Fault;
-use crate::feed::Feed;
 use crate::folders::Folders;
 use crate::joining::{Joining, Way, joiner_of};
-use crate::many::{Taker, take_one};
 use crate::restart::clock_after;
 use crate::shown::Done;
 use crate::words::StateFile;
+use sms_feed::{Feed, Taker, take_one};
 use sms_file::{Folder, replace};
 use sms_keep::{Restored, read};
 use sms_page::Page;
@@ -82,9 +81,10 @@ fn take_rest<F: Folder + Drop, R: Read, W: Write>(
     output: &mut W,
 ) -> Result<(), Fault> {
     for _ in 0..u64::MAX {
-        let Some(line) = feed.next_line(input, page, output)? else {
+        if !feed.advance(input, page, output)? {
             break;
-        };
+        }
+        let line = feed.line();
         let number = line.number;
         if !is_passed_over(number, kept.taken) {
             take_one(joining, line, page, output)?;

@@ -2,7 +2,7 @@
 //! transcript.
 
 use crate::fault::Fault;
-use crate::feed::{Feed, Line};
+use sms_feed::{Feed, Line};
 use sms_page::Page;
 use sms_script::Script;
 use sms_world::{
@@ -301,13 +301,13 @@ fn run_lines<T: Teller, R: Read, W: Write>(
 ) -> Result<(), Fault> {
     let mut feed = Feed::new(alloc)?;
     for _ in 0..u64::MAX {
-        let Some(line) = feed.next_line(input, page, output)? else {
+        if !feed.advance(input, page, output)? {
             break;
-        };
+        }
         if !page.has_room() {
             page.write_to(output)?;
         }
-        run.take(alloc, line, teller, page)?;
+        run.take(alloc, feed.line(), teller, page)?;
         if page.is_full() {
             page.write_to(output)?;
         }

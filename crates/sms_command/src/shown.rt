@@ -5,12 +5,12 @@ use crate::digits::read_octets;
 use crate::fault::Fault;
 use crate::kinds::kind_told;
 use crate::lines::{Layer, Lines};
-use crate::many::{Taker, take_lines};
 use crate::printed::Number;
 use crate::records::show_record;
 use crate::relay::{show_cp, show_rp};
 use crate::show::{show_centre, show_unit};
 use crate::words::{Kind, Shown};
+use sms_feed::{Taker, take_lines};
 use sms_page::Page;
 use sms_told::Form;
 use std::alloc::Global;
@@ -161,12 +161,19 @@ struct Showing<'a> {
 }
 
 impl Taker for Showing<'_> {
+    type Fault = Fault;
+
+    ghost takes = { λ old number line page new page_then. ⊤ };
+
+    ghost ends = { λ old page new page_then. (new ≡ old) × (page_then ≡ page) };
+
     fn take(
         &mut self,
         number: u64,
-        line: Result<&[u8], Fault>,
+        line: Option<&[u8]>,
         page: &mut Page,
     ) -> Result<(), Fault> {
+        let line = line.ok_or(Fault::LineTooLong);
         if self.has_begun && self.shown.form == Form::Plain {
             page.put_one(b'\n');
         }

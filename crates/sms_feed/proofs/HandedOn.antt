@@ -1,8 +1,8 @@
 -- A line that is handed on, with what is written before and after it.
-use Rattle.std.proofs.Common.{◌≡◌, ◌⊎◌, inl, inr, ℕ, Bool, true, false, List, length, take, Option}
+use Rattle.std.proofs.Common.{inl, inr, ℕ, false, List, length, take, Option}
 use Rattle.sms_page.specs.Page.{PageValue}
 use Rattle.sms_feed.specs.Shown.{Stays}
-use Rattle.sms_feed.specs.Takers.{Takes, Hands, HandsOnce, HandsAgain, HandsOne, Standing, standing}
+use Rattle.sms_feed.specs.Takers.{Takes, Hands, HandsOnce, HandsOne, Standing, standing}
 use Rattle.sms_feed.proofs.Staying.{stays_same, stays_then}
 
 pub hands_once : {T : Type 0} (takes : Takes T) (old new : T) (n : ℕ) (line : Option (List ℕ)) (written : Option (List ℕ)) (page page_then : PageValue)
@@ -25,8 +25,14 @@ pub one_then : {T : Type 0} (takes : Takes T) (old : Standing T) (n : ℕ) (line
 one_then takes old n line new w2 p2 w3 p3 (inl h) s = inl (once_then takes old n line new w2 p2 w3 p3 h s)
 one_then takes old n line new w2 p2 w3 p3 (inr h) s =
     inr (record {
-      written = h.written; page = h.page; before = h.before; between = h.between; lost = h.lost; hands = h.hands; cut = h.cut;
-      second = once_then takes (record { taker = h.between; written = h.written; page = record { octets = take (length h.page.octets) h.lost.octets; is_cut = false } }) n line new w2 p2 w3 p3 h.second s
+      written = h.written;
+      page = h.page;
+      before = h.before;
+      between = h.between;
+      lost = h.lost;
+      hands = h.hands;
+      cut = h.cut;
+      second = once_then takes (record { taker = h.between; written = h.written; page = record { octets = take (length h.page.octets) h.lost.octets; is_cut = false } }) n line new w2 p2 w3 p3 h.second s;
     })
 
 pub one_after : {T : Type 0} (takes : Takes T) (old : T) (w0 : Option (List ℕ)) (p0 : PageValue) (w1 : Option (List ℕ)) (p1 : PageValue) (n : ℕ) (line : Option (List ℕ)) (new : Standing T)
@@ -34,6 +40,12 @@ pub one_after : {T : Type 0} (takes : Takes T) (old : T) (w0 : Option (List ℕ)
 one_after takes old w0 p0 w1 p1 n line new s (inl h) = inl (once_after takes old w0 p0 w1 p1 n line new s h)
 one_after takes old w0 p0 w1 p1 n line new s (inr h) =
     inr (record {
-      written = h.written; page = h.page; before = stays_then w0 p0 w1 p1 h.written h.page s h.before; between = h.between; lost = h.lost; hands = h.hands; cut = h.cut;
-      second = h.second
+      written = h.written;
+      page = h.page;
+      before = stays_then w0 p0 w1 p1 h.written h.page s h.before;
+      between = h.between;
+      lost = h.lost;
+      hands = h.hands;
+      cut = h.cut;
+      second = h.second;
     })

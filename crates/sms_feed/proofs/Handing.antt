@@ -1,5 +1,5 @@
 -- How a line is handed on, by what its octets are.
-use Rattle.std.proofs.Common.{◌≡◌, ℕ, Bool, true, false, List, Option, None, Some, OnOk, Result, Ok, Err, option_copied, sym, refl, ◌∙◌, subst}
+use Rattle.std.proofs.Common.{◌≡◌, ℕ, true, false, List, Some, OnOk, Result, Ok, Err, sym, refl, subst}
 use Rattle.std.specs.Prelude.{MatchBool}
 use Rattle.std.specs.Str.{IsTrimAscii}
 use Rattle.sms_page.specs.Page.{PageValue}

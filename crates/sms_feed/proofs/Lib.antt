@@ -1,4 +1,9 @@
-pub mod Handing
-pub mod Staying
+pub mod FeedLemmas
 pub mod HandedOn
+pub mod Handing
+pub mod LineLemmas
+pub mod PageLemmas
+pub mod PlaceLemmas
+pub mod RoomLemmas
+pub mod Staying
 pub mod Taking

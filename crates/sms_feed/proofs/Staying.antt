@@ -1,5 +1,5 @@
 -- What is written and put is not lost where the page is written.
-use Rattle.std.proofs.Common.{◌≡◌, ℕ, Bool, true, false, List, [], ◌++◌, Option, None, Some, sym, refl, ◌∙◌, append-nil}
+use Rattle.std.proofs.Common.{◌≡◌, ℕ, Bool, false, List, [], Option, None, Some, sym, refl, ◌∙◌, append-nil}
 use Rattle.std.specs.Io.KnownBytes.{Appends, Keeps}
 use Rattle.sms_page.specs.Page.{PageValue}
 use Rattle.sms_feed.specs.Shown.{shown, Stays}

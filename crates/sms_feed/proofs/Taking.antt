@@ -1,5 +1,5 @@
 -- Lines that are handed on one after another.
-use Rattle.std.proofs.Common.{◌≡◌, ◌⊎◌, inl, inr, ℕ, Bool, true, false, List, [], ◌∷◌, ◌++◌, Option, None, Some, Result, Ok, Err, OnOk, sym, refl, ◌∙◌, ap, subst, append-nil, append_assoc}
+use Rattle.std.proofs.Common.{◌≡◌, ℕ, Bool, true, false, List, [], ◌∷◌, ◌++◌, Option, Some, Ok, sym, refl, ◌∙◌, ap, subst, append-nil, append_assoc}
 use Rattle.std.specs.Io.KnownBytes.{Appends}
 use Rattle.sms_script.specs.Lines.{lines}
 use Rattle.sms_page.specs.Page.{PageValue}
@@ -69,8 +69,8 @@ one_done takes old n octets feed remaining taker w2 p2 w3 p3 feed_then remaining
       next = at.behind;
       counted = number_is ∙ sym (number_of_one_more n before.done at.first);
       hands = one_more takes old n before.done at.first (standing taker w3 p3) new (all_then takes old n before.done taker w2 p2 w3 p3 before.hands s)
-        (subst (λ l. HandsOne takes (standing taker w3 p3) (next_number (number_after n before.done)) l new) at.line
-        (subst (λ m. HandsOne takes (standing taker w3 p3) m feed_then.line new) number_is one));
+          (subst (λ l. HandsOne takes (standing taker w3 p3) (next_number (number_after n before.done)) l new) at.line
+          (subst (λ m. HandsOne takes (standing taker w3 p3) m feed_then.line new) number_is one));
     }
 
 -- All of them are, and then the taker ends.
@@ -99,7 +99,7 @@ next_is n more feed is g = subst (λ b. feed.number ≡ number_then n (Ok b)) is
 
 -- before the first line
 abbrev pub before_all : FeedValue
-before_all = record { number = 0; line = None; left = []; is_long = false; has_ended = false }
+before_all = record { number = 0; line = Some []; left = []; is_long = false; has_ended = false }
 
 pub awaits_all : (feed : FeedValue) (remaining : Option (List ℕ)) (octets : List ℕ) → feed ≡ before_all → remaining ≡ Some octets → Awaits feed remaining octets
 awaits_all feed remaining octets is known = subst (λ f. Awaits f remaining octets) (sym is)
@@ -112,7 +112,7 @@ to_output takes ends old w feed page ls new w2 p2 w3 p3 first empty left s appen
     record {
       last = standing new w2 p2;
       hands = subst (λ f. HandsToEnd takes ends (standing old w (record { octets = []; is_cut = false })) f.number ls (standing new w2 p2)) first
-        (subst (λ p. HandsToEnd takes ends (standing old w p) feed.number ls (standing new w2 p2)) empty h);
+          (subst (λ p. HandsToEnd takes ends (standing old w p) feed.number ls (standing new w2 p2)) empty h);
       taker = refl;
       whole = sym s.cut ∙ ap (λ p. p.is_cut) left;
       rest = appends;

@@ -1,5 +1,5 @@
 -- Before an input is told to give no line, what stands on the page is written.
-use Rattle.std.specs.Prelude.{◌≡◌, ◌≢◌, ℕ, true, List, [], ⊤, Option}
+use Rattle.std.specs.Prelude.{◌≡◌, ℕ, true, List, ⊤, Option}
 use Rattle.std.specs.Io.KnownBytes.{Appends}
 use Rattle.sms_page.specs.declared.page.PageFault.TheVariants.{Output, Memory}
 use Rattle.sms_page.specs.Page.{PageValue}

@@ -1,7 +1,6 @@
 -- The lines of a reader, one after another.
-use Rattle.std.specs.Prelude.{◌≡◌, ℕ, ◌+◌, ◌<◌, Bool, true, false, List, [], ◌∷◌, ◌++◌, length, Option, None, Some}
-use Rattle.sms_script.specs.Lines.{line_limit, lines, HasNoLineFeed}
-use Rattle.sms_feed.specs.Lines.{few, next_number}
+use Rattle.std.specs.Prelude.{◌≡◌, ℕ, ◌+◌, ◌<◌, Bool, true, false, List, [], ◌++◌, length, Option, Some}
+use Rattle.sms_script.specs.Lines.{line_limit, HasNoLineFeed}
 
 pub record FeedValue : Type 0 where
   -- how many lines there are up to the one at which it stands

@@ -1,5 +1,6 @@
 pub mod Faults
 pub mod Feed
+pub mod Inside
 pub mod Lines
 pub mod Next
 pub mod Shown

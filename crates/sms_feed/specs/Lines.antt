@@ -1,5 +1,5 @@
 -- The lines of octets, as they are handed on: those of std's `str::lines`, each with its number.
-use Rattle.std.specs.Prelude.{◌≡◌, ℕ, suc, ◌^◌, ◌-◌, if◌then◌else◌, nat_le, min, List, length, Option, None, Some}
+use Rattle.std.specs.Prelude.{ℕ, suc, ◌^◌, ◌-◌, if◌then◌else◌, nat_le, min, List, length, Option, None, Some}
 use Rattle.sms_script.specs.Lines.{line_limit}
 
 -- the number of the line after this one; the greatest number stays

@@ -1,6 +1,5 @@
-use Rattle.std.proofs.Common.{◌≡◌, ℕ, List, [], Bool, true, false, not, OnOk, Option, option_copied, refl, sym, ap, ◌∙◌, subst}
-use Rattle.sms_feed.specs.Takers.{HandsOne, HandsToEnd, standing}
-use Rattle.sms_script.specs.Lines.{lines}
+use Rattle.std.proofs.Common.{subst}
+use Rattle.sms_feed.specs.Takers.{HandsOne, standing}
 use Rattle.sms_feed.proofs.Handing.{on_ok}
 use Rattle.sms_feed.proofs.Taking.{none_done, one_done, all_done, goes_on, ends_there, next_is}
 use Rattle.sms_feed.proofs.lines.take_all.Goals as goal

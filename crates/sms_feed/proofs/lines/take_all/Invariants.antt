@@ -1,4 +1,4 @@
-use Rattle.std.proofs.Common.{◌≡◌, ℕ, List}
+use Rattle.std.proofs.Common.{ℕ, List}
 use Rattle.sms_feed.specs.Feed.{Awaits}
 use Rattle.sms_feed.specs.Takers.{standing}
 use Rattle.sms_feed.proofs.Taking.{AreDone}

@@ -1,6 +1,5 @@
-use Rattle.std.proofs.Common.{◌≡◌, ℕ, Bool, true, false, List, Option, None, Some, OnOk, option_copied, sym, refl, ◌∙◌, subst, ap}
+use Rattle.std.proofs.Common.{ℕ, List, Option, OnOk, option_copied, sym, ◌∙◌, subst, ap}
 use Rattle.sms_feed.specs.Takers.{Hands}
-use Rattle.sms_feed.specs.Units.{is_nothing}
 use Rattle.sms_feed.proofs.Handing.{hands_unit, hands_nothing, on_ok}
 use Rattle.sms_feed.proofs.lines.take_line.Goals as goal
 

@@ -1,4 +1,3 @@
-use Rattle.std.proofs.Common.{◌≡◌, ℕ, List, Some}
 use Rattle.sms_script.specs.Lines.{lines}
 use Rattle.sms_feed.proofs.Handing.{on_ok}
 use Rattle.sms_feed.proofs.Taking.{awaits_all, to_output}

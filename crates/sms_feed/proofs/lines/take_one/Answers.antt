@@ -1,4 +1,4 @@
-use Rattle.std.proofs.Common.{◌≡◌, ◌∙◌, subst, sym, option_copied}
+use Rattle.std.proofs.Common.{◌∙◌, subst, sym, option_copied}
 use Rattle.sms_feed.specs.Shown.{Stays}
 use Rattle.sms_feed.specs.Takers.{standing}
 use Rattle.sms_feed.proofs.HandedOn.{one_then, one_after}

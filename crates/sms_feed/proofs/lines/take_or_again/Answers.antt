@@ -1,4 +1,4 @@
-use Rattle.std.proofs.Common.{◌≡◌, option_copied}
+use Rattle.std.proofs.Common.{option_copied}
 use Rattle.sms_feed.proofs.HandedOn.{hands_once}
 use Rattle.sms_feed.proofs.lines.take_or_again.Goals as goal
 
