@@ -7,7 +7,7 @@ use Rattle.sms_feed.specs.Feed.{FeedValue, Awaits}
 use Rattle.sms_feed.specs.Next.{StandsAtFirst}
 use Rattle.sms_feed.specs.Inside.Ends.{EndsAt, HasNoEnd, size, behind}
 use Rattle.sms_feed.specs.Inside.Room.{kept}
-use Rattle.sms_feed.specs.declared.feed.End.{End}
+use Rattle.sms_feed.specs.declared.place.End.{End}
 use Rattle.sms_feed.proofs.LineLemmas.{HasNoLineFeed-append, lines_to, few_to}
 
 -- what was thrown away has no line feed

@@ -6,7 +6,7 @@ use Rattle.memchr.specs.Find.{NoneBefore, Nowhere, Passes, is_byte}
 use Rattle.sms_script.specs.Lines.{line_feed, HasNoLineFeed}
 use Rattle.sms_feed.specs.Feed.{FeedValue}
 use Rattle.sms_feed.specs.Inside.Ends.{EndsAt, size}
-use Rattle.sms_feed.specs.declared.feed.End.{End}
+use Rattle.sms_feed.specs.declared.place.End.{End}
 
 not_true : (b : Bool) → (b ≡ true → ⊥) → b ≡ false
 not_true true h = absurd (h refl)

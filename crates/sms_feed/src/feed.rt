@@ -6,43 +6,22 @@ ghost use Rattle.sms_script.specs.Lines.{HasNoLineFeed};
 ghost use Rattle.sms_feed.specs.Faults.{IsTold};
 ghost use Rattle.sms_feed.specs.Feed.{FeedValue, Awaits};
 ghost use Rattle.sms_feed.specs.Inside.Ends.{Ends, EndsAt, behind};
-ghost use Rattle.sms_feed.specs.Inside.Room.{kept};
 ghost use Rattle.sms_feed.specs.Next.{GoesOn, number_then};
 ghost use Rattle.sms_feed.specs.Shown.{Stays, shown};
 
 use crate::fault::FeedFault;
-use crate::line::{LINE_LIMIT, Line, octets_of};
+use crate::line::{Line, octets_of};
+use crate::place::{End, Lies};
+use crate::room::{KEPT_MAX, keep, read_behind};
+use crate::writing::write_out;
 use memchr::memchr;
-use sms_page::{Page, PageFault};
-use sms_script::read_again;
+use sms_page::Page;
 use std::alloc::{AllocError, Global};
 use std::io::{Error, ErrorKind, Read, Write};
 use std::marker::Model;
 
-/// The most octets of a line that may be kept, with the carriage return at its end.
-const KEPT_MAX: usize = LINE_LIMIT + 1;
-
 /// How many octets are read at once.
 const ROOM: usize = 65_536;
-
-/// Where a line ends.
-#[derive(Clone, Copy)]
-struct End {
-    /// How many octets it has.
-    length: usize,
-    /// Whether a line feed follows.
-    has_feed: bool,
-}
-
-/// Where a line lies.
-#[derive(Clone, Copy)]
-struct Lies {
-    start: usize,
-    /// Where it ends, counted from there.
-    end: End,
-    /// Whether its front was thrown away.
-    is_long: bool,
-}
 
 /// The lines of a reader, one after another. It keeps what was read of the lines that follow, and
 /// never more than it has room for.
@@ -269,47 +248,4 @@ impl Feed {
             },
         }
     }
-}
-
-/// Keeps what lies between two places at the front, or nothing where it is longer than a line may
-/// be, and answers how many octets that are.
-fn keep(room: &mut Vec<u8>, start: usize, end: usize) -> usize
-    requires { (start ≤ end) × (end ≤ length room.old.items) }
-    ensures kept { take result room.new.items
-        ≡ kept (take (end - start) (drop start room.old.items)) }
-    ensures count { result ≡ length (kept (take (end - start) (drop start room.old.items))) }
-    ensures few { result ≤ KEPT_MAX }
-    ensures room { length room.new.items ≡ length room.old.items }
-{
-    let count = end - start;
-    if count > KEPT_MAX {
-        return 0;
-    }
-    room.as_mut_slice().copy_within(start..end, 0);
-    count
-}
-
-/// Reads behind what is kept at the front, and answers how many octets were read.
-fn read_behind<R: Read>(input: &mut R, room: &mut Vec<u8>, count: usize) -> std::io::Result<usize>
-    requires { count < length room.old.items }
-    ensures kept { take count room.new.items ≡ take count room.old.items }
-    ensures bound { IfOk result (λ read. count + read ≤ length room.new.items) }
-    ensures octets { ReadConsumes (R.remaining input.old) (R.remaining input.new) result
-        (drop count room.new.items) }
-    ensures room { length room.new.items ≡ length room.old.items }
-{
-    read_again(input, &mut room.as_mut_slice()[count..])
-}
-
-/// Writes what stands on the page, and flushes the output.
-fn write_out<W: Write>(page: &mut Page, output: &mut W) -> Result<(), FeedFault>
-    ensures page { OnOk result ((page.old.is_cut ≡ false)
-        × (page.new ≡ record { octets = []; is_cut = false })
-        × Appends (W.contents output.old) (W.contents output.new) page.old.octets) }
-    ensures written { IfErr result (λ fault. IsTold fault (W.contents output.old) page.old
-        (W.contents output.new)) }
-{
-    page.write_to(output)?;
-    output.flush().map_err(PageFault::Output)?;
-    Ok(())
 }

@@ -6,7 +6,10 @@ mod fault;
 mod feed;
 mod line;
 mod lines;
+mod place;
+mod room;
 mod taker;
+mod writing;
 
 pub use fault::FeedFault;
 pub use feed::Feed;

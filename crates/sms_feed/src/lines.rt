@@ -5,7 +5,6 @@ ghost use Rattle.std.specs.Io.KnownBytes.{Appends};
 ghost use Rattle.sms_script.specs.Lines.{lines};
 ghost use Rattle.sms_page.specs.Page.{PageValue};
 ghost use Rattle.sms_feed.specs.Feed.{Awaits};
-ghost use Rattle.sms_feed.specs.Shown.{Stays};
 ghost use Rattle.sms_feed.specs.Takers.{Hands, HandsOne, HandsToEnd, HandsToOutput, standing};
 
 use crate::chatter::is_nothing;
@@ -13,21 +12,10 @@ use crate::fault::FeedFault;
 use crate::feed::Feed;
 use crate::line::Line;
 use crate::taker::Taker;
+use crate::writing::write_page;
 use sms_page::{Page, PageFault};
 use std::alloc::Global;
 use std::io::{Error, ErrorKind, Read, Write};
-
-/// Writes what stands on a page.
-fn write_page<W: Write>(page: &mut Page, output: &mut W) -> Result<(), FeedFault>
-    ensures stays { OnOk result
-        (Stays (W.contents output.old) page.old (W.contents output.new) page.new) }
-    ensures empty { OnOk result (page.new ≡ record { octets = []; is_cut = false }) }
-    ensures whole { OnOk result
-        (Appends (W.contents output.old) (W.contents output.new) page.old.octets) }
-{
-    page.write_to(output)?;
-    Ok(())
-}
 
 /// Hands on a line that has a unit. Empty lines, and what a modem says, are passed over.
 fn take_line<T: Taker>(taker: &mut T, line: Line<'_>, page: &mut Page) -> Result<(), T::Fault>

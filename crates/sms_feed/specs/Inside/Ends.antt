@@ -5,8 +5,8 @@ use Rattle.std.specs.Prelude.{◌≡◌, ◌⊎◌, ℕ, ◌+◌, ◌<◌, Bool,
 use Rattle.sms_script.specs.Lines.{line_feed, strip_carriage_return, HasNoLineFeed}
 use Rattle.sms_feed.specs.Feed.{FeedValue}
 use Rattle.sms_feed.specs.Lines.{few, next_number}
-use Rattle.sms_feed.specs.declared.feed.End.{End}
-use Rattle.sms_feed.specs.declared.feed.Lies.{Lies}
+use Rattle.sms_feed.specs.declared.place.End.{End}
+use Rattle.sms_feed.specs.declared.place.Lies.{Lies}
 
 -- The next line ends there: at a line feed, or at the end of all.
 pub record EndsAt (feed : FeedValue) (end : End) : Type 0 where
