@@ -1,3 +1,3 @@
 -- What a reader may pass by: no public contract cites it.
-pub mod Clock
 pub mod Digits
+pub mod Joins

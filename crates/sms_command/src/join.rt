@@ -2,7 +2,6 @@
 
 ghost use Rattle.std.specs.Prelude.{◌≡◌, ◌<◌};
 
-use crate::clock::Clock;
 use crate::fault::Fault;
 use crate::folders::Folders;
 use crate::joining::{Joining, Way, joiner_of};
@@ -11,6 +10,7 @@ use crate::shown::Done;
 use crate::words::Joined;
 use sms_feed::take_lines;
 use sms_join::GatewayLimits;
+use sms_stream::Clock;
 use std::alloc::Global;
 use std::io::{Read, Write};
 

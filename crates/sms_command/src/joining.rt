@@ -1,36 +1,24 @@
 //! What joins the pieces of lines, and tells what comes of it.
 
-ghost use Rattle.sms_tpdu.specs.UserData.ConcatenationFound.{IsPlace};
+ghost use Rattle.std.specs.Prelude.{◌≡◌, OnOk};
+ghost use Rattle.sms_command.specs.Inside.Joins.{JoinsLine};
 
-use crate::clock::Clock;
 use crate::fault::Fault;
 use crate::lines::{Layer, Lines};
-use crate::losses::Losses;
-use crate::piece::{Piece, Pieces};
+use crate::losses::tell_losses;
+use crate::piece::Pieces;
 use crate::printed::Number;
 use crate::recipient::{Addressed, addressed_in};
 use crate::shown::Done;
 use crate::words::Joined;
 use sms_feed::Taker;
-use sms_field::{Address, Stamp};
-use sms_join::{Gateway, GatewayLimits, read_units};
+use sms_join::{Gateway, GatewayLimits};
 use sms_keep::save;
 use sms_page::Page;
-use sms_told::{Offered, Source, Telling, put_old_sets, put_open_sets};
+use sms_stream::{Arrival, Clock, Stream};
+use sms_told::Telling;
 use std::alloc::{AllocError, Global};
 use std::io::Write;
-
-/// The stamp of a piece that has none: no set is known by it.
-const NO_STAMP: [u8; 7] = [0; 7];
-
-/// The line in which a piece comes.
-#[derive(Clone, Copy)]
-struct Arrival<'a> {
-    /// The number of the line.
-    number: u64,
-    /// For whom the piece is, where the line says so.
-    recipient: Option<&'a Address>,
-}
 
 /// What a run joins by.
 #[derive(Clone, Copy)]
@@ -61,13 +49,8 @@ pub struct Joining {
     pieces: Pieces,
     /// Whether each line begins with its recipient.
     has_recipients: bool,
-    /// How what comes of pieces is told.
-    telling: Telling,
-    joiner: Gateway,
-    /// The clock that the stamps set.
-    clock: Clock,
-    /// What is lost so far.
-    losses: Losses,
+    /// What joins the pieces, and tells what comes of them.
+    stream: Stream,
     /// Room for the octets of a line, which is kept.
     room: Vec<u8>,
     /// Whether a line was at fault.
@@ -78,18 +61,16 @@ impl Joining {
     /// One that goes on from what a joiner holds, at a clock.
     pub fn new(alloc: Global, way: &Way<'_>, joiner: Gateway, clock: Clock) -> Joining {
         let joined = way.joined;
+        let telling = Telling {
+            form: joined.form,
+            is_verbose: joined.is_verbose,
+            tells_lines: joined.state.is_some(),
+        };
         Joining {
             alloc,
             pieces: way.pieces,
             has_recipients: joined.has_recipients,
-            telling: Telling {
-                form: joined.form,
-                is_verbose: joined.is_verbose,
-                tells_lines: joined.state.is_some(),
-            },
-            joiner,
-            clock,
-            losses: Losses::none(),
+            stream: Stream::new(telling, joiner, clock),
             room: Vec::new(alloc),
             is_faulty: false,
         }
@@ -97,13 +78,15 @@ impl Joining {
 
     /// All that the joiner holds, as octets, and how many lines were taken.
     pub fn save(&self, taken: u64) -> Result<Vec<u8>, AllocError> {
-        save(self.alloc, &self.joiner, taken)
+        save(self.alloc, self.stream.joiner(), taken)
     }
 
     /// Ends the run, of which it is given how the lines ended: tells what is lost.
     pub fn end<N: Write>(self, taken: Result<(), Fault>, notes: &mut N) -> Result<Done, Fault> {
         let done = Done::unless(self.is_faulty);
-        self.tell_losses(notes);
+        if !self.stream.telling().is_verbose {
+            tell_losses(self.stream.losses(), self.stream.joiner().open_count(), notes);
+        }
         drop(self);
         taken?;
         Ok(done)
@@ -116,142 +99,15 @@ impl Joining {
         layer: Layer,
         fault: &Fault,
         page: &mut Page,
-    ) -> Result<(), Fault> {
+    ) -> Result<(), Fault>
+        ensures stays { self.new.stream ≡ self.old.stream }
+    {
         self.is_faulty = true;
-        let mut lines = Lines::new(self.telling.form, page.take(self.alloc));
+        let mut lines = Lines::new(self.stream.telling().form, page.take(self.alloc));
         lines.put_json("line", Number(number));
         lines.begin(layer);
         lines.finish_with(self.alloc, Some(number), false, fault, page)?;
         Ok(())
-    }
-
-    /// Takes the stamp of a unit, if it has a moment, and drops the sets that are old then.
-    fn go_on(
-        &mut self,
-        origin: &Address,
-        moment: Option<u64>,
-        page: &mut Page,
-    ) -> Result<(), Fault> {
-        let Some(moment) = moment else {
-            return Ok(());
-        };
-        let before = self.clock.time;
-        self.clock.take(origin, moment);
-        let now = self.clock.time;
-        if now <= before {
-            return Ok(());
-        }
-        let told = self.tell_old(now, page);
-        let count = self.joiner.open_count();
-        self.joiner.age(now);
-        self.losses
-            .drop_sets(count.saturating_sub(self.joiner.open_count()));
-        told
-    }
-
-    /// Tells the sets that are old at a moment, where that is asked for, in order of opening.
-    fn tell_old(&self, now: u64, page: &mut Page) -> Result<(), Fault> {
-        if !self.telling.is_verbose {
-            return Ok(());
-        }
-        put_old_sets(self.alloc, self.telling.form, &self.joiner, now, page)?;
-        Ok(())
-    }
-
-    /// Tells in one line what is lost, where something is and nothing else tells it.
-    fn tell_losses<N: Write>(&self, notes: &mut N) {
-        if !self.telling.is_verbose {
-            self.losses.tell(self.joiner.open_count(), notes);
-        }
-    }
-
-    /// The moment at which a piece counts that has a stamp of this moment, if it has one. A text
-    /// that it finishes counts as finished at the clock: a stamp that lies ahead of that is not
-    /// believed alone.
-    fn counted_at(&self, arrival: Arrival<'_>, piece: &Piece, moment: Option<u64>) -> u64
-        requires { IsPlace piece.now.concat }
-    {
-        let now = self.clock.opening(moment);
-        if now <= self.clock.time {
-            return now;
-        }
-        let stamp = piece.stamp.unwrap_or(Stamp::new(NO_STAMP));
-        let finishes = self
-            .joiner
-            .would_finish(arrival.recipient, &piece.origin, stamp, piece.concat);
-        if finishes { self.clock.time } else { now }
-    }
-
-    /// Offers a piece, of which the moment is given, and adds what comes of it.
-    fn offer(
-        &mut self,
-        arrival: Arrival<'_>,
-        piece: Piece,
-        moment: Option<u64>,
-        page: &mut Page,
-    ) -> Result<(), Fault>
-        requires { IsPlace piece.concat }
-    {
-        let now = self.counted_at(arrival, &piece, moment);
-        let Piece {
-            origin,
-            stamp,
-            concat,
-            units,
-        } = piece;
-        let source = Source {
-            number: arrival.number,
-            recipient: arrival.recipient,
-            origin: &origin,
-            moment,
-        };
-        let piece = Offered {
-            now,
-            stamp: stamp.unwrap_or(Stamp::new(NO_STAMP)),
-            concat,
-            units,
-        };
-        let joiner = &mut self.joiner;
-        if self
-            .telling
-            .offer(self.alloc, joiner, &source, piece, page)?
-        {
-            self.losses.turn_away();
-        }
-        Ok(())
-    }
-
-    /// Adds the text of a message in one piece that has no stamp, by which a repeat would be known.
-    fn pass(&mut self, arrival: Arrival<'_>, piece: Piece, page: &mut Page) -> Result<(), Fault> {
-        let Piece { origin, units, .. } = piece;
-        let text = read_units(self.alloc, &[units])?;
-        let source = Source {
-            number: arrival.number,
-            recipient: arrival.recipient,
-            origin: &origin,
-            moment: None,
-        };
-        self.telling.put_text(self.alloc, &source, &text, page)?;
-        Ok(())
-    }
-
-    /// Takes a piece, after what is old at its moment is dropped.
-    fn take_piece(
-        &mut self,
-        arrival: Arrival<'_>,
-        piece: Piece,
-        page: &mut Page,
-    ) -> Result<(), Fault>
-        requires { IsPlace piece.concat }
-    {
-        if piece.stamp.is_none() && piece.concat.is_none() {
-            return self.pass(arrival, piece, page);
-        }
-        let moment = piece.stamp.and_then(|stamp| stamp.moment());
-        let gone = self.go_on(&piece.origin, moment, page);
-        let offered = self.offer(arrival, piece, moment, page);
-        gone?;
-        offered
     }
 
     /// A line with its recipient, where lines have one.
@@ -272,7 +128,10 @@ impl Joining {
         number: u64,
         addressed: &Addressed<'_>,
         page: &mut Page,
-    ) -> Result<(), Fault> {
+    ) -> Result<(), Fault>
+        ensures { OnOk result
+            (JoinsLine self.old.stream self.new.stream number page.old page.new) }
+    {
         let arrival = Arrival {
             number,
             recipient: addressed.recipient.as_ref(),
@@ -283,7 +142,7 @@ impl Joining {
             .pieces
             .take(self.alloc, addressed.line, room, &mut layer)
         {
-            Ok(Some(piece)) => self.take_piece(arrival, piece, page),
+            Ok(Some(piece)) => Ok(self.stream.take(self.alloc, arrival, piece, page)?),
             Ok(None) => Ok(()),
             Err(fault) => self.take_fault(number, layer, fault, page),
         }
@@ -296,7 +155,9 @@ impl Joining {
         layer: Layer,
         fault: Fault,
         page: &mut Page,
-    ) -> Result<(), Fault> {
+    ) -> Result<(), Fault>
+        ensures stays { self.new.stream ≡ self.old.stream }
+    {
         if fault.is_of_input() {
             return self.tell_fault(number, layer, &fault, page);
         }
@@ -307,9 +168,17 @@ impl Joining {
 impl Taker for Joining {
     type Fault = Fault;
 
-    ghost takes = { λ old number line page new page_then. ⊤ };
+    ghost use Rattle.std.specs.Prelude.{◌≡◌, ◌×◌, codes};
+    ghost use Rattle.std.specs.List.{flat_map};
+    ghost use Rattle.sms_page.specs.Page.{Puts};
+    ghost use Rattle.sms_told.specs.Sets.{set_text};
+    ghost use Rattle.sms_command.specs.Inside.Joins.{JoinsLine};
 
-    ghost ends = { λ old page new page_then. new ≡ old };
+    ghost takes = { λ old number line page new page_then.
+        JoinsLine old.stream new.stream number page page_then };
+
+    ghost ends = { λ old page new page_then. (new.stream ≡ old.stream) × Puts page page_then
+        (flat_map (set_text old.stream.telling.form (codes "open")) old.stream.joiner.told) };
 
     fn take(
         &mut self,
@@ -329,7 +198,7 @@ impl Taker for Joining {
     }
 
     fn finish(&mut self, page: &mut Page) -> Result<(), Fault> {
-        put_open_sets(self.alloc, self.telling.form, &self.joiner, page)?;
+        self.stream.finish(self.alloc, page)?;
         Ok(())
     }
 }

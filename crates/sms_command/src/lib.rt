@@ -7,7 +7,6 @@ mod alone;
 mod any;
 mod chart;
 mod cli;
-mod clock;
 mod data_line;
 mod digits;
 mod encode;

@@ -12,22 +12,10 @@ use crate::records::deliver_in;
 use crate::show::centre_fault;
 use crate::words::Carried;
 use sms_card::RecordView;
-use sms_field::{Address, Alphabet, RpAddressView, Stamp, alphabet_of};
-use sms_join::Units;
+use sms_field::{Alphabet, RpAddressView, alphabet_of};
+use sms_stream::Piece;
 use sms_tpdu::{Concat, DeliverView, HeaderView, Length, SinglesView, UserDataView};
 use std::alloc::Global;
-
-/// What a segment, or a message in one piece, has for the joiner.
-#[derive(Drop)]
-pub struct Piece {
-    /// Whom it is from (TP-OA).
-    pub origin: Address,
-    /// Its time stamp (TP-SCTS), where it has one.
-    pub stamp: Option<Stamp>,
-    /// Its place among the segments of its message, if it is one.
-    pub concat: Option<Concat>,
-    pub units: Units,
-}
 
 /// How lines have their pieces.
 #[derive(Clone, Copy)]

@@ -2,8 +2,8 @@
 
 ghost use Rattle.std.specs.Prelude.{◌≡◌};
 
-use crate::clock::Clock;
 use sms_join::Gateway;
+use sms_stream::Clock;
 
 /// The clock after the messages that a joiner remembers, the oldest first: each counts as a unit of
 /// its origin that came when it finished. At the moment 0 no clock was set.

@@ -1,12 +1,12 @@
 -- The clock of units that come one after another, each of an origin (TP-OA) and with the moment of
 -- its stamp (TP-SCTS). A stamp more than a week after the clock is not believed alone.
-use Rattle.std.specs.Prelude.{ℕ, ◌+◌, ◌-◌, min, max, Bool, true, false, not, ◌&&◌, ◌||◌, if◌then◌else◌, nat_lt, Option, unwrap_or}
+use Rattle.std.specs.Prelude.{ℕ, ◌+◌, ◌-◌, min, max, Bool, true, false, not, ◌&&◌, if◌then◌else◌, nat_lt, Option, unwrap_or}
 use Rattle.sms_field.specs.Address.Value.{AddressValue}
 use Rattle.sms_field.specs.Address.Same.{same_address}
-use Rattle.sms_command.specs.declared.clock.Clock.{Clock}
-use Rattle.sms_command.specs.declared.clock.Row.{Row}
-use Rattle.sms_command.specs.declared.clock.Standing.{Standing}
-use Rattle.sms_command.specs.declared.clock.Standing.TheVariants.{Unset, First, Sure, Ahead}
+use Rattle.sms_stream.specs.declared.clock.Clock.{Clock}
+use Rattle.sms_stream.specs.declared.clock.Row.{Row}
+use Rattle.sms_stream.specs.declared.clock.Standing.{Standing}
+use Rattle.sms_stream.specs.declared.clock.Standing.TheVariants.{Unset, First, Sure, Ahead}
 
 -- the seconds of seven days, after which a set is old
 abbrev pub week : ℕ

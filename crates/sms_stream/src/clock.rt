@@ -1,10 +1,10 @@
 //! The clock of units that come one after another: the moment at which open sets grow old.
 
 ghost use Rattle.std.specs.Prelude.{◌≡◌};
-ghost use Rattle.sms_command.specs.Inside.Clock.{new_clock, first_clock, ticked};
-ghost use Rattle.sms_command.specs.Inside.Clock.{after_first, after_sure, after_row, after_far};
-ghost use Rattle.sms_command.specs.Inside.Clock.{is_far_after, goes_on, is_refuted, standing_after};
-ghost use Rattle.sms_command.specs.Inside.Clock.{is_unset, opened_at, recalled};
+ghost use Rattle.sms_stream.specs.Clock.{new_clock, first_clock, ticked};
+ghost use Rattle.sms_stream.specs.Clock.{after_first, after_sure, after_row, after_far};
+ghost use Rattle.sms_stream.specs.Clock.{is_far_after, goes_on, is_refuted, standing_after};
+ghost use Rattle.sms_stream.specs.Clock.{is_unset, opened_at, recalled};
 
 use sms_field::Address;
 
