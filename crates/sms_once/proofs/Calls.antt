@@ -1,0 +1,125 @@
+-- Calls that leave what their clauses say hold what the run says.
+use Rattle.std.proofs.Common.{◌≡◌, ℕ, ◌+◌, ◌-◌, ◌<◌, ◌≤◌, ◌⊎◌, inl, inr, Bool, true, false, cond, ◌&&◌, leb, List, [], ◌∷◌, refl, sym, ap, ◌∙◌, subst, arith}
+use Rattle.std.proofs.lemmas.Bool.{cases_lt, leb-true, leb-false, le-leb, false_from_ne_true}
+use Rattle.sms_join.specs.declared.key.Key.{Key}
+use Rattle.sms_join.specs.Piece.{Piece}
+use Rattle.sms_join.specs.Joiner.Sets.{is_open, opened_at}
+use Rattle.sms_join.specs.Joiner.{Joiner, Finished, answer, offered}
+use Rattle.sms_join.specs.Joiner.Aging.{AgesAlike, aged, aged_after, is_old, is_old_after, young}
+use Rattle.sms_join.specs.Joiner.Acts.{Act, Brings, Ages}
+use Rattle.sms_join.specs.Joiner.Finishing.{SameIsEquivalence}
+use Rattle.sms_join.specs.Joiner.Same.{AnswersAlike, IsSame}
+use Rattle.sms_join.specs.Gateway.Answers.{gateway_aged, gateway_answer, gateway_finishings, gateway_offered, is_passed}
+use Rattle.sms_join.specs.Gateway.Finishings.{finishings_after, finishings_at, keys_at}
+use Rattle.sms_join.specs.Gateway.Value.{GatewayValue, LimitsValue}
+use Rattle.sms_once.specs.Run.{Held, held_after, held_aged, run}
+use Rattle.sms_once.specs.Calls.{AreCalled, CallsFollowRun, DoesHold, IsAged, IsAsRun, IsCalled, IsOffered}
+
+leb_alike : (a b c d : ℕ) → (a ≤ b → c ≤ d) → (c ≤ d → a ≤ b) → leb a b ≡ leb c d
+leb_alike a b c d f g = go (leb a b) refl
+  where
+    go : (x : Bool) → leb a b ≡ x → leb a b ≡ leb c d
+    go true e = e ∙ sym (le-leb c d (f (leb-true a b e)))
+    go false e = e ∙ sym (false_from_ne_true (leb c d) (λ t. let l = le-leb a b (g (leb-true c d t)) in let z : true ≡ false = sym l ∙ e in cc))
+
+-- a moment at which just those sets are a week old
+record IsWeek (longest now n : ℕ) : Type 0 where
+  alike : (m : ℕ) → leb (m + longest) now ≡ leb (m + 604800) n
+
+week : (longest now : ℕ) → (n : ℕ) × IsWeek longest now n
+week longest now = go (cases_lt now longest)
+  where
+    go : (now < longest) ⊎ (longest ≤ now) → (n : ℕ) × IsWeek longest now n
+    go (inl l) = (0, record { alike = λ m. leb_alike (m + longest) now (m + 604800) 0 (λ a. omega arith) (λ a. omega arith) })
+    go (inr l) = (
+      (now - longest) + 604800,
+      record { alike = λ m. leb_alike (m + longest) now (m + 604800) ((now - longest) + 604800) (λ a. omega arith) (λ a. omega arith) },
+    )
+
+young_alike : (f g : Key → Bool) (ps : List Piece) → ((k : Key) → f k ≡ g k) → young f ps ≡ young g ps
+young_alike f g [] e = refl
+young_alike f g (p ∷ ps) e = ap (λ b. cond b (young f ps) (p ∷ young f ps)) (e p.key) ∙ ap (λ l. cond (g p.key) l (p ∷ l)) (young_alike f g ps e)
+
+aged_week : (longest now n : ℕ) (j : Joiner) → IsWeek longest now n → (aged_after longest now j).kept ≡ (aged n j).kept
+unfolding aged_after aged
+aged_week longest now n j w =
+    young_alike (is_old_after longest now j.kept) (is_old n j.kept) j.kept (λ k. ap (λ b. is_open j.kept k && b) (w.alike (opened_at j.kept k)))
+
+module _ (answers : AnswersAlike) (ages : AgesAlike) (equivalence : SameIsEquivalence) where
+  along : (i j k : Joiner) → IsSame i j → IsSame j k → IsSame i k
+  along = equivalence.2
+
+  -- the same pieces under the same keys
+  with_kept : (i j : Joiner) (ps qs : List Piece) (ks ls : List Key) → IsSame i j → ps ≡ i.kept → qs ≡ j.kept → ks ≡ ls
+      → IsSame (record { kept = ps; finished = ks }) (record { kept = qs; finished = ls })
+  with_kept i j ps qs ks ls s e f g =
+      subst (λ (l : List Piece). IsSame (record { kept = l; finished = ks }) (record { kept = qs; finished = ls })) (sym e)
+      (subst (λ (l : List Piece). IsSame (record { kept = i.kept; finished = ks }) (record { kept = l; finished = ls })) (sym f)
+      (record { pieces = s.pieces; units = s.units; opened = s.opened; moments = s.moments; sets = s.sets; finished = g }))
+
+  aged_alike : (limits : LimitsValue) (now : ℕ) (i j : Joiner) (ms ns : List ℕ) → IsSame i j → ms ≡ ns
+      → IsSame (record { kept = (aged_after limits.open_for now i).kept; finished = keys_at limits.remember_for now i.finished ms })
+      (record { kept = (aged_after limits.open_for now j).kept; finished = keys_at limits.remember_for now j.finished ns })
+  aged_alike limits now i j ms ns s e =
+      let w = week limits.open_for now in
+      with_kept (aged w.0 i) (aged w.0 j) (aged_after limits.open_for now i).kept (aged_after limits.open_for now j).kept
+      (keys_at limits.remember_for now i.finished ms) (keys_at limits.remember_for now j.finished ns)
+      (ages w.0 i j s) (aged_week limits.open_for now w.0 i w.1) (aged_week limits.open_for now w.0 j w.1)
+      (ap (λ ks. keys_at limits.remember_for now ks ms) s.finished ∙ ap (keys_at limits.remember_for now j.finished) e)
+
+  offered_alike : (limits : LimitsValue) (i j : Joiner) (p : Piece) → IsSame i j → IsSame (gateway_offered limits i p) (gateway_offered limits j p)
+  offered_alike limits i j p s = go (is_passed limits.alone p.key)
+    where
+      go : (b : Bool) → IsSame (cond b i (offered limits.open_max limits.remembered i p)) (cond b j (offered limits.open_max limits.remembered j p))
+      go true = s
+      go false = (answers limits.open_max limits.remembered i j p s).1
+
+  answer_alike : (limits : LimitsValue) (i j : Joiner) (p : Piece) → IsSame i j → gateway_answer limits i p ≡ gateway_answer limits j p
+  answer_alike limits i j p s = ap (cond (is_passed limits.alone p.key) (Finished (p.units ∷ []))) (answers limits.open_max limits.remembered i j p s).0
+
+  finishings_alike : (limits : LimitsValue) (i j : Joiner) (ms ns : List ℕ) (p : Piece) → IsSame i j → ms ≡ ns
+      → gateway_finishings limits i ms p ≡ gateway_finishings limits j ns p
+  finishings_alike limits i j ms ns p s e =
+      ap (λ l. gateway_finishings limits i l p) e
+      ∙ ap (λ a. cond (is_passed limits.alone p.key) ns (finishings_after limits.remembered ns p.moment a)) (answers limits.open_max limits.remembered i j p s).0
+
+  -- one call
+  one_call : (limits : LimitsValue) (old new : GatewayValue) (h : Held) (act : Act Piece) → old.limits ≡ limits → DoesHold old h → IsCalled old new act
+      → DoesHold new (held_after limits h act) × (new.limits ≡ limits)
+  one_call limits old new h (Brings p) l d c = (
+    record {
+      holds = along new.holds (gateway_offered old.limits old.holds p) (gateway_offered limits h.holds p) c.holds
+          (along (gateway_offered old.limits old.holds p) (gateway_offered old.limits h.holds p) (gateway_offered limits h.holds p)
+          (offered_alike old.limits old.holds h.holds p d.holds)
+          (subst (λ (m : LimitsValue). IsSame (gateway_offered old.limits h.holds p) (gateway_offered m h.holds p)) l (equivalence.0 (gateway_offered old.limits h.holds p))));
+      finishings = c.finishings ∙ (finishings_alike old.limits old.holds h.holds old.finishings h.finishings p d.holds d.finishings
+          ∙ ap (λ (m : LimitsValue). gateway_finishings m h.holds h.finishings p) l);
+    },
+    c.limits ∙ l,
+  )
+  one_call limits old new h (Ages now) l d c = (
+    record {
+      holds = along new.holds (gateway_aged old now) (held_aged limits h now).holds c.holds
+          (subst (λ (m : LimitsValue). IsSame (gateway_aged old now) (held_aged m h now).holds) l
+          (aged_alike old.limits now old.holds h.holds old.finishings h.finishings d.holds d.finishings));
+      finishings = c.finishings ∙ (ap (finishings_at old.limits.remember_for now) d.finishings ∙ ap (λ (m : LimitsValue). finishings_at m.remember_for now h.finishings) l);
+    },
+    c.limits ∙ l,
+  )
+
+  all_calls : (old new : GatewayValue) (h : Held) (acts : List (Act Piece)) → DoesHold old h → AreCalled old new acts
+      → DoesHold new (run old.limits h acts) × (new.limits ≡ old.limits)
+  all_calls old new h [] d c = (subst (λ (g : GatewayValue). DoesHold g h) (sym c) d, ap (λ (g : GatewayValue). g.limits) c)
+  all_calls old new h (act ∷ acts) d c =
+      let ih = all_calls old c.0 h acts d c.1 in
+      one_call old.limits c.0 new (run old.limits h acts) act ih.1 ih.0 c.2
+
+  pub calls_follow_run : CallsFollowRun
+  calls_follow_run old new h acts d c =
+      let r = all_calls old new h acts d c in
+      record {
+        holds = r.0;
+        answers = λ p.
+            ap (λ (m : LimitsValue). gateway_answer m new.holds p) r.1
+            ∙ answer_alike old.limits new.holds (run old.limits h acts).holds p r.0.holds;
+      }

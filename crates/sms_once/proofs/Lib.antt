@@ -1,0 +1,11 @@
+pub mod Keys
+pub mod Sets
+pub mod Aged
+pub mod Holding
+pub mod Lasting
+pub mod Once
+pub mod Falling
+pub mod Distinct
+pub mod Anew
+pub mod Calls
+pub mod InTime
