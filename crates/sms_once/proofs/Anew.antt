@@ -1,5 +1,5 @@
 -- A key whose finishing is forgotten joins anew.
-use Rattle.std.proofs.Common.{◌≡◌, ℕ, zero, suc, Bool, true, false, cond, ◌||◌, List, [], ◌∷◌, ◌++◌, slice_get, Option, None, Some, refl, sym, ap, ◌∙◌, subst}
+use Rattle.std.proofs.Common.{◌≡◌, ℕ, zero, suc, Bool, true, false, cond, ◌||◌, List, [], ◌∷◌, ◌++◌, map, slice_get, Option, None, Some, refl, sym, ap, ◌∙◌, subst}
 use Rattle.std.proofs.lemmas.Bool.{false_from_ne_true, or_right}
 use Rattle.sms_join.specs.declared.key.Key.{Key}
 use Rattle.sms_join.specs.declared.units.Units.{Units}
@@ -13,14 +13,15 @@ use Rattle.sms_join.specs.Gateway.Distinct.{NoneTwice}
 use Rattle.sms_join.specs.Gateway.Finishings.{is_forgotten, keys_at}
 use Rattle.sms_join.specs.Gateway.Value.{LimitsValue}
 use Rattle.sms_once.specs.Run.{Held, finishing_by, held_aged, run}
-use Rattle.sms_once.specs.Once.{ComeAllInTime, IsNew, finishes, others_finished}
+use Rattle.sms_once.specs.Repeats.{others_finished}
+use Rattle.sms_once.specs.Once.{IsNew, finishes}
 use Rattle.sms_once.specs.Distinct.{IsSound}
-use Rattle.sms_once.specs.Anew.{IsJoinedAnew, KeysJoinAnew, TextsFinishAnew}
+use Rattle.sms_once.specs.Anew.{Forgotten, FinishInTurn, IsForgotten, AreForgotten, KeysJoinAnew, acts_of}
 use Rattle.sms_once.proofs.Keys.{same_key_refl, same_key_true}
 use Rattle.sms_once.proofs.Sets.{among_both}
 use Rattle.sms_once.proofs.Aged.{among_aged, closed_aged, keys_go}
 use Rattle.sms_once.proofs.Lasting.{Lasts}
-use Rattle.sms_once.proofs.Once.{finishes-append, just_once, lasting, run-append}
+use Rattle.sms_once.proofs.Once.{finishes-append, just_once, lasting_after, run-append}
 use Rattle.sms_once.proofs.Distinct.{runs_stay_sound}
 
 some_same : {X : Type 0} (x y : X) → Some x ≡ Some y → x ≡ y
@@ -70,33 +71,52 @@ keys_join_anew limits h acts k m now s at f =
     now_sound : IsSound (run limits h acts)
     now_sound = runs_stay_sound.stays limits h acts s
 
-module _ (limits : LimitsValue) (h : Held) (k : Key) (us : List Units) (after : List (Act Piece)) (o : Piece) (before : List (Act Piece)) (now : ℕ)
-    (come : ComeAllInTime limits h k us after o before)
-    (f : is_forgotten limits.remember_for now (finishing_by (run limits h before) o) ≡ true) where
-  lasts : Lasts (run limits (run limits h (Brings o ∷ before)) after).holds (run limits (run limits h (Brings o ∷ before)) after).finishings k (finishing_by (run limits h before) o)
-      (others_finished limits (run limits h (Brings o ∷ before)) k after)
-  lasts = (lasting limits h k us after o before come).lasts
+module _ (limits : LimitsValue) (h : Held) (k : Key) (m : Forgotten) (new : IsNew h.holds k) (f : IsForgotten limits h k m) where
+  lasts : Lasts (run limits (run limits h (Brings m.last ∷ m.before)) m.after).holds (run limits (run limits h (Brings m.last ∷ m.before)) m.after).finishings k (finishing_by (run limits h m.before) m.last)
+      (others_finished limits (run limits h (Brings m.last ∷ m.before)) k m.after)
+  lasts = (lasting_after limits h k m.pieces m.after m.last m.before new f.comes).lasts
 
-  new_after : IsNew (run limits (run limits h (Brings o ∷ before)) (Ages now ∷ after)).holds k
+  new_after : IsNew (run limits (run limits h (Brings m.last ∷ m.before)) (Ages m.forgotten_at ∷ m.after)).holds k
   new_after =
-      new_by limits (run limits (run limits h (Brings o ∷ before)) after) now k lasts.closed
+      new_by limits (run limits (run limits h (Brings m.last ∷ m.before)) m.after) m.forgotten_at k lasts.closed
       (ap (λ l. is_among l k)
-      (ap (λ ks. keys_at limits.remember_for now ks (run limits (run limits h (Brings o ∷ before)) after).finishings) lasts.keys
-      ∙ (ap (keys_at limits.remember_for now (lasts.later ++ k ∷ lasts.earlier)) lasts.moments
-      ∙ keys_go limits.remember_for now lasts.later lasts.later_at k (finishing_by (run limits h before) o) lasts.earlier lasts.earlier_at lasts.as_many f))
-      ∙ among_both (keys_at limits.remember_for now lasts.later lasts.later_at) (keys_at limits.remember_for now lasts.earlier lasts.earlier_at) k
-      (among_aged limits.remember_for now lasts.later lasts.later_at k lasts.none_later)
-      (among_aged limits.remember_for now lasts.earlier lasts.earlier_at k lasts.none_earlier))
+      (ap (λ ks. keys_at limits.remember_for m.forgotten_at ks (run limits (run limits h (Brings m.last ∷ m.before)) m.after).finishings) lasts.keys
+      ∙ (ap (keys_at limits.remember_for m.forgotten_at (lasts.later ++ k ∷ lasts.earlier)) lasts.moments
+      ∙ keys_go limits.remember_for m.forgotten_at lasts.later lasts.later_at k (finishing_by (run limits h m.before) m.last) lasts.earlier lasts.earlier_at lasts.as_many f.late))
+      ∙ among_both (keys_at limits.remember_for m.forgotten_at lasts.later lasts.later_at) (keys_at limits.remember_for m.forgotten_at lasts.earlier lasts.earlier_at) k
+      (among_aged limits.remember_for m.forgotten_at lasts.later lasts.later_at k lasts.none_later)
+      (among_aged limits.remember_for m.forgotten_at lasts.earlier lasts.earlier_at k lasts.none_earlier))
 
-  joined_anew : IsJoinedAnew limits h k us (Ages now ∷ after ++ Brings o ∷ before)
-  joined_anew =
-      record {
-        is_new = subst (λ (i : Held). IsNew i.holds k) (sym (run-append limits h (Ages now ∷ after) (Brings o ∷ before))) new_after;
-        once = λ vs later q between again.
-            finishes-append limits h k (later ++ Brings q ∷ between) (Ages now ∷ after ++ Brings o ∷ before)
-            ∙ (ap (λ l. l ++ finishes limits h k (after ++ Brings o ∷ before)) (just_once limits (run limits h (Ages now ∷ after ++ Brings o ∷ before)) k vs later q between again)
-            ∙ ap (λ l. (vs ∷ []) ++ l) (just_once limits h k us after o before come));
-      }
+  new_then : IsNew (run limits h (Ages m.forgotten_at ∷ m.after ++ Brings m.last ∷ m.before)).holds k
+  new_then = subst (λ (i : Held). IsNew i.holds k) (sym (run-append limits h (Ages m.forgotten_at ∷ m.after) (Brings m.last ∷ m.before))) new_after
 
-pub texts_finish_anew : TextsFinishAnew
-texts_finish_anew limits h k us after o before now come f = joined_anew limits h k us after o before now come f
+-- more acts after those of the messages so far
+more : (limits : LimitsValue) (h : Held) (k : Key) (ms : List Forgotten) (us : List Units) (acts : List (Act Piece))
+    → finishes limits h k (acts_of ms) ≡ map (λ (m : Forgotten). m.pieces) ms
+    → finishes limits (run limits h (acts_of ms)) k acts ≡ us ∷ []
+    → finishes limits h k (acts ++ acts_of ms) ≡ us ∷ map (λ (m : Forgotten). m.pieces) ms
+more limits h k ms us acts e f =
+    finishes-append limits h k acts (acts_of ms)
+    ∙ (ap (λ l. l ++ finishes limits h k (acts_of ms)) f ∙ ap (λ l. (us ∷ []) ++ l) e)
+
+in_turn : (limits : LimitsValue) (h : Held) (k : Key) (ms : List Forgotten) → IsNew h.holds k → AreForgotten limits h k ms
+    → IsNew (run limits h (acts_of ms)).holds k × (finishes limits h k (acts_of ms) ≡ map (λ (m : Forgotten). m.pieces) ms)
+in_turn limits h k [] new f = (new, refl)
+in_turn limits h k (m ∷ ms) new f =
+    let ih = in_turn limits h k ms new f.1 in
+    let i : Held = run limits h (acts_of ms) in (
+      subst (λ (l : Held). IsNew l.holds k) (sym (run-append limits h (Ages m.forgotten_at ∷ m.after ++ Brings m.last ∷ m.before) (acts_of ms)))
+          (new_then limits i k m ih.0 f.0),
+      more limits h k ms m.pieces (Ages m.forgotten_at ∷ m.after ++ Brings m.last ∷ m.before) ih.1
+          (just_once limits i k m.pieces m.after m.last m.before ih.0 f.0.comes),
+    )
+
+pub finish_in_turn : FinishInTurn
+finish_in_turn limits h k ms new f =
+    let r = in_turn limits h k ms new f in
+    record {
+      is_new = r.0;
+      each_once = r.1;
+      one_more = λ us after o before come.
+          more limits h k ms us (after ++ Brings o ∷ before) r.1 (just_once limits (run limits h (acts_of ms)) k us after o before r.0 come);
+    }

@@ -13,7 +13,7 @@ use Rattle.sms_join.specs.Gateway.Answers.{gateway_aged, gateway_answer, gateway
 use Rattle.sms_join.specs.Gateway.Finishings.{finishings_after, finishings_at, keys_at}
 use Rattle.sms_join.specs.Gateway.Value.{GatewayValue, LimitsValue}
 use Rattle.sms_once.specs.Run.{Held, held_after, held_aged, run}
-use Rattle.sms_once.specs.Calls.{AreCalled, CallsFollowRun, DoesHold, IsAged, IsAsRun, IsCalled, IsOffered}
+use Rattle.sms_once.specs.Calls.{AreCalled, CallsFollowRun, Holds, IsAged, IsAsRun, IsCalled, IsOffered}
 
 leb_alike : (a b c d : ℕ) → (a ≤ b → c ≤ d) → (c ≤ d → a ≤ b) → leb a b ≡ leb c d
 leb_alike a b c d f g = go (leb a b) refl
@@ -84,8 +84,8 @@ module _ (answers : AnswersAlike) (ages : AgesAlike) (equivalence : SameIsEquiva
       ∙ ap (λ a. cond (is_passed limits.alone p.key) ns (finishings_after limits.remembered ns p.moment a)) (answers limits.open_max limits.remembered i j p s).0
 
   -- one call
-  one_call : (limits : LimitsValue) (old new : GatewayValue) (h : Held) (act : Act Piece) → old.limits ≡ limits → DoesHold old h → IsCalled old new act
-      → DoesHold new (held_after limits h act) × (new.limits ≡ limits)
+  one_call : (limits : LimitsValue) (old new : GatewayValue) (h : Held) (act : Act Piece) → old.limits ≡ limits → Holds old h → IsCalled old new act
+      → Holds new (held_after limits h act) × (new.limits ≡ limits)
   one_call limits old new h (Brings p) l d c = (
     record {
       holds = along new.holds (gateway_offered old.limits old.holds p) (gateway_offered limits h.holds p) c.holds
@@ -107,9 +107,9 @@ module _ (answers : AnswersAlike) (ages : AgesAlike) (equivalence : SameIsEquiva
     c.limits ∙ l,
   )
 
-  all_calls : (old new : GatewayValue) (h : Held) (acts : List (Act Piece)) → DoesHold old h → AreCalled old new acts
-      → DoesHold new (run old.limits h acts) × (new.limits ≡ old.limits)
-  all_calls old new h [] d c = (subst (λ (g : GatewayValue). DoesHold g h) (sym c) d, ap (λ (g : GatewayValue). g.limits) c)
+  all_calls : (old new : GatewayValue) (h : Held) (acts : List (Act Piece)) → Holds old h → AreCalled old new acts
+      → Holds new (run old.limits h acts) × (new.limits ≡ old.limits)
+  all_calls old new h [] d c = (subst (λ (g : GatewayValue). Holds g h) (sym c) d, ap (λ (g : GatewayValue). g.limits) c)
   all_calls old new h (act ∷ acts) d c =
       let ih = all_calls old c.0 h acts d c.1 in
       one_call old.limits c.0 new (run old.limits h acts) act ih.1 ih.0 c.2

@@ -233,13 +233,12 @@ units_upto_is ps k us (suc n) right h a =
     rw (ih, at, e, ← step, e') refl
 
 -- the offer by which all pieces have come
-pub at_whole : (open_max remembered : ℕ) (j : Joiner) (k : Key) (us : List Units) (os : List Piece) (o : Piece) → Holds j k us os
+pub at_whole : (open_max : ℕ) (j : Joiner) (k : Key) (us : List Units) (os : List Piece) (o : Piece) → Holds j k us os
     → o.key ≡ k → IsPiece k us o
     → has_all os k (length us) ≡ false → has_all (o ∷ os) k (length us) ≡ true
-    → (answer open_max j o ≡ Finished us) × (offered open_max remembered j o ≡ answered remembered j o (Finished us))
-unfolding offered answer decided is_repeat
-at_whole open_max remembered j k us os o v e piece part all =
-    (is_finished, ap (answered remembered j o) is_finished)
+    → answer open_max j o ≡ Finished us
+unfolding answer decided is_repeat
+at_whole open_max j k us os o v e piece part all = is_finished
   where
     pieces : (o.maximum ≡ length us) × (0 < o.sequence) × (o.sequence ≤ length us)
         × (o.units ≡ get_or us (o.sequence - 1) (Gsm []))

@@ -13,7 +13,8 @@ use Rattle.sms_join.specs.Gateway.Answers.{gateway_answer, gateway_finishings, g
 use Rattle.sms_join.specs.Gateway.Finishings.{finishings_after, finishings_at, is_forgotten, keys_at, not_before}
 use Rattle.sms_join.specs.Gateway.Value.{LimitsValue}
 use Rattle.sms_once.specs.Run.{Held, held_aged, run}
-use Rattle.sms_once.specs.Once.{AreRepeats, NoneForgets, finishes, others_finished}
+use Rattle.sms_once.specs.Repeats.{AreRepeats, NoneForgets, others_finished}
+use Rattle.sms_once.specs.Once.{finishes}
 use Rattle.sms_once.proofs.Keys.{same_key_refl, same_key_true}
 use Rattle.sms_once.proofs.Sets.{among_both, among_mid, among_taken, open-without, open-without_same}
 use Rattle.sms_once.proofs.Aged.{among_aged, as_many_aged, closed_aged, fewer_aged, keys_stay, moments_stay}

@@ -1,20 +1,22 @@
 -- The pieces of a message finish it just once.
 use Rattle.std.proofs.Common.{◌≡◌, ℕ, ◌<◌, Bool, true, false, cond, List, [], ◌∷◌, ◌++◌, take, refl, sym, ap, ◌∙◌, subst, map, arith}
+use Rattle.std.proofs.lemmas.Bool.{or_parts}
 use Rattle.std.proofs.lemmas.List.{append_assoc}
 use Rattle.sms_join.specs.declared.key.Key.{Key}
 use Rattle.sms_join.specs.declared.units.Units.{Units}
 use Rattle.sms_join.specs.Reading.{text_of_segments, CutIsReadAsText}
 use Rattle.sms_join.specs.Key.{same_key}
 use Rattle.sms_join.specs.Piece.{Piece}
-use Rattle.sms_join.specs.Joiner.Sets.{without}
-use Rattle.sms_join.specs.Joiner.{Joiner, Answer, Finished, answer, answered, offered}
+use Rattle.sms_join.specs.Joiner.Sets.{has, units_upto}
+use Rattle.sms_join.specs.Joiner.{Joiner, Finished, is_among, is_repeat, is_whole, has_room, decided, answer, answered, offered}
 use Rattle.sms_join.specs.Joiner.Acts.{Act, Brings, Ages, brought}
 use Rattle.sms_join.specs.Arrivals.Pieces.{finished_now}
 use Rattle.sms_join.specs.Gateway.Answers.{gateway_answer, gateway_finishings, gateway_offered, is_passed}
 use Rattle.sms_join.specs.Gateway.Finishings.{finishings_after}
 use Rattle.sms_join.specs.Gateway.Value.{LimitsValue}
 use Rattle.sms_once.specs.Run.{Held, finishing_by, held_after, run}
-use Rattle.sms_once.specs.Once.{ComeAllInTime, FinishesOnceInTime, FinishesTextInTime, finishes}
+use Rattle.sms_once.specs.Repeats.{RepeatsInTime, StaysRemembered}
+use Rattle.sms_once.specs.Once.{ComeAllInTime, FinishesOnceInTime, FinishesTextInTime, IsNew, finishes}
 use Rattle.sms_once.proofs.Keys.{same_key_true}
 use Rattle.sms_once.proofs.Holding.{Holds, at_whole, before_whole}
 use Rattle.sms_once.proofs.Lasting.{IsLasting, Lasts, is_lasting, lasts_first}
@@ -41,46 +43,63 @@ finishes-append limits h k (Brings o ∷ os) ps = go (same_key o.key k) (finishe
         ∙ sym (append_assoc (finished_now (gateway_answer limits (run limits (run limits h ps) os).holds o)) (finishes limits (run limits h ps) k os) (finishes limits h k ps)))
     go false f g = f
 
-module _ (limits : LimitsValue) (h : Held) (k : Key) (us : List Units) (after : List (Act Piece)) (o : Piece) (before : List (Act Piece))
-    (come : ComeAllInTime limits h k us after o before) where
-  j : Joiner
-  j = (run limits h before).holds
+-- what finishes is no repeat
+fresh : (open_max : ℕ) (j : Joiner) (o : Piece) (us : List Units) → answer open_max j o ≡ Finished us → is_among j.finished o.key ≡ false
+unfolding answer decided is_repeat
+fresh open_max j o us = go (is_repeat j o) refl (is_whole j o) (has_room open_max j o)
+  where
+    go : (a : Bool) → is_repeat j o ≡ a → (b c : Bool) → decided a b c (units_upto (o ∷ j.kept) o.key o.maximum) ≡ Finished us → is_among j.finished o.key ≡ false
+    go true e b c f = absurd cc
+    go false e b c f = (or_parts (is_among j.finished o.key) (has j.kept o.key o.sequence) e).0
 
-  prior : Holds (run limits h before).holds k us (brought before) × (finishes limits h k before ≡ [])
-  prior = before_whole limits h k us before come.not_passed come.is_new come.are_pieces.1 come.none_refused come.none_dropped come.missing
+-- ---- after a piece that finishes a key
 
+module _ (limits : LimitsValue) (h : Held) (k : Key) (o : Piece) (us : List Units) (after : List (Act Piece))
+    (keeps : is_passed limits.alone k ≡ false) (under : same_key o.key k ≡ true) (done : gateway_answer limits h.holds o ≡ Finished us)
+    (stays : StaysRemembered limits h k o after) where
   own : o.key ≡ k
-  own = same_key_true o.key k come.under_key
+  own = same_key_true o.key k under
 
   kept : is_passed limits.alone o.key ≡ false
-  kept = ap (is_passed limits.alone) own ∙ come.not_passed
+  kept = ap (is_passed limits.alone) own ∙ keeps
 
-  whole : (answer limits.open_max (run limits h before).holds o ≡ Finished us)
-      × (offered limits.open_max limits.remembered (run limits h before).holds o ≡ answered limits.remembered (run limits h before).holds o (Finished us))
-  whole =
-      at_whole limits.open_max limits.remembered (run limits h before).holds k us (brought before) o prior.0 own come.are_pieces.0
-      come.missing come.all
+  whole : answer limits.open_max h.holds o ≡ Finished us
+  whole = sym (ap (λ b. cond b (Finished (o.units ∷ [])) (answer limits.open_max h.holds o)) kept) ∙ done
+
+  first : Lasts (held_after limits h (Brings o)).holds (held_after limits h (Brings o)).finishings k (finishing_by h o) 0
+  unfolding answered offered
+  first =
+      let few = stays.few in
+      let some : 0 < limits.remembered = omega arith in
+      subst (λ b. Lasts (cond b h.holds (answered limits.remembered h.holds o (answer limits.open_max h.holds o)))
+      (cond b h.finishings (finishings_after limits.remembered h.finishings o.moment (answer limits.open_max h.holds o)))
+      k (finishing_by h o) 0) (sym kept)
+      (subst (λ a. Lasts (answered limits.remembered h.holds o a) (finishings_after limits.remembered h.finishings o.moment a) k (finishing_by h o) 0) (sym whole)
+      (lasts_first limits.remembered h.holds h.finishings k o (finishing_by h o) own some
+      (ap (is_among h.holds.finished) (sym own) ∙ fresh limits.open_max h.holds o us whole)))
+
+  pub lasting : IsLasting limits (held_after limits h (Brings o)) k (finishing_by h o) after
+  lasting = is_lasting limits (held_after limits h (Brings o)) k (finishing_by h o) keeps first after stays.few stays.in_time
+
+pub repeats_in_time : RepeatsInTime
+repeats_in_time limits h k o us after keeps under done stays = (lasting limits h k o us after keeps under done stays).repeats
+
+-- ---- the pieces of a message
+
+module _ (limits : LimitsValue) (h : Held) (k : Key) (us : List Units) (after : List (Act Piece)) (o : Piece) (before : List (Act Piece))
+    (new : IsNew h.holds k) (come : ComeAllInTime limits h k us after o before) where
+  prior : Holds (run limits h before).holds k us (brought before) × (finishes limits h k before ≡ [])
+  prior = before_whole limits h k us before come.not_passed new come.are_pieces.1 come.none_refused come.none_dropped come.missing
 
   pub finishes_now : gateway_answer limits (run limits h before).holds o ≡ Finished us
-  finishes_now = ap (λ b. cond b (Finished (o.units ∷ [])) (answer limits.open_max (run limits h before).holds o)) kept ∙ whole.0
+  finishes_now =
+      ap (λ b. cond b (Finished (o.units ∷ [])) (answer limits.open_max (run limits h before).holds o))
+      (ap (is_passed limits.alone) (same_key_true o.key k come.under_key) ∙ come.not_passed)
+      ∙ at_whole limits.open_max (run limits h before).holds k us (brought before) o prior.0 (same_key_true o.key k come.under_key) come.are_pieces.0
+      come.missing come.all
 
-  first : Lasts (run limits h (Brings o ∷ before)).holds (run limits h (Brings o ∷ before)).finishings k (finishing_by (run limits h before) o) 0
-  unfolding answered
-  first =
-      let few = come.few in
-      let some : 0 < limits.remembered = omega arith in
-      subst (λ b. Lasts (cond b (run limits h before).holds (offered limits.open_max limits.remembered (run limits h before).holds o))
-      (cond b (run limits h before).finishings
-      (finishings_after limits.remembered (run limits h before).finishings o.moment (answer limits.open_max (run limits h before).holds o)))
-      k (finishing_by (run limits h before) o) 0) (sym kept)
-      (subst (λ i. Lasts i (finishings_after limits.remembered (run limits h before).finishings o.moment (answer limits.open_max (run limits h before).holds o))
-      k (finishing_by (run limits h before) o) 0) (sym whole.1)
-      (subst (λ a. Lasts (answered limits.remembered (run limits h before).holds o (Finished us))
-      (finishings_after limits.remembered (run limits h before).finishings o.moment a) k (finishing_by (run limits h before) o) 0) (sym whole.0)
-      (lasts_first limits.remembered (run limits h before).holds (run limits h before).finishings k o (finishing_by (run limits h before) o) own some prior.0.fresh)))
-
-  pub lasting : IsLasting limits (run limits h (Brings o ∷ before)) k (finishing_by (run limits h before) o) after
-  lasting = is_lasting limits (run limits h (Brings o ∷ before)) k (finishing_by (run limits h before) o) come.not_passed first after come.few come.none_forgets
+  pub lasting_after : IsLasting limits (run limits h (Brings o ∷ before)) k (finishing_by (run limits h before) o) after
+  lasting_after = lasting limits (run limits h before) k o us after come.not_passed come.under_key finishes_now come.remembered
 
   here : finishes limits h k (Brings o ∷ before) ≡ us ∷ []
   here =
@@ -90,17 +109,13 @@ module _ (limits : LimitsValue) (h : Held) (k : Key) (us : List Units) (after : 
   pub just_once : finishes limits h k (after ++ Brings o ∷ before) ≡ us ∷ []
   just_once =
       finishes-append limits h k after (Brings o ∷ before)
-      ∙ (ap (λ l. l ++ finishes limits h k (Brings o ∷ before)) lasting.none ∙ here)
+      ∙ (ap (λ l. l ++ finishes limits h k (Brings o ∷ before)) lasting_after.none ∙ here)
 
 pub finishes_once_in_time : FinishesOnceInTime
-finishes_once_in_time limits h k us after o before come =
-    record {
-      answer = finishes_now limits h k us after o before come;
-      repeats = (lasting limits h k us after o before come).repeats;
-      once = just_once limits h k us after o before come;
-    }
+finishes_once_in_time limits h k us after o before new come =
+    (finishes_now limits h k us after o before new come, just_once limits h k us after o before new come)
 
 pub finishes_text_in_time : CutIsReadAsText → FinishesTextInTime
-finishes_text_in_time reads limits h k us after o before width text come is cut =
-    ap (map text_of_segments) (just_once limits h k us after o before come)
+finishes_text_in_time reads limits h k us after o before width text new come is cut =
+    ap (map text_of_segments) (just_once limits h k us after o before new come)
     ∙ ap (λ t. t ∷ []) (reads width text us is cut)

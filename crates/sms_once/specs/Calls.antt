@@ -32,17 +32,17 @@ AreCalled old new (act ∷ acts) =
     (last : GatewayValue) × AreCalled old last acts × IsCalled last new act
 
 -- It holds this, and the moments are these.
-pub record DoesHold (g : GatewayValue) (h : Held) : Type 0 where
+pub record Holds (g : GatewayValue) (h : Held) : Type 0 where
   pub holds : IsSame g.holds h.holds
   pub finishings : g.finishings ≡ h.finishings
 
 -- After the calls it holds what the run says, and so answers each piece.
 pub record IsAsRun (old new : GatewayValue) (h : Held) (acts : List (Act Piece)) : Type 0 where
-  pub holds : DoesHold new (run old.limits h acts)
+  pub holds : Holds new (run old.limits h acts)
   pub answers : (p : Piece) → gateway_answer new.limits new.holds p
       ≡ gateway_answer old.limits (run old.limits h acts).holds p
 
 abbrev pub CallsFollowRun : Type 0
 CallsFollowRun =
     (old new : GatewayValue) (h : Held) (acts : List (Act Piece))
-    → DoesHold old h → AreCalled old new acts → IsAsRun old new h acts
+    → Holds old h → AreCalled old new acts → IsAsRun old new h acts

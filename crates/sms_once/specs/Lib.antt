@@ -1,6 +1,7 @@
 pub mod Run
+pub mod Repeats
 pub mod Once
 pub mod Distinct
 pub mod Anew
-pub mod Calls
 pub mod InTime
+pub mod Calls

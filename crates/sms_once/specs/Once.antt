@@ -1,8 +1,7 @@
 -- What becomes of the pieces of one message that are offered to a joiner for many recipients under
 -- their key, among other offers and agings: as long as its key is remembered, the message finishes
--- just once. Lists have the newest entry first. An offer for which memory runs out leaves the
--- joiner as it was, and is none here.
-use Rattle.std.specs.Prelude.{◌≡◌, ◌≢◌, ℕ, ◌+◌, ◌<◌, true, false, ◌||◌, if◌then◌else◌, List, [], ◌∷◌, ◌++◌, length, map, Option}
+-- just once. Lists have the newest entry first.
+use Rattle.std.specs.Prelude.{◌≡◌, ◌≢◌, ℕ, true, false, if◌then◌else◌, List, [], ◌∷◌, ◌++◌, length, map}
 use Rattle.sms_tpdu.specs.declared.user_data.concat.Width.{Width}
 use Rattle.sms_join.specs.declared.key.Key.{Key}
 use Rattle.sms_join.specs.declared.units.Units.{Units}
@@ -12,14 +11,14 @@ use Rattle.sms_join.specs.Reading.{text_of_segments}
 use Rattle.sms_join.specs.Key.{same_key}
 use Rattle.sms_join.specs.Piece.{Piece}
 use Rattle.sms_join.specs.Joiner.Sets.{has_all, is_open}
-use Rattle.sms_join.specs.Joiner.{Joiner, Repeat, Finished, TooManyOpen, is_among}
+use Rattle.sms_join.specs.Joiner.{Joiner, Finished, TooManyOpen, is_among}
 use Rattle.sms_join.specs.Joiner.Acts.{Act, Brings, Ages, brought}
 use Rattle.sms_join.specs.Joiner.Aging.{is_old_after}
 use Rattle.sms_join.specs.Arrivals.Pieces.{finished_now, ArePieces}
 use Rattle.sms_join.specs.Gateway.Answers.{gateway_answer, is_passed}
-use Rattle.sms_join.specs.Gateway.Finishings.{is_forgotten}
 use Rattle.sms_join.specs.Gateway.Value.{LimitsValue}
-use Rattle.sms_once.specs.Run.{Held, finishing_by, run}
+use Rattle.sms_once.specs.Run.{Held, run}
+use Rattle.sms_once.specs.Repeats.{StaysRemembered}
 
 -- What the set of this key was finished with, each time.
 abbrev pub finishes : LimitsValue → Held → Key → List (Act Piece) → List (List Units)
@@ -30,16 +29,6 @@ finishes limits h k (Brings p ∷ acts) =
     ++ finishes limits h k acts
     else finishes limits h k acts
 finishes limits h k (Ages now ∷ acts) = finishes limits h k acts
-
--- How many offers under other keys finished, and had their key remembered.
-abbrev pub others_finished : LimitsValue → Held → Key → List (Act Piece) → ℕ
-others_finished limits h k [] = 0
-others_finished limits h k (Brings p ∷ acts) =
-    if same_key p.key k || is_passed limits.alone p.key
-    then others_finished limits h k acts
-    else length (finished_now (gateway_answer limits (run limits h acts).holds p))
-    + others_finished limits h k acts
-others_finished limits h k (Ages now ∷ acts) = others_finished limits h k acts
 
 -- No offer under the key was answered by too many open sets.
 abbrev pub NoneRefused : LimitsValue → Held → Key → List (Act Piece) → Type 0
@@ -57,21 +46,6 @@ NoneDropped limits h k (Ages now ∷ acts) =
     (is_old_after limits.open_for now (run limits h acts).holds.kept k ≡ false)
     × NoneDropped limits h k acts
 
--- No aging comes so late that it forgets what finished at this moment.
-abbrev pub NoneForgets : Option ℕ → ℕ → List (Act Piece) → Type 0
-NoneForgets longest m [] = Unit {0}
-NoneForgets longest m (Brings p ∷ acts) = NoneForgets longest m acts
-NoneForgets longest m (Ages now ∷ acts) =
-    (is_forgotten longest now m ≡ false) × NoneForgets longest m acts
-
--- Each offer under the key was answered by a repeat.
-abbrev pub AreRepeats : LimitsValue → Held → Key → List (Act Piece) → Type 0
-AreRepeats limits h k [] = Unit {0}
-AreRepeats limits h k (Brings p ∷ acts) =
-    (same_key p.key k ≡ true → gateway_answer limits (run limits h acts).holds p ≡ Repeat)
-    × AreRepeats limits h k acts
-AreRepeats limits h k (Ages now ∷ acts) = AreRepeats limits h k acts
-
 -- The key is neither open nor remembered: what comes under it next begins anew.
 pub record IsNew (j : Joiner) (k : Key) : Type 0 where
   pub not_open : is_open j.kept k ≡ false
@@ -79,12 +53,11 @@ pub record IsNew (j : Joiner) (k : Key) : Type 0 where
 
 -- The pieces of a message are offered under its key in any order, with repeats, and with other
 -- offers and agings between. By this offer, and by none before it, all pieces have come; what comes
--- after it comes as long as its key is remembered.
+-- after it comes while the key is remembered.
 pub record ComeAllInTime (limits : LimitsValue) (h : Held) (k : Key) (pieces : List Units)
     (after : List (Act Piece)) (p : Piece) (before : List (Act Piece)) : Type 0 where
   -- it is no message in one piece where these are passed
   pub not_passed : is_passed limits.alone k ≡ false
-  pub is_new : IsNew h.holds k
   -- till then, under the key only pieces of the message are offered, and none is refused
   pub are_pieces : ArePieces k pieces (Brings p ∷ before)
   pub none_refused : NoneRefused limits h k before
@@ -94,25 +67,19 @@ pub record ComeAllInTime (limits : LimitsValue) (h : Held) (k : Key) (pieces : L
   pub under_key : same_key p.key k ≡ true
   pub missing : has_all (brought before) k (length pieces) ≡ false
   pub all : has_all (p ∷ brought before) k (length pieces) ≡ true
-  -- after it fewer other keys finish than can be remembered
-  pub few : others_finished limits (run limits h (Brings p ∷ before)) k after < limits.remembered
-  -- and no aging forgets it
-  pub none_forgets : NoneForgets limits.remember_for (finishing_by (run limits h before) p) after
+  -- after it the key is not forgotten
+  pub remembered : StaysRemembered limits (run limits h before) k p after
 
--- That offer finishes the set with the pieces in order, each later one under the key is a repeat,
--- whatever it brings, and so no other one finishes it.
-pub record IsFinishedOnce (limits : LimitsValue) (h : Held) (k : Key) (pieces : List Units)
-    (after : List (Act Piece)) (p : Piece) (before : List (Act Piece)) : Type 0 where
-  pub answer : gateway_answer limits (run limits h before).holds p ≡ Finished pieces
-  pub repeats : AreRepeats limits (run limits h (Brings p ∷ before)) k after
-  pub once : finishes limits h k (after ++ Brings p ∷ before) ≡ pieces ∷ []
-
+-- Where the key is new at first, that offer finishes the set with the pieces in order, and no other
+-- one under the key finishes it.
 abbrev pub FinishesOnceInTime : Type 0
 FinishesOnceInTime =
     (limits : LimitsValue) (h : Held) (k : Key) (pieces : List Units)
     (after : List (Act Piece)) (p : Piece) (before : List (Act Piece))
+    → IsNew h.holds k
     → ComeAllInTime limits h k pieces after p before
-    → IsFinishedOnce limits h k pieces after p before
+    → (gateway_answer limits (run limits h before).holds p ≡ Finished pieces)
+    × (finishes limits h k (after ++ Brings p ∷ before) ≡ pieces ∷ [])
 
 -- Where they are the pieces of a text, what is finished is read as the text.
 abbrev pub FinishesTextInTime : Type 0
@@ -120,6 +87,7 @@ FinishesTextInTime =
     (limits : LimitsValue) (h : Held) (k : Key) (pieces : List Units)
     (after : List (Act Piece)) (p : Piece) (before : List (Act Piece))
     (width : Width) (text : List ℕ)
+    → IsNew h.holds k
     → ComeAllInTime limits h k pieces after p before
     → IsText text
     → IsCut width text pieces
