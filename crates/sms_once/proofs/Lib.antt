@@ -7,5 +7,5 @@ pub mod Once
 pub mod Falling
 pub mod Distinct
 pub mod Anew
-pub mod Calls
+pub mod Steps
 pub mod InTime

@@ -4,4 +4,4 @@ pub mod Once
 pub mod Distinct
 pub mod Anew
 pub mod InTime
-pub mod Calls
+pub mod Steps

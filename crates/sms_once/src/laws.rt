@@ -2,7 +2,6 @@
 //! contract, and does nothing.
 
 ghost use Rattle.sms_once.specs.Anew.{FinishInTurn, KeysJoinAnew};
-ghost use Rattle.sms_once.specs.Calls.{CallsFollowRun};
 ghost use Rattle.sms_once.specs.Distinct.{RunsStaySound};
 ghost use Rattle.sms_once.specs.InTime.{AnswersInTime, RunsWithoutAge};
 ghost use Rattle.sms_once.specs.Once.{FinishesOnceInTime, FinishesTextInTime};
@@ -57,13 +56,3 @@ pub fn answers_in_time()
 pub fn runs_without_age()
     ensures { RunsWithoutAge }
 {}
-
-/// After calls of `offer` that are not refused, and of `age`, a joiner for many recipients holds
-/// what the run says, and so answers each piece.
-pub fn calls_follow_run()
-    ensures { CallsFollowRun }
-{
-    sms_join::laws::answers_alike();
-    sms_join::laws::agings_keep_same();
-    sms_join::laws::same_is_equivalence();
-}

@@ -2,4 +2,5 @@
 //! and by their age: within both a text finishes just once, and past its age its key joins anew.
 #![tactic(auto)]
 
+pub mod calls;
 pub mod laws;

@@ -9,40 +9,40 @@ use Rattle.sms_join.specs.Gateway.Finishings.{finishings_at}
 use Rattle.sms_join.specs.Gateway.Value.{GatewayValue}
 use Rattle.sms_once.specs.Run.{Held, run}
 
--- What a call of `offer` leaves that is not refused.
+-- What an offer leaves that is not refused.
 pub record IsOffered (old new : GatewayValue) (p : Piece) : Type 0 where
   pub holds : IsSame new.holds (gateway_offered old.limits old.holds p)
   pub finishings : new.finishings ≡ gateway_finishings old.limits old.holds old.finishings p
   pub limits : new.limits ≡ old.limits
 
--- What a call of `age` leaves.
+-- What an aging leaves.
 pub record IsAged (old new : GatewayValue) (now : ℕ) : Type 0 where
   pub holds : IsSame new.holds (gateway_aged old now)
   pub finishings : new.finishings ≡ finishings_at old.limits.remember_for now old.finishings
   pub limits : new.limits ≡ old.limits
 
-abbrev pub IsCalled : GatewayValue → GatewayValue → Act Piece → Type 0
-IsCalled old new (Brings p) = IsOffered old new p
-IsCalled old new (Ages now) = IsAged old new now
+abbrev pub IsStep : GatewayValue → GatewayValue → Act Piece → Type 0
+IsStep old new (Brings p) = IsOffered old new p
+IsStep old new (Ages now) = IsAged old new now
 
--- What such calls leave, one after another.
-abbrev pub AreCalled : GatewayValue → GatewayValue → List (Act Piece) → Type 0
-AreCalled old new [] = new ≡ old
-AreCalled old new (act ∷ acts) =
-    (last : GatewayValue) × AreCalled old last acts × IsCalled last new act
+-- What these leave, one after another.
+abbrev pub AreSteps : GatewayValue → GatewayValue → List (Act Piece) → Type 0
+AreSteps old new [] = new ≡ old
+AreSteps old new (act ∷ acts) =
+    (last : GatewayValue) × AreSteps old last acts × IsStep last new act
 
 -- It holds this, and the moments are these.
 pub record Holds (g : GatewayValue) (h : Held) : Type 0 where
   pub holds : IsSame g.holds h.holds
   pub finishings : g.finishings ≡ h.finishings
 
--- After the calls it holds what the run says, and so answers each piece.
+-- After the steps it holds what the run says, and so answers each piece.
 pub record IsAsRun (old new : GatewayValue) (h : Held) (acts : List (Act Piece)) : Type 0 where
   pub holds : Holds new (run old.limits h acts)
   pub answers : (p : Piece) → gateway_answer new.limits new.holds p
       ≡ gateway_answer old.limits (run old.limits h acts).holds p
 
-abbrev pub CallsFollowRun : Type 0
-CallsFollowRun =
+abbrev pub StepsFollowRun : Type 0
+StepsFollowRun =
     (old new : GatewayValue) (h : Held) (acts : List (Act Piece))
-    → Holds old h → AreCalled old new acts → IsAsRun old new h acts
+    → Holds old h → AreSteps old new acts → IsAsRun old new h acts

@@ -1,4 +1,4 @@
--- Calls that leave what their clauses say hold what the run says.
+-- Steps of a joiner for many recipients follow the run.
 use Rattle.std.proofs.Common.{◌≡◌, ℕ, ◌+◌, ◌-◌, ◌<◌, ◌≤◌, ◌⊎◌, inl, inr, Bool, true, false, cond, ◌&&◌, leb, List, [], ◌∷◌, refl, sym, ap, ◌∙◌, subst, arith}
 use Rattle.std.proofs.lemmas.Bool.{cases_lt, leb-true, leb-false, le-leb, false_from_ne_true}
 use Rattle.sms_join.specs.declared.key.Key.{Key}
@@ -13,7 +13,7 @@ use Rattle.sms_join.specs.Gateway.Answers.{gateway_aged, gateway_answer, gateway
 use Rattle.sms_join.specs.Gateway.Finishings.{finishings_after, finishings_at, keys_at}
 use Rattle.sms_join.specs.Gateway.Value.{GatewayValue, LimitsValue}
 use Rattle.sms_once.specs.Run.{Held, held_after, held_aged, run}
-use Rattle.sms_once.specs.Calls.{AreCalled, CallsFollowRun, Holds, IsAged, IsAsRun, IsCalled, IsOffered}
+use Rattle.sms_once.specs.Steps.{AreSteps, StepsFollowRun, Holds, IsAged, IsAsRun, IsStep, IsOffered}
 
 leb_alike : (a b c d : ℕ) → (a ≤ b → c ≤ d) → (c ≤ d → a ≤ b) → leb a b ≡ leb c d
 leb_alike a b c d f g = go (leb a b) refl
@@ -83,10 +83,10 @@ module _ (answers : AnswersAlike) (ages : AgesAlike) (equivalence : SameIsEquiva
       ap (λ l. gateway_finishings limits i l p) e
       ∙ ap (λ a. cond (is_passed limits.alone p.key) ns (finishings_after limits.remembered ns p.moment a)) (answers limits.open_max limits.remembered i j p s).0
 
-  -- one call
-  one_call : (limits : LimitsValue) (old new : GatewayValue) (h : Held) (act : Act Piece) → old.limits ≡ limits → Holds old h → IsCalled old new act
+  -- one step
+  one_step : (limits : LimitsValue) (old new : GatewayValue) (h : Held) (act : Act Piece) → old.limits ≡ limits → Holds old h → IsStep old new act
       → Holds new (held_after limits h act) × (new.limits ≡ limits)
-  one_call limits old new h (Brings p) l d c = (
+  one_step limits old new h (Brings p) l d c = (
     record {
       holds = along new.holds (gateway_offered old.limits old.holds p) (gateway_offered limits h.holds p) c.holds
           (along (gateway_offered old.limits old.holds p) (gateway_offered old.limits h.holds p) (gateway_offered limits h.holds p)
@@ -97,7 +97,7 @@ module _ (answers : AnswersAlike) (ages : AgesAlike) (equivalence : SameIsEquiva
     },
     c.limits ∙ l,
   )
-  one_call limits old new h (Ages now) l d c = (
+  one_step limits old new h (Ages now) l d c = (
     record {
       holds = along new.holds (gateway_aged old now) (held_aged limits h now).holds c.holds
           (subst (λ (m : LimitsValue). IsSame (gateway_aged old now) (held_aged m h now).holds) l
@@ -107,16 +107,16 @@ module _ (answers : AnswersAlike) (ages : AgesAlike) (equivalence : SameIsEquiva
     c.limits ∙ l,
   )
 
-  all_calls : (old new : GatewayValue) (h : Held) (acts : List (Act Piece)) → Holds old h → AreCalled old new acts
+  all_steps : (old new : GatewayValue) (h : Held) (acts : List (Act Piece)) → Holds old h → AreSteps old new acts
       → Holds new (run old.limits h acts) × (new.limits ≡ old.limits)
-  all_calls old new h [] d c = (subst (λ (g : GatewayValue). Holds g h) (sym c) d, ap (λ (g : GatewayValue). g.limits) c)
-  all_calls old new h (act ∷ acts) d c =
-      let ih = all_calls old c.0 h acts d c.1 in
-      one_call old.limits c.0 new (run old.limits h acts) act ih.1 ih.0 c.2
+  all_steps old new h [] d c = (subst (λ (g : GatewayValue). Holds g h) (sym c) d, ap (λ (g : GatewayValue). g.limits) c)
+  all_steps old new h (act ∷ acts) d c =
+      let ih = all_steps old c.0 h acts d c.1 in
+      one_step old.limits c.0 new (run old.limits h acts) act ih.1 ih.0 c.2
 
-  pub calls_follow_run : CallsFollowRun
-  calls_follow_run old new h acts d c =
-      let r = all_calls old new h acts d c in
+  pub steps_follow_run : StepsFollowRun
+  steps_follow_run old new h acts d c =
+      let r = all_steps old new h acts d c in
       record {
         holds = r.0;
         answers = λ p.
