@@ -1,12 +1,12 @@
 -- A key whose finishing is forgotten joins anew.
-use Rattle.std.proofs.Common.{◌≡◌, ℕ, zero, suc, Bool, true, false, cond, ◌||◌, List, [], ◌∷◌, ◌++◌, map, slice_get, Option, None, Some, refl, sym, ap, ◌∙◌, subst}
+use Rattle.std.proofs.Common.{◌≡◌, ℕ, zero, suc, Bool, true, false, cond, ◌||◌, List, [], ◌∷◌, ◌++◌, map, slice_get, Option, Some, refl, sym, ap, ◌∙◌, subst}
 use Rattle.std.proofs.lemmas.Bool.{false_from_ne_true, or_right}
 use Rattle.sms_join.specs.declared.key.Key.{Key}
 use Rattle.sms_join.specs.declared.units.Units.{Units}
 use Rattle.sms_join.specs.Key.{same_key}
 use Rattle.sms_join.specs.Piece.{Piece}
 use Rattle.sms_join.specs.Joiner.Sets.{is_open}
-use Rattle.sms_join.specs.Joiner.{Joiner, is_among}
+use Rattle.sms_join.specs.Joiner.{is_among}
 use Rattle.sms_join.specs.Joiner.Aging.{is_old_after, aged_after}
 use Rattle.sms_join.specs.Joiner.Acts.{Act, Brings, Ages}
 use Rattle.sms_join.specs.Gateway.Distinct.{NoneTwice}
@@ -15,14 +15,14 @@ use Rattle.sms_join.specs.Gateway.Value.{LimitsValue}
 use Rattle.sms_once.specs.Run.{Held, finishing_by, held_aged, run}
 use Rattle.sms_once.specs.Repeats.{others_finished}
 use Rattle.sms_once.specs.Once.{IsNew, finishes}
-use Rattle.sms_once.specs.Distinct.{IsSound}
+use Rattle.sms_once.specs.Sound.{IsSound}
 use Rattle.sms_once.specs.Anew.{Forgotten, FinishInTurn, IsForgotten, AreForgotten, KeysJoinAnew, acts_of}
 use Rattle.sms_once.proofs.Keys.{same_key_refl, same_key_true}
 use Rattle.sms_once.proofs.Sets.{among_both}
 use Rattle.sms_once.proofs.Aged.{among_aged, closed_aged, keys_go}
 use Rattle.sms_once.proofs.Lasting.{Lasts}
 use Rattle.sms_once.proofs.Once.{finishes-append, just_once, lasting_after, run-append}
-use Rattle.sms_once.proofs.Distinct.{runs_stay_sound}
+use Rattle.sms_once.proofs.Sound.{runs_stay_sound}
 
 some_same : {X : Type 0} (x y : X) → Some x ≡ Some y → x ≡ y
 some_same x y e = cc

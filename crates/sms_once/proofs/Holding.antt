@@ -9,7 +9,7 @@ use Rattle.sms_join.specs.Key.{same_key}
 use Rattle.sms_join.specs.Piece.{Piece}
 use Rattle.sms_join.specs.Joiner.Sets.{has, has_all, units_at, units_upto, without}
 use Rattle.sms_join.specs.Joiner.{Joiner, Finished, TooManyOpen, is_among, answer, answered, offered, decided, is_repeat, is_whole, has_room}
-use Rattle.sms_join.specs.Joiner.Aging.{is_old_after, young, aged_after}
+use Rattle.sms_join.specs.Joiner.Aging.{is_old_after, aged_after}
 use Rattle.sms_join.specs.Joiner.Acts.{Act, Brings, Ages, brought}
 use Rattle.sms_join.specs.Arrivals.Pieces.{IsPiece, ArePieces, finished_now}
 use Rattle.sms_join.specs.Gateway.Answers.{gateway_answer, gateway_offered, is_passed}

@@ -4,21 +4,20 @@ use Rattle.std.proofs.Common.{◌≡◌, ℕ, suc, ◌<◌, ◌≤◌, ◌⊎◌
 use Rattle.std.proofs.lemmas.Bool.{cases_lt}
 use Rattle.std.proofs.lemmas.List.{take_all, take-take}
 use Rattle.sms_join.specs.declared.key.Key.{Key}
-use Rattle.sms_join.specs.Key.{same_key}
 use Rattle.sms_join.specs.Piece.{Piece}
 use Rattle.sms_join.specs.Joiner.Sets.{has, units_upto, without}
 use Rattle.sms_join.specs.Joiner.{Joiner, Answer, Repeat, Kept, Finished, TooManyOpen, new_joiner, is_among, answer, answered, offered, decided, is_repeat, is_whole, has_room}
 use Rattle.sms_join.specs.Joiner.Aging.{aged_after, is_old_after, young}
 use Rattle.sms_join.specs.Joiner.Acts.{Act, Brings, Ages}
-use Rattle.sms_join.specs.Gateway.Answers.{gateway_answer, gateway_holds, gateway_offered, is_passed}
+use Rattle.sms_join.specs.Gateway.Answers.{gateway_holds, gateway_offered, is_passed}
 use Rattle.sms_join.specs.Gateway.Finishings.{finishings_at, keys_at}
 use Rattle.sms_join.specs.Gateway.Value.{LimitsValue}
 use Rattle.sms_once.specs.Run.{Held, held_aged, new_held, run}
-use Rattle.sms_once.specs.Distinct.{IsSound}
-use Rattle.sms_once.specs.InTime.{AnswersInTime, AreInTime, ComesInTime, RunsWithoutAge}
+use Rattle.sms_once.specs.Sound.{IsSound}
+use Rattle.sms_once.specs.InTime.{AnswersInTime, AreInTime, RunsWithoutAge}
 use Rattle.sms_once.proofs.Sets.{among_taken}
 use Rattle.sms_once.proofs.Falling.{keys_always, keys_by}
-use Rattle.sms_once.proofs.Distinct.{runs_stay_sound}
+use Rattle.sms_once.proofs.Sound.{runs_stay_sound}
 
 -- ---- the first ones of a list
 

@@ -1,9 +1,8 @@
 -- Keys are the same just where they are equal.
-use Rattle.std.proofs.Common.{◌≡◌, ℕ, Bool, true, false, ◌&&◌, eqb, List, refl, ap}
+use Rattle.std.proofs.Common.{◌≡◌, ℕ, true, ◌&&◌, eqb, List, refl}
 use Rattle.std.proofs.lemmas.Bool.{eqb-true, eq-eqb, and_parts, and_from}
 use Rattle.std.proofs.lemmas.Slice.Eq.{bytes_eq-Decides}
 use Rattle.std.specs.Str.{bytes_eq}
-use Rattle.sms_field.specs.Address.Value.{AddressValue}
 use Rattle.sms_field.specs.Address.Same.{same_address}
 use Rattle.sms_field.specs.Inside.SameAddressLaws.{same_address_refl, same_address_true}
 use Rattle.sms_tpdu.specs.declared.user_data.concat.Width.{Width}

@@ -1,11 +1,10 @@
 -- A key that has finished, while it is remembered.
 use Rattle.std.proofs.Common.{◌≡◌, ℕ, zero, suc, ◌+◌, ◌<◌, ◌≤◌, Bool, true, false, cond, ◌||◌, List, [], ◌∷◌, ◌++◌, take, length, refl, sym, ap, ◌∙◌, subst, arith}
-use Rattle.std.proofs.lemmas.Bool.{or_parts}
 use Rattle.sms_join.specs.declared.key.Key.{Key}
 use Rattle.sms_join.specs.Key.{same_key}
 use Rattle.sms_join.specs.Piece.{Piece}
 use Rattle.sms_join.specs.Joiner.Sets.{has, is_open, units_upto, without}
-use Rattle.sms_join.specs.Joiner.{Joiner, Answer, Repeat, Kept, Finished, TooManyOpen, is_among, answer, answered, offered, decided, is_repeat, is_whole, has_room}
+use Rattle.sms_join.specs.Joiner.{Joiner, Repeat, Finished, is_among, answer, answered, offered, decided, is_repeat, is_whole, has_room}
 use Rattle.sms_join.specs.Joiner.Aging.{is_old_after, aged_after}
 use Rattle.sms_join.specs.Joiner.Acts.{Act, Brings, Ages}
 use Rattle.sms_join.specs.Arrivals.Pieces.{finished_now}
@@ -15,8 +14,8 @@ use Rattle.sms_join.specs.Gateway.Value.{LimitsValue}
 use Rattle.sms_once.specs.Run.{Held, held_aged, run}
 use Rattle.sms_once.specs.Repeats.{AreRepeats, NoneForgets, others_finished}
 use Rattle.sms_once.specs.Once.{finishes}
-use Rattle.sms_once.proofs.Keys.{same_key_refl, same_key_true}
-use Rattle.sms_once.proofs.Sets.{among_both, among_mid, among_taken, open-without, open-without_same}
+use Rattle.sms_once.proofs.Keys.{same_key_true}
+use Rattle.sms_once.proofs.Sets.{among_mid, among_taken, open-without, open-without_same}
 use Rattle.sms_once.proofs.Aged.{among_aged, as_many_aged, closed_aged, fewer_aged, keys_stay, moments_stay}
 
 -- The key stands once among the remembered ones, behind at most so many others, and its moment at

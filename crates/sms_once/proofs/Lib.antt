@@ -5,7 +5,7 @@ pub mod Holding
 pub mod Lasting
 pub mod Once
 pub mod Falling
-pub mod Distinct
+pub mod Sound
 pub mod Anew
 pub mod Steps
 pub mod InTime

@@ -1,5 +1,5 @@
 -- The pieces of a message finish it just once.
-use Rattle.std.proofs.Common.{◌≡◌, ℕ, ◌<◌, Bool, true, false, cond, List, [], ◌∷◌, ◌++◌, take, refl, sym, ap, ◌∙◌, subst, map, arith}
+use Rattle.std.proofs.Common.{◌≡◌, ℕ, ◌<◌, Bool, true, false, cond, List, [], ◌∷◌, ◌++◌, refl, sym, ap, ◌∙◌, subst, map, arith}
 use Rattle.std.proofs.lemmas.Bool.{or_parts}
 use Rattle.std.proofs.lemmas.List.{append_assoc}
 use Rattle.sms_join.specs.declared.key.Key.{Key}
@@ -11,13 +11,13 @@ use Rattle.sms_join.specs.Joiner.Sets.{has, units_upto}
 use Rattle.sms_join.specs.Joiner.{Joiner, Finished, is_among, is_repeat, is_whole, has_room, decided, answer, answered, offered}
 use Rattle.sms_join.specs.Joiner.Acts.{Act, Brings, Ages, brought}
 use Rattle.sms_join.specs.Arrivals.Pieces.{finished_now}
-use Rattle.sms_join.specs.Gateway.Answers.{gateway_answer, gateway_finishings, gateway_offered, is_passed}
+use Rattle.sms_join.specs.Gateway.Answers.{gateway_answer, is_passed}
 use Rattle.sms_join.specs.Gateway.Finishings.{finishings_after}
 use Rattle.sms_join.specs.Gateway.Value.{LimitsValue}
 use Rattle.sms_once.specs.Run.{Held, finishing_by, held_after, run}
-use Rattle.sms_once.specs.Repeats.{RepeatsInTime, StaysRemembered}
+use Rattle.sms_once.specs.Repeats.{NoneForgets, RepeatsInTime, others_finished}
 use Rattle.sms_once.specs.Once.{ComeAllInTime, FinishesOnceInTime, FinishesTextInTime, IsNew, finishes}
-use Rattle.sms_once.proofs.Keys.{same_key_true}
+use Rattle.sms_once.proofs.Keys.{same_key_refl, same_key_true}
 use Rattle.sms_once.proofs.Holding.{Holds, at_whole, before_whole}
 use Rattle.sms_once.proofs.Lasting.{IsLasting, Lasts, is_lasting, lasts_first}
 
@@ -56,7 +56,8 @@ fresh open_max j o us = go (is_repeat j o) refl (is_whole j o) (has_room open_ma
 
 module _ (limits : LimitsValue) (h : Held) (k : Key) (o : Piece) (us : List Units) (after : List (Act Piece))
     (keeps : is_passed limits.alone k ≡ false) (under : same_key o.key k ≡ true) (done : gateway_answer limits h.holds o ≡ Finished us)
-    (stays : StaysRemembered limits h k o after) where
+    (few : others_finished limits (held_after limits h (Brings o)) k after < limits.remembered)
+    (in_time : NoneForgets limits.remember_for (finishing_by h o) after) where
   own : o.key ≡ k
   own = same_key_true o.key k under
 
@@ -69,7 +70,6 @@ module _ (limits : LimitsValue) (h : Held) (k : Key) (o : Piece) (us : List Unit
   first : Lasts (held_after limits h (Brings o)).holds (held_after limits h (Brings o)).finishings k (finishing_by h o) 0
   unfolding answered offered
   first =
-      let few = stays.few in
       let some : 0 < limits.remembered = omega arith in
       subst (λ b. Lasts (cond b h.holds (answered limits.remembered h.holds o (answer limits.open_max h.holds o)))
       (cond b h.finishings (finishings_after limits.remembered h.finishings o.moment (answer limits.open_max h.holds o)))
@@ -79,10 +79,11 @@ module _ (limits : LimitsValue) (h : Held) (k : Key) (o : Piece) (us : List Unit
       (ap (is_among h.holds.finished) (sym own) ∙ fresh limits.open_max h.holds o us whole)))
 
   pub lasting : IsLasting limits (held_after limits h (Brings o)) k (finishing_by h o) after
-  lasting = is_lasting limits (held_after limits h (Brings o)) k (finishing_by h o) keeps first after stays.few stays.in_time
+  lasting = is_lasting limits (held_after limits h (Brings o)) k (finishing_by h o) keeps first after few in_time
 
 pub repeats_in_time : RepeatsInTime
-repeats_in_time limits h k o us after keeps under done stays = (lasting limits h k o us after keeps under done stays).repeats
+repeats_in_time limits h o us after keeps done stays =
+    (lasting limits h o.key o us after keeps (same_key_refl o.key) done stays.few stays.in_time).repeats
 
 -- ---- the pieces of a message
 
@@ -99,7 +100,10 @@ module _ (limits : LimitsValue) (h : Held) (k : Key) (us : List Units) (after : 
       come.missing come.all
 
   pub lasting_after : IsLasting limits (run limits h (Brings o ∷ before)) k (finishing_by (run limits h before) o) after
-  lasting_after = lasting limits (run limits h before) k o us after come.not_passed come.under_key finishes_now come.remembered
+  lasting_after =
+      lasting limits (run limits h before) k o us after come.not_passed come.under_key finishes_now
+      (subst (λ x. others_finished limits (run limits h (Brings o ∷ before)) x after < limits.remembered) (same_key_true o.key k come.under_key) come.remembered.few)
+      come.remembered.in_time
 
   here : finishes limits h k (Brings o ∷ before) ≡ us ∷ []
   here =

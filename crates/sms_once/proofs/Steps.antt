@@ -1,10 +1,10 @@
 -- Steps of a joiner for many recipients follow the run.
 use Rattle.std.proofs.Common.{◌≡◌, ℕ, ◌+◌, ◌-◌, ◌<◌, ◌≤◌, ◌⊎◌, inl, inr, Bool, true, false, cond, ◌&&◌, leb, List, [], ◌∷◌, refl, sym, ap, ◌∙◌, subst, arith}
-use Rattle.std.proofs.lemmas.Bool.{cases_lt, leb-true, leb-false, le-leb, false_from_ne_true}
+use Rattle.std.proofs.lemmas.Bool.{cases_lt, leb-true, le-leb, false_from_ne_true}
 use Rattle.sms_join.specs.declared.key.Key.{Key}
 use Rattle.sms_join.specs.Piece.{Piece}
 use Rattle.sms_join.specs.Joiner.Sets.{is_open, opened_at}
-use Rattle.sms_join.specs.Joiner.{Joiner, Finished, answer, offered}
+use Rattle.sms_join.specs.Joiner.{Joiner, Finished, offered}
 use Rattle.sms_join.specs.Joiner.Aging.{AgesAlike, aged, aged_after, is_old, is_old_after, young}
 use Rattle.sms_join.specs.Joiner.Acts.{Act, Brings, Ages}
 use Rattle.sms_join.specs.Joiner.Finishing.{SameIsEquivalence}
@@ -13,7 +13,7 @@ use Rattle.sms_join.specs.Gateway.Answers.{gateway_aged, gateway_answer, gateway
 use Rattle.sms_join.specs.Gateway.Finishings.{finishings_after, finishings_at, keys_at}
 use Rattle.sms_join.specs.Gateway.Value.{GatewayValue, LimitsValue}
 use Rattle.sms_once.specs.Run.{Held, held_after, held_aged, run}
-use Rattle.sms_once.specs.Steps.{AreSteps, StepsFollowRun, Holds, IsAged, IsAsRun, IsStep, IsOffered}
+use Rattle.sms_once.specs.Steps.{AreSteps, StepsFollowRun, Holds, IsStep}
 
 leb_alike : (a b c d : ℕ) → (a ≤ b → c ≤ d) → (c ≤ d → a ≤ b) → leb a b ≡ leb c d
 leb_alike a b c d f g = go (leb a b) refl

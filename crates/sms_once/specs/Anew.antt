@@ -8,7 +8,7 @@ use Rattle.sms_join.specs.Gateway.Finishings.{is_forgotten}
 use Rattle.sms_join.specs.Gateway.Value.{LimitsValue}
 use Rattle.sms_once.specs.Run.{Held, finishing_by, run}
 use Rattle.sms_once.specs.Once.{ComeAllInTime, IsNew, finishes}
-use Rattle.sms_once.specs.Distinct.{IsSound}
+use Rattle.sms_once.specs.Sound.{IsSound}
 
 -- The key is remembered, and its message counts as finished at this moment.
 pub record IsFinishedAt (h : Held) (k : Key) (m : ℕ) : Type 0 where

@@ -1,7 +1,7 @@
 pub mod Run
 pub mod Repeats
 pub mod Once
-pub mod Distinct
+pub mod Sound
 pub mod Anew
 pub mod InTime
 pub mod Steps

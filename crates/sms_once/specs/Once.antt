@@ -68,7 +68,7 @@ pub record ComeAllInTime (limits : LimitsValue) (h : Held) (k : Key) (pieces : L
   pub missing : has_all (brought before) k (length pieces) ≡ false
   pub all : has_all (p ∷ brought before) k (length pieces) ≡ true
   -- after it the key is not forgotten
-  pub remembered : StaysRemembered limits (run limits h before) k p after
+  pub remembered : StaysRemembered limits (run limits h before) p after
 
 -- Where the key is new at first, that offer finishes the set with the pieces in order, and no other
 -- one under the key finishes it.

@@ -31,11 +31,12 @@ NoneForgets longest m (Brings p ∷ acts) = NoneForgets longest m acts
 NoneForgets longest m (Ages now ∷ acts) =
     (is_forgotten longest now m ≡ false) × NoneForgets longest m acts
 
--- After this piece, which finishes the key, fewer other keys finish than can be remembered, and no
+-- After this piece, which finishes its key, fewer other keys finish than can be remembered, and no
 -- aging forgets the finishing.
-pub record StaysRemembered (limits : LimitsValue) (h : Held) (k : Key) (p : Piece)
+pub record StaysRemembered (limits : LimitsValue) (h : Held) (p : Piece)
     (after : List (Act Piece)) : Type 0 where
-  pub few : others_finished limits (held_after limits h (Brings p)) k after < limits.remembered
+  pub few : others_finished limits (held_after limits h (Brings p)) p.key after
+      < limits.remembered
   pub in_time : NoneForgets limits.remember_for (finishing_by h p) after
 
 -- Each offer under the key is answered by a repeat.
@@ -46,14 +47,12 @@ AreRepeats limits h k (Brings p ∷ acts) =
     × AreRepeats limits h k acts
 AreRepeats limits h k (Ages now ∷ acts) = AreRepeats limits h k acts
 
--- Where messages under the key are not passed, and a piece has finished it, each later one under it
--- is a repeat as long as it stays remembered, whatever comes.
+-- After a piece that finishes its key, and is not passed, each later one under the key is a repeat
+-- as long as the key stays remembered, whatever comes.
 abbrev pub RepeatsInTime : Type 0
 RepeatsInTime =
-    (limits : LimitsValue) (h : Held) (k : Key) (p : Piece) (units : List Units)
-    (after : List (Act Piece))
-    → is_passed limits.alone k ≡ false
-    → same_key p.key k ≡ true
+    (limits : LimitsValue) (h : Held) (p : Piece) (units : List Units) (after : List (Act Piece))
+    → is_passed limits.alone p.key ≡ false
     → gateway_answer limits h.holds p ≡ Finished units
-    → StaysRemembered limits h k p after
-    → AreRepeats limits (held_after limits h (Brings p)) k after
+    → StaysRemembered limits h p after
+    → AreRepeats limits (held_after limits h (Brings p)) p.key after

@@ -2,13 +2,13 @@
 //! contract, and does nothing.
 
 ghost use Rattle.sms_once.specs.Anew.{FinishInTurn, KeysJoinAnew};
-ghost use Rattle.sms_once.specs.Distinct.{RunsStaySound};
+ghost use Rattle.sms_once.specs.Sound.{RunsStaySound};
 ghost use Rattle.sms_once.specs.InTime.{AnswersInTime, RunsWithoutAge};
 ghost use Rattle.sms_once.specs.Once.{FinishesOnceInTime, FinishesTextInTime};
 ghost use Rattle.sms_once.specs.Repeats.{RepeatsInTime};
 
-/// After a piece that finishes a key, whatever comes, each one under the key is a repeat as long as
-/// fewer other keys finish than are remembered and no aging forgets the finishing.
+/// After a piece that finishes its key, whatever comes, each later one under the key is a repeat as
+/// long as fewer other keys finish than are remembered and no aging forgets the finishing.
 pub fn finished_keys_repeat()
     ensures { RepeatsInTime }
 {}

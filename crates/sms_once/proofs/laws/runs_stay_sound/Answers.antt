@@ -1,4 +1,4 @@
-use Rattle.sms_once.proofs.Distinct.{runs_stay_sound}
+use Rattle.sms_once.proofs.Sound.{runs_stay_sound}
 use Rattle.sms_once.proofs.laws.runs_stay_sound.Goals as goal
 
 pub returns : goal.returns

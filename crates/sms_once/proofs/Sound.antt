@@ -1,7 +1,6 @@
 -- No key comes to be remembered twice, and each has its moment.
-use Rattle.std.proofs.Common.{◌≡◌, ℕ, zero, suc, ◌≤◌, Bool, true, false, cond, not, ◌||◌, max, List, [], ◌∷◌, take, length, Option, refl, sym, ap, ◌∙◌, subst, arith, length-take}
+use Rattle.std.proofs.Common.{◌≡◌, ℕ, zero, suc, Bool, true, false, cond, ◌||◌, List, [], ◌∷◌, take, length, Option, refl, sym, ap, ◌∙◌, subst, arith}
 use Rattle.std.proofs.lemmas.Bool.{or_parts}
-use Rattle.std.specs.List.{filter}
 use Rattle.sms_join.specs.declared.key.Key.{Key}
 use Rattle.sms_join.specs.Key.{same_key}
 use Rattle.sms_join.specs.Piece.{Piece}
@@ -10,11 +9,11 @@ use Rattle.sms_join.specs.Joiner.{Joiner, new_joiner, is_among, is_repeat, is_wh
 use Rattle.sms_join.specs.Joiner.Aging.{is_old_after, aged_after}
 use Rattle.sms_join.specs.Joiner.Acts.{Act, Brings, Ages}
 use Rattle.sms_join.specs.Gateway.Answers.{gateway_finishings, gateway_offered, is_passed}
-use Rattle.sms_join.specs.Gateway.Distinct.{NoneTwice, AreDistinct}
-use Rattle.sms_join.specs.Gateway.Finishings.{Fall, FallFrom, finishings_after, finishings_at, is_forgotten, keys_at, not_before}
+use Rattle.sms_join.specs.Gateway.Distinct.{NoneTwice}
+use Rattle.sms_join.specs.Gateway.Finishings.{Fall, finishings_after, is_forgotten, keys_at, not_before}
 use Rattle.sms_join.specs.Gateway.Value.{LimitsValue}
-use Rattle.sms_once.specs.Run.{Held, held_aged, held_after, new_held, run}
-use Rattle.sms_once.specs.Distinct.{IsSound, RunsStaySound}
+use Rattle.sms_once.specs.Run.{Held, held_aged, new_held, run}
+use Rattle.sms_once.specs.Sound.{IsSound, RunsStaySound}
 use Rattle.sms_once.proofs.Keys.{same_key_true}
 use Rattle.sms_once.proofs.Sets.{among_taken, open-without_same, open_before}
 use Rattle.sms_once.proofs.Aged.{among_aged, as_many_aged, open_young}

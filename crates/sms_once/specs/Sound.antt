@@ -1,6 +1,6 @@
--- Over any list of offers and agings, no key comes to be remembered twice, nor one whose set is
--- open, and each has its moment. Lists have the newest entry first.
-use Rattle.std.specs.Prelude.{◌≡◌, ◌≤◌, List, length}
+-- No list of offers and agings leaves a key remembered twice, or one whose set is open, or without
+-- its moment. Lists have the newest entry first.
+use Rattle.std.specs.Prelude.{◌≡◌, List, length}
 use Rattle.sms_join.specs.Piece.{Piece}
 use Rattle.sms_join.specs.Joiner.Acts.{Act}
 use Rattle.sms_join.specs.Gateway.Distinct.{AreDistinct}
