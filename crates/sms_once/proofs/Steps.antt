@@ -1,19 +1,24 @@
 -- Steps of a joiner for many recipients follow the run.
-use Rattle.std.proofs.Common.{◌≡◌, ℕ, ◌+◌, ◌-◌, ◌<◌, ◌≤◌, ◌⊎◌, inl, inr, Bool, true, false, cond, ◌&&◌, leb, List, [], ◌∷◌, refl, sym, ap, ◌∙◌, subst, arith}
+use Rattle.std.proofs.Common.{◌≡◌, ◌≢◌, Result, Ok, Err, ℕ, ◌+◌, ◌-◌, ◌<◌, ◌≤◌, ◌⊎◌, inl, inr, Bool, true, false, cond, ◌&&◌, leb, List, [], ◌∷◌, refl, sym, ap, ◌∙◌, subst, arith}
 use Rattle.std.proofs.lemmas.Bool.{cases_lt, leb-true, le-leb, false_from_ne_true}
+use Rattle.std.specs.Result.{OnOk, OnErr}
 use Rattle.sms_join.specs.declared.key.Key.{Key}
+use Rattle.sms_join.specs.declared.offer.Offer.{Offer}
+use Rattle.sms_join.specs.declared.offer.OfferFault.{OfferFault}
+use Rattle.sms_join.specs.declared.offer.OfferFault.TheVariants as faults
 use Rattle.sms_join.specs.Piece.{Piece}
 use Rattle.sms_join.specs.Joiner.Sets.{is_open, opened_at}
-use Rattle.sms_join.specs.Joiner.{Joiner, Finished, offered}
+use Rattle.sms_join.specs.Joiner.{Joiner, Answer, Repeat, Kept, Finished, TooManyOpen, answer, answered, offered}
 use Rattle.sms_join.specs.Joiner.Aging.{AgesAlike, aged, aged_after, is_old, is_old_after, young}
 use Rattle.sms_join.specs.Joiner.Acts.{Act, Brings, Ages}
 use Rattle.sms_join.specs.Joiner.Finishing.{SameIsEquivalence}
+use Rattle.sms_join.specs.Joiner.Offering.{SaysAnswer, is_first}
 use Rattle.sms_join.specs.Joiner.Same.{AnswersAlike, IsSame}
 use Rattle.sms_join.specs.Gateway.Answers.{gateway_aged, gateway_answer, gateway_finishings, gateway_offered, is_passed}
 use Rattle.sms_join.specs.Gateway.Finishings.{finishings_after, finishings_at, keys_at}
 use Rattle.sms_join.specs.Gateway.Value.{GatewayValue, LimitsValue}
-use Rattle.sms_once.specs.Run.{Held, held_after, held_aged, run}
-use Rattle.sms_once.specs.Steps.{AreSteps, StepsFollowRun, Holds, IsStep}
+use Rattle.sms_once.specs.Run.{Held, held_after, held_aged, new_held, run}
+use Rattle.sms_once.specs.Steps.{AreSteps, Holds, IsOffered, IsStep, StepsFollowRun}
 
 leb_alike : (a b c d : ℕ) → (a ≤ b → c ≤ d) → (c ≤ d → a ≤ b) → leb a b ≡ leb c d
 leb_alike a b c d f g = go (leb a b) refl
@@ -115,11 +120,49 @@ module _ (answers : AnswersAlike) (ages : AgesAlike) (equivalence : SameIsEquiva
       one_step old.limits c.0 new (run old.limits h acts) act ih.1 ih.0 c.2
 
   pub steps_follow_run : StepsFollowRun
-  steps_follow_run old new h acts d c =
-      let r = all_steps old new h acts d c in
+  steps_follow_run =
       record {
-        holds = r.0;
-        answers = λ p.
-            ap (λ (m : LimitsValue). gateway_answer m new.holds p) r.1
-            ∙ answer_alike old.limits new.holds (run old.limits h acts).holds p r.0.holds;
+        begins = λ g e f. record { holds = subst (λ (j : Joiner). IsSame j new_held.holds) (sym e) (equivalence.0 new_held.holds); finishings = f };
+        follows = λ old new h acts d c.
+            let r = all_steps old new h acts d c in
+            record {
+              holds = r.0;
+              answers = λ p.
+                  ap (λ (m : LimitsValue). gateway_answer m new.holds p) r.1
+                  ∙ answer_alike old.limits new.holds (run old.limits h acts).holds p r.0.holds;
+            };
       }
+
+-- ---- one call
+
+-- one that is turned away leaves all as it was
+module _ (limits : LimitsValue) (j : Joiner) (ms : List ℕ) (p : Piece) (says : SaysAnswer (gateway_answer limits j p) (is_first j p) (Err faults.TooManyOpen)) where
+  turned_away : (gateway_offered limits j p ≡ j) × (gateway_finishings limits j ms p ≡ ms)
+  unfolding offered answered
+  turned_away = go (is_passed limits.alone p.key) (answer limits.open_max j p) says
+    where
+      go : (b : Bool) (a : Answer) → SaysAnswer (cond b (Finished (p.units ∷ [])) a) (is_first j p) (Err faults.TooManyOpen)
+          → (cond b j (answered limits.remembered j p a) ≡ j) × (cond b ms (finishings_after limits.remembered ms p.moment a) ≡ ms)
+      go true a s = (refl, refl)
+      go false Repeat s = absurd s
+      go false Kept s = absurd s
+      go false (Finished us) s = absurd s
+      go false TooManyOpen s = (refl, refl)
+
+same : (j : Joiner) → IsSame j j
+same j = record { pieces = λ k n. refl; units = λ k n t. refl; opened = λ k. refl; moments = λ k. refl; sets = refl; finished = refl }
+
+pub offer_is_step : (old new : GatewayValue) (p : Piece) (result : Result Offer OfferFault)
+    → SaysAnswer (gateway_answer old.limits old.holds p) (is_first old.holds p) result
+    → OnOk result (IsSame new.holds (gateway_offered old.limits old.holds p))
+    → OnOk result (new.finishings ≡ gateway_finishings old.limits old.holds old.finishings p)
+    → new.limits ≡ old.limits → OnErr result (new ≡ old) → result ≢ Err faults.Memory → IsOffered old new p
+offer_is_step old new p (Ok o) says holds moments limits refused n = record { holds = holds; finishings = moments; limits = limits }
+offer_is_step old new p (Err faults.Memory) says holds moments limits refused n = absurd (n refl)
+offer_is_step old new p (Err faults.TooManyOpen) says holds moments limits refused n =
+    let t = turned_away old.limits old.holds old.finishings p says in
+    record {
+      holds = subst (λ (j : Joiner). IsSame new.holds j) (sym t.0) (subst (λ (g : GatewayValue). IsSame g.holds old.holds) (sym refused) (same old.holds));
+      finishings = ap (λ (g : GatewayValue). g.finishings) refused ∙ sym t.1;
+      limits = limits;
+    }

@@ -2,14 +2,15 @@
 -- order in which it keeps its pieces. Lists have the newest entry first.
 use Rattle.std.specs.Prelude.{◌≡◌, ℕ, List, [], ◌∷◌}
 use Rattle.sms_join.specs.Piece.{Piece}
+use Rattle.sms_join.specs.Joiner.{new_joiner}
 use Rattle.sms_join.specs.Joiner.Acts.{Act, Brings, Ages}
 use Rattle.sms_join.specs.Joiner.Same.{IsSame}
 use Rattle.sms_join.specs.Gateway.Answers.{gateway_aged, gateway_answer, gateway_finishings, gateway_offered}
 use Rattle.sms_join.specs.Gateway.Finishings.{finishings_at}
 use Rattle.sms_join.specs.Gateway.Value.{GatewayValue}
-use Rattle.sms_once.specs.Run.{Held, run}
+use Rattle.sms_once.specs.Run.{Held, new_held, run}
 
--- What an offer leaves that is not refused.
+-- What an offer leaves for which memory does not run out.
 pub record IsOffered (old new : GatewayValue) (p : Piece) : Type 0 where
   pub holds : IsSame new.holds (gateway_offered old.limits old.holds p)
   pub finishings : new.finishings ≡ gateway_finishings old.limits old.holds old.finishings p
@@ -42,7 +43,7 @@ pub record IsAsRun (old new : GatewayValue) (h : Held) (acts : List (Act Piece))
   pub answers : (p : Piece) → gateway_answer new.limits new.holds p
       ≡ gateway_answer old.limits (run old.limits h acts).holds p
 
-abbrev pub StepsFollowRun : Type 0
-StepsFollowRun =
-    (old new : GatewayValue) (h : Held) (acts : List (Act Piece))
-    → Holds old h → AreSteps old new acts → IsAsRun old new h acts
+pub record StepsFollowRun : Type 0 where
+  pub begins : (g : GatewayValue) → g.holds ≡ new_joiner → g.finishings ≡ [] → Holds g new_held
+  pub follows : (old new : GatewayValue) (h : Held) (acts : List (Act Piece))
+      → Holds old h → AreSteps old new acts → IsAsRun old new h acts

@@ -1,7 +1,7 @@
 //! That a joiner for many recipients holds what the run of its calls says. A function that speaks of
 //! one call makes it: its contract is the law.
 
-ghost use Rattle.std.specs.Prelude.{option_copied, OnOk};
+ghost use Rattle.std.specs.Prelude.{◌≢◌, option_copied};
 ghost use Rattle.sms_join.specs.Piece.{piece_to};
 ghost use Rattle.sms_tpdu.specs.UserData.ConcatenationFound.{IsPlace};
 ghost use Rattle.sms_once.specs.Steps.{StepsFollowRun, IsAged, IsOffered};
@@ -10,7 +10,8 @@ use sms_field::{Address, Stamp};
 use sms_join::{Gateway, Offer, OfferFault, Units};
 use sms_tpdu::Concat;
 
-/// An offer that is not refused is a step of the run.
+/// An offer for which memory does not run out is a step of the run: one that is turned away leaves
+/// all as it was, and so does the run.
 pub fn offers_are_steps(
     gateway: &mut Gateway,
     now: u64,
@@ -21,8 +22,8 @@ pub fn offers_are_steps(
     units: Units,
 ) -> Result<Offer, OfferFault>
     requires { IsPlace concat }
-    ensures { OnOk result (IsOffered gateway.old gateway.new
-        (piece_to now (option_copied recipient.entry) origin.now stamp concat units)) }
+    ensures { result ≢ Err OfferFault.Memory → IsOffered gateway.old gateway.new
+        (piece_to now (option_copied recipient.entry) origin.now stamp concat units) }
 {
     gateway.offer(now, recipient, origin, stamp, concat, units)
 }
@@ -35,7 +36,7 @@ pub fn agings_are_steps(gateway: &mut Gateway, now: u64)
 }
 
 /// After such steps, one after another, a joiner for many recipients holds what the run says, and
-/// so answers each piece.
+/// so answers each piece. A new one holds what a run begins with.
 pub fn steps_follow_run()
     ensures { StepsFollowRun }
 {
