@@ -27,7 +27,7 @@ use Rattle.sms_once.proofs.Sound.{runs_stay_sound}
 some_same : {X : Type 0} (x y : X) → Some x ≡ Some y → x ≡ y
 some_same x y e = cc
 
-among_at : (ks : List Key) (i : ℕ) (k : Key) → slice_get ks i ≡ Some k → is_among ks k ≡ true
+pub among_at : (ks : List Key) (i : ℕ) (k : Key) → slice_get ks i ≡ Some k → is_among ks k ≡ true
 among_at [] zero k e = absurd cc
 among_at [] (suc i) k e = absurd cc
 among_at (x ∷ ks) zero k e =

@@ -11,7 +11,7 @@ fall_lower : (n m : ℕ) (ms : List ℕ) → m ≤ n → FallFrom m ms → FallF
 fall_lower n m [] l h = tt
 fall_lower n m (x ∷ ms) l h = (let a = h.0 in omega arith, h.1)
 
-fall_tail : (m : ℕ) (ms : List ℕ) → FallFrom m ms → Fall ms
+pub fall_tail : (m : ℕ) (ms : List ℕ) → FallFrom m ms → Fall ms
 fall_tail m [] h = tt
 fall_tail m (x ∷ ms) h = h.1
 
@@ -91,3 +91,13 @@ keys_by (Some n) now ks ms e h = keys_kept n now ks ms e h
 keys_by None now ks ms e h =
     take_all (length (finishings_at None now ms)) ks (let a = ap (λ (l : List ℕ). length l) (finishings_always now ms) in omega (arith, a, e))
     ∙ sym (keys_always now ks ms e)
+
+-- one that is forgotten, and those before it
+
+pub forgotten_before : (longest : Option ℕ) (now n m : ℕ) → m ≤ n → is_forgotten longest now n ≡ true → is_forgotten longest now m ≡ true
+forgotten_before None now n m l e = absurd cc
+forgotten_before (Some longest) now n m l e = let a = leb-true (n + longest) now e in le-leb (m + longest) now (omega arith)
+
+pub all_forgotten : (longest : Option ℕ) (now n : ℕ) (ms : List ℕ) → is_forgotten longest now n ≡ true → FallFrom n ms → finishings_at longest now ms ≡ []
+all_forgotten None now n ms e h = absurd cc
+all_forgotten (Some longest) now n ms e h = (later_forgotten longest now n [] ms e h).1

@@ -48,10 +48,10 @@ among_front n ks k h = go (is_among ks k) refl
 
 -- ---- joiners that keep the same, and of which one remembers the first of the other's keys
 
-record IsFront (i j : Joiner) : Type 0 where
-  kept : i.kept ≡ j.kept
-  many : ℕ
-  finished : i.finished ≡ take many j.finished
+pub record IsFront (i j : Joiner) : Type 0 where
+  pub kept : i.kept ≡ j.kept
+  pub many : ℕ
+  pub finished : i.finished ≡ take many j.finished
 
 module _ (i j : Joiner) (p : Piece) (f : IsFront i j) (known : is_among j.finished p.key ≡ true → is_among i.finished p.key ≡ true) where
   among_same : is_among i.finished p.key ≡ is_among j.finished p.key
@@ -59,7 +59,7 @@ module _ (i j : Joiner) (p : Piece) (f : IsFront i j) (known : is_among j.finish
       ap (λ ks. is_among ks p.key) f.finished
       ∙ among_front f.many j.finished p.key (λ t. sym (ap (λ ks. is_among ks p.key) f.finished) ∙ known t)
 
-  answer_same : (open_max : ℕ) → answer open_max i p ≡ answer open_max j p
+  pub answer_same : (open_max : ℕ) → answer open_max i p ≡ answer open_max j p
   unfolding answer is_repeat is_whole has_room
   answer_same open_max =
       ap (λ ps. answer open_max (record { kept = ps; finished = i.finished }) p) f.kept
@@ -107,10 +107,10 @@ aged_front limits h j now s f =
           ∙ (ap (take (length (finishings_at limits.remember_for now h.finishings))) f.finished ∙ t.1);
     }
 
-sound_run : (limits : LimitsValue) (acts : List (Act Piece)) → IsSound (run limits new_held acts)
+pub sound_run : (limits : LimitsValue) (acts : List (Act Piece)) → IsSound (run limits new_held acts)
 sound_run limits acts = runs_stay_sound.stays limits new_held acts runs_stay_sound.new
 
-front_run : (limits : LimitsValue) (acts : List (Act Piece)) → AreInTime limits acts → IsFront (run limits new_held acts).holds (gateway_holds limits acts)
+pub front_run : (limits : LimitsValue) (acts : List (Act Piece)) → AreInTime limits acts → IsFront (run limits new_held acts).holds (gateway_holds limits acts)
 unfolding new_joiner
 front_run limits [] h = record { kept = refl; many = 0; finished = refl }
 front_run limits (Brings p ∷ acts) h = offered_front (run limits new_held acts).holds (gateway_holds limits acts) p (front_run limits acts h.1) h.0 limits
@@ -123,7 +123,7 @@ answers_in_time limits acts p h =
 
 -- ---- where none is forgotten by its age
 
-all_stay : (limits : LimitsValue) (now : ℕ) (h : Held) (j : Joiner) → limits.remember_for ≡ None → length h.finishings ≡ length h.holds.finished → h.holds ≡ j
+pub all_stay : (limits : LimitsValue) (now : ℕ) (h : Held) (j : Joiner) → limits.remember_for ≡ None → length h.finishings ≡ length h.holds.finished → h.holds ≡ j
     → (held_aged limits h now).holds ≡ aged_after limits.open_for now j
 unfolding aged_after
 all_stay limits now h j e many same =

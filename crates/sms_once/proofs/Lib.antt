@@ -9,3 +9,4 @@ pub mod Sound
 pub mod Anew
 pub mod Steps
 pub mod InTime
+pub mod Timely

@@ -1,20 +1,14 @@
 -- A key whose finishing was forgotten by its age joins anew. Lists have the newest entry first.
-use Rattle.std.specs.Prelude.{◌≡◌, ℕ, true, List, [], ◌∷◌, ◌++◌, map, slice_get, Some}
+use Rattle.std.specs.Prelude.{◌≡◌, ℕ, true, List, [], ◌∷◌, ◌++◌, map}
 use Rattle.sms_join.specs.declared.key.Key.{Key}
 use Rattle.sms_join.specs.declared.units.Units.{Units}
 use Rattle.sms_join.specs.Piece.{Piece}
 use Rattle.sms_join.specs.Joiner.Acts.{Act, Brings, Ages}
 use Rattle.sms_join.specs.Gateway.Finishings.{is_forgotten}
 use Rattle.sms_join.specs.Gateway.Value.{LimitsValue}
-use Rattle.sms_once.specs.Run.{Held, finishing_by, run}
+use Rattle.sms_once.specs.Run.{Held, IsFinishedAt, finishing_by, run}
 use Rattle.sms_once.specs.Once.{ComeAllInTime, IsNew, finishes}
 use Rattle.sms_once.specs.Sound.{IsSound}
-
--- The key is remembered, and its message counts as finished at this moment.
-pub record IsFinishedAt (h : Held) (k : Key) (m : ℕ) : Type 0 where
-  pub index : ℕ
-  pub key : slice_get h.holds.finished index ≡ Some k
-  pub moment : slice_get h.finishings index ≡ Some m
 
 -- After any list of offers and agings, an aging that forgets the finishing of a key leaves the key
 -- new.

@@ -1,6 +1,7 @@
 -- What a joiner for many recipients holds after any list of offers and agings, where keys are
 -- forgotten by their age too. Lists have the newest entry first.
-use Rattle.std.specs.Prelude.{ℕ, List, [], ◌∷◌}
+use Rattle.std.specs.Prelude.{◌≡◌, ℕ, List, [], ◌∷◌, slice_get, Some}
+use Rattle.sms_join.specs.declared.key.Key.{Key}
 use Rattle.sms_join.specs.Piece.{Piece}
 use Rattle.sms_join.specs.Joiner.{Joiner, new_joiner}
 use Rattle.sms_join.specs.Joiner.Acts.{Act, Brings, Ages}
@@ -49,3 +50,9 @@ run limits h (act ∷ acts) = held_after limits (run limits h acts) act
 -- of the finishing before it, where that is later.
 abbrev pub finishing_by : Held → Piece → ℕ
 finishing_by h p = not_before h.finishings p.moment
+
+-- The key is remembered, and its message counts as finished at this moment.
+pub record IsFinishedAt (h : Held) (k : Key) (m : ℕ) : Type 0 where
+  pub index : ℕ
+  pub key : slice_get h.holds.finished index ≡ Some k
+  pub moment : slice_get h.finishings index ≡ Some m

@@ -3,7 +3,7 @@
 
 ghost use Rattle.sms_once.specs.Anew.{FinishInTurn, KeysJoinAnew};
 ghost use Rattle.sms_once.specs.Sound.{RunsStaySound};
-ghost use Rattle.sms_once.specs.InTime.{AnswersInTime, RunsWithoutAge};
+ghost use Rattle.sms_once.specs.InTime.{AnswersInTime, RunsWithoutAge, TimelyComeInTime};
 ghost use Rattle.sms_once.specs.Once.{FinishesOnceInTime, FinishesTextInTime};
 ghost use Rattle.sms_once.specs.Repeats.{RepeatsInTime};
 
@@ -46,10 +46,16 @@ pub fn runs_stay_sound()
     ensures { RunsStaySound }
 {}
 
-/// As long as each piece whose key would be remembered, were none forgotten by its age, finds it
-/// remembered, each is answered as if none were.
+/// As long as each piece finds its key remembered, if it would be were none forgotten by its age,
+/// each is answered as if none were.
 pub fn answers_in_time()
     ensures { AnswersInTime }
+{}
+
+/// Where each piece comes before any aging is so late that it forgets the finishing of its key,
+/// each finds its key remembered, if it would be were none forgotten by its age.
+pub fn timely_pieces_come_in_time()
+    ensures { TimelyComeInTime }
 {}
 
 /// Where no key is forgotten by its age, the run holds what a joiner for many recipients then does.
