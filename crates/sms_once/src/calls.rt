@@ -12,6 +12,7 @@ use sms_tpdu::Concat;
 
 /// An offer for which memory does not run out is a step of the run: one that is turned away leaves
 /// all as it was, and so does the run.
+#[tactic(auto, using(crate::proofs::Steps::offer_is_step))]
 pub fn offers_are_steps(
     gateway: &mut Gateway,
     now: u64,
