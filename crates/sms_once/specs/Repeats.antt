@@ -1,6 +1,6 @@
 -- A key that has finished is remembered for as long as the limits say, by number and by age: what
--- comes under it till then is a repeat. Lists have the newest entry first. An offer for which memory
--- runs out leaves the joiner as it was, and is none here.
+-- comes under it till then is a repeat. Lists have the newest entry first. An offer for which
+-- memory runs out leaves the joiner as it was, and is none here.
 use Rattle.std.specs.Prelude.{◌≡◌, ℕ, ◌+◌, ◌<◌, true, false, ◌||◌, if◌then◌else◌, List, [], ◌∷◌, length, Option}
 use Rattle.sms_join.specs.declared.key.Key.{Key}
 use Rattle.sms_join.specs.declared.units.Units.{Units}

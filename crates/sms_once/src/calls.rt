@@ -1,5 +1,5 @@
-//! That a joiner for many recipients holds what the run of its calls says. A function that speaks of
-//! one call makes it: its contract is the law.
+//! That a joiner for many recipients holds what the run of its calls says. A function that speaks
+//! of one call makes it: its contract is the law.
 
 ghost use Rattle.std.specs.Prelude.{◌≢◌, option_copied};
 ghost use Rattle.sms_join.specs.Piece.{piece_to};

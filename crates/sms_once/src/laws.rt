@@ -7,16 +7,17 @@ ghost use Rattle.sms_once.specs.InTime.{AnswersInTime, RunsWithoutAge, TimelyCom
 ghost use Rattle.sms_once.specs.Once.{FinishesOnceInTime, FinishesTextInTime};
 ghost use Rattle.sms_once.specs.Repeats.{RepeatsInTime};
 
-/// After a piece that finishes its key, whatever comes, each later one under the key is a repeat as
-/// long as fewer other keys finish than are remembered and no aging forgets the finishing.
+/// After a piece that finishes its key, and is not passed, whatever comes, each later one under the
+/// key is a repeat as long as fewer other keys finish than are remembered and no aging forgets the
+/// finishing.
 pub fn finished_keys_repeat()
     ensures { RepeatsInTime }
 {}
 
 /// Where only the pieces of a message are offered under its key, which is at first neither open nor
-/// remembered, and none is refused or dropped by age, the first offer by which all have come
-/// finishes it; and no other does as long as fewer other keys finish than are remembered and no
-/// aging forgets the finishing, whatever comes.
+/// remembered, and none is passed, refused or dropped by age, the first offer by which all have
+/// come finishes it; and no other does as long as fewer other keys finish than are remembered and
+/// no aging forgets the finishing, whatever comes.
 pub fn pieces_finish_once_in_time()
     ensures { FinishesOnceInTime }
 {}
