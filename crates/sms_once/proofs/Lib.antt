@@ -1,0 +1,12 @@
+pub mod Keys
+pub mod Sets
+pub mod Aged
+pub mod Holding
+pub mod Lasting
+pub mod Once
+pub mod Falling
+pub mod Sound
+pub mod Anew
+pub mod Steps
+pub mod InTime
+pub mod Timely
