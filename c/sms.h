@@ -406,7 +406,7 @@ SMS_STATUS sms_split(const sms_reference *reference, const uint8_t *text, size_t
 
 /* ---- the version of the library: 1,000,000 for a major number, 1,000 for a minor one, 1 for a patch */
 
-#define SMS_VERSION 2003000
+#define SMS_VERSION 2004000
 
 /* That of the library that is loaded, to be compared with SMS_VERSION at run time. */
 uint32_t sms_version(void);

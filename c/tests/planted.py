@@ -102,7 +102,7 @@ PLANTED = (
     ("the calls of sms.h and of Rust", "rust/src/raw.rs", "joiner: *mut Joiner, cursor: *mut", "joiner: *mut Joiner, cursor: *const"),
     ("the numbers of sms.h and of Python", "python/src/sms/raw.py", "CHANGED = 11", "CHANGED = 12"),
     ("the names of sms.h and of sms.map", "c/sms.map", "    sms_split;\n", ""),
-    ("c/VERSION and what follows it", "c/sms.h", "SMS_VERSION 2003000", "SMS_VERSION 2003001"),
+    ("c/VERSION and what follows it", "c/sms.h", "SMS_VERSION 2004000", "SMS_VERSION 2004001"),
     ("c/VERSION and what follows it", "rust/Cargo.toml", '\nversion = "', '\nversion = "9'),
 )
 

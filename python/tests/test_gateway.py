@@ -119,6 +119,7 @@ class Gateways(unittest.TestCase):
             gateway.offer("Hotel", second, after(3))
             gateway.offer(None, first, NOW)
             one, other = gateway.open_messages()
+            self.assertEqual(list(gateway.open_sets()), [one, other])
             self.assertEqual((one.recipient, one.origin, one.reference, one.maximum), ("Hotel", "+9", 42, 2))
             self.assertEqual((one.sequences, one.missing, one.moment), ((2,), (1,), after(3)))
             self.assertEqual((other.recipient, other.sequences, other.moment), (None, (1,), NOW))

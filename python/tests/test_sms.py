@@ -569,6 +569,7 @@ class Joins(unittest.TestCase):
             self.assertEqual((second.sequences, second.missing), ((1,), (2,)))
             self.assertEqual(second.moment, NOW - timedelta(seconds=60))
             self.assertLess(first.opening, second.opening)
+            self.assertEqual(list(joiner.open_sets()), [first, second])
             joiner.offer(wide[1], NOW)
             self.assertEqual(list(joiner.open_messages()), [first])
         for call in (lambda: joiner.open_count, lambda: next(joiner.open_messages())):

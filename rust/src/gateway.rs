@@ -220,6 +220,11 @@ impl Gateway {
         GatewayMessages { gateway: self, cursor: raw::Cursor::default() }
     }
 
+    /// The same, by another name.
+    pub fn open_sets(&mut self) -> GatewayMessages<'_> {
+        self.open_messages()
+    }
+
     /// An open message, with the texts of its origin and recipient.
     fn message(&mut self, seen: raw::GatewayMessage) -> Result<GatewayMessage, Error> {
         let opening = seen.message.opening;

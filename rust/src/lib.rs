@@ -1807,6 +1807,11 @@ impl Joiner {
         OpenMessages { joiner: self, cursor: raw::Cursor::default() }
     }
 
+    /// The same, by another name.
+    pub fn open_sets(&mut self) -> OpenMessages<'_> {
+        self.open_messages()
+    }
+
     /// An open message, with the text of its origin.
     fn open_message(&mut self, seen: raw::OpenMessage) -> Result<OpenMessage, Error> {
         // SAFETY: the room is as counted, and the joiner is ours.

@@ -2,7 +2,7 @@
 
 pub const SMS_ABI: u32 = 2;
 /// Of the header that these are the declarations of.
-pub const SMS_VERSION: u32 = 2_003_000;
+pub const SMS_VERSION: u32 = 2_004_000;
 
 pub const SMS_TEXT_MAX: usize = 480;
 pub const SMS_UNIT_MAX: usize = 192;

@@ -365,6 +365,7 @@ fn tells_what_is_open() {
         assert_eq!(joiner.offer(seconds, &unit), Ok(Offer::Kept));
     }
     let told: Vec<_> = joiner.open_messages().map(Result::unwrap).collect();
+    assert_eq!(joiner.open_sets().map(Result::unwrap).collect::<Vec<_>>(), told);
     let (first, second) = (&told[0], &told[1]);
     assert_eq!((told.len(), joiner.open_count()), (2, 2));
     assert_eq!((first.origin.as_str(), first.type_of_number, first.plan), ("+12345", 1, 1));

@@ -1399,6 +1399,9 @@ class Joiner:
                 return
             yield message
 
+    open_sets = open_messages
+    """Another name of `open_messages`."""
+
     def close(self) -> None:
         """Frees what it holds; a closed one stays so."""
         with self._lock:

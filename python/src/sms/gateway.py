@@ -207,6 +207,9 @@ class Gateway:
                 return
             yield message
 
+    open_sets = open_messages
+    """Another name of `open_messages`."""
+
     def close(self) -> None:
         """Frees what it holds; a closed one stays so."""
         with self._lock:

@@ -11,7 +11,7 @@ from typing import Any, Dict, List
 
 # The version of the header that these are the declarations of, the number of its interface, and the sizes that are
 # always enough.
-VERSION = 2_003_000
+VERSION = 2_004_000
 ABI = VERSION // 1_000_000
 TEXT_MAX, UNIT_MAX, PACKET_MAX, ADDRESS_TEXT_MAX = 480, 192, 258, 33
 # Of packets: CP-DATA and RP-DATA, CP-ACK and RP-ACK, CP-ERROR and RP-ERROR.
