@@ -68,12 +68,18 @@ static ROWS: [(&str, &str); 6] = [
     ("\n\n\n", "end\n"),
 ];
 
+/// Whether this is told of an input.
+fn is_told(alloc: Global, input: &str, wanted: &str) -> bool {
+    match told(alloc, input.as_bytes()) {
+        Some(told) => told.as_slice() == wanted.as_bytes(),
+        None => false,
+    }
+}
+
 #[test]
 fn lines_are_told_with_their_numbers(rt: HostRuntime) -> Result<(), Fail> {
     for (input, wanted) in ROWS.iter() {
-        let told = told(rt.alloc(), input.as_bytes());
-        let octets = told.as_ref().map(|octets| octets.as_slice());
-        assert_eq!(rt; octets, Some(wanted.as_bytes()));
+        assert!(rt; is_told(rt.alloc(), input, wanted), "{input}");
     }
     Ok(())
 }
