@@ -168,7 +168,7 @@ impl Joining {
 impl Taker for Joining {
     type Fault = Fault;
 
-    ghost use Rattle.std.specs.Prelude.{◌≡◌, ◌×◌, codes};
+    ghost use Rattle.std.specs.Prelude.{◌≡◌, codes};
     ghost use Rattle.std.specs.List.{flat_map};
     ghost use Rattle.sms_page.specs.Page.{Puts};
     ghost use Rattle.sms_told.specs.Sets.{set_text};
