@@ -85,7 +85,11 @@ impl Joining {
     pub fn end<N: Write>(self, taken: Result<(), Fault>, notes: &mut N) -> Result<Done, Fault> {
         let done = Done::unless(self.is_faulty);
         if !self.stream.telling().is_verbose {
-            tell_losses(self.stream.losses(), self.stream.joiner().open_count(), notes);
+            tell_losses(
+                self.stream.losses(),
+                self.stream.joiner().open_count(),
+                notes,
+            );
         }
         drop(self);
         taken?;
@@ -180,12 +184,7 @@ impl Taker for Joining {
     ghost ends = { λ old page new page_then. (new.stream ≡ old.stream) × Puts page page_then
         (flat_map (set_text old.stream.telling.form (codes "open")) old.stream.joiner.told) };
 
-    fn take(
-        &mut self,
-        number: u64,
-        line: Option<&[u8]>,
-        page: &mut Page,
-    ) -> Result<(), Fault> {
+    fn take(&mut self, number: u64, line: Option<&[u8]>, page: &mut Page) -> Result<(), Fault> {
         match self.addressed(line.ok_or(Fault::LineTooLong)) {
             Ok(addressed) => self.take_addressed(number, &addressed, page),
             Err(fault) => self.take_fault(number, Layer::Digits, fault, page),

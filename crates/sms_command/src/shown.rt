@@ -167,12 +167,7 @@ impl Taker for Showing<'_> {
 
     ghost ends = { λ old page new page_then. (new ≡ old) × (page_then ≡ page) };
 
-    fn take(
-        &mut self,
-        number: u64,
-        line: Option<&[u8]>,
-        page: &mut Page,
-    ) -> Result<(), Fault> {
+    fn take(&mut self, number: u64, line: Option<&[u8]>, page: &mut Page) -> Result<(), Fault> {
         let line = line.ok_or(Fault::LineTooLong);
         if self.has_begun && self.shown.form == Form::Plain {
             page.put_one(b'\n');
