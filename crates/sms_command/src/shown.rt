@@ -161,6 +161,8 @@ struct Showing<'a> {
 }
 
 impl Taker for Showing<'_> {
+    ghost use Rattle.std.specs.Prelude.{◌≡◌, ⊤};
+
     type Fault = Fault;
 
     ghost takes = { λ old number line page new page_then. ⊤ };
