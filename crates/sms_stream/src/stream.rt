@@ -6,6 +6,7 @@ ghost use Rattle.sms_tpdu.specs.UserData.ConcatenationFound.{IsPlace};
 ghost use Rattle.sms_page.specs.Page.{Puts};
 ghost use Rattle.sms_told.specs.Sets.{PutsFirst, set_text};
 ghost use Rattle.sms_stream.specs.Aging.{aging_text, old_text, Drops, GoesOn};
+ghost use Rattle.sms_stream.specs.Pieces.{moment_in};
 ghost use Rattle.sms_stream.specs.Stream.{StreamValue};
 ghost use Rattle.sms_stream.specs.Taking.{clock_then, counts_at, Offers, Passes, Takes};
 
@@ -139,11 +140,12 @@ impl Stream {
 
     /// The moment at which a piece counts. A text that it finishes counts as finished at the clock:
     /// a stamp that lies ahead of that is not believed alone.
-    fn counts_at(&self, recipient: Option<&Address>, piece: &Piece) -> u64
-        requires { IsPlace piece.now.concat }
+    fn counts_at(&self, recipient: Option<&Address>, piece: &Piece, moment: Option<u64>) -> u64
+        requires place { IsPlace piece.now.concat }
+        requires moment { moment ≡ moment_in piece.now }
         ensures { result ≡ counts_at self.now (option_copied recipient.entry) piece.now }
     {
-        let now = self.clock.opening(piece.moment());
+        let now = self.clock.opening(moment);
         if now <= self.clock.time {
             return now;
         }
@@ -154,21 +156,22 @@ impl Stream {
         if finishes { self.clock.time } else { now }
     }
 
-    /// Offers a piece, and adds what comes of it.
+    /// Offers a piece, of which the moment is given, and adds what comes of it.
     fn offer(
         &mut self,
         alloc: Global,
         arrival: Arrival<'_>,
         piece: Piece,
+        moment: Option<u64>,
         page: &mut Page,
     ) -> Result<(), AllocError>
-        requires { IsPlace piece.concat }
+        requires place { IsPlace piece.concat }
+        requires moment { moment ≡ moment_in piece }
         ensures offers { OnOk result (Offers self.old self.new arrival.entry.number
             (option_copied arrival.entry.recipient) piece page.old page.new) }
         ensures clock { self.new.clock ≡ self.old.clock }
     {
-        let now = self.counts_at(arrival.recipient, &piece);
-        let moment = piece.moment();
+        let now = self.counts_at(arrival.recipient, &piece, moment);
         let stamp = piece.known_stamp();
         let Piece {
             origin,
@@ -236,7 +239,7 @@ impl Stream {
         }
         let moment = piece.moment();
         let gone = self.go_on(alloc, &piece.origin, moment, page);
-        let offered = self.offer(alloc, arrival, piece, page);
+        let offered = self.offer(alloc, arrival, piece, moment, page);
         gone?;
         offered
     }
