@@ -773,7 +773,7 @@ SMS_STATUS sms_gateway_age(sms_gateway *gateway, uint64_t seconds);
 
 /* Writes all that the joiner holds as octets, for sms_gateway_read at the next start, with `taken`: a number of the
  * caller's, which tells how much of its input is in there. The text that finished last is not. Nothing changes.
- * SMS_CLOSED. Else SMS_OK, SMS_NO_ROOM or SMS_NO_MEMORY. To ask takes as long as to write. */
+ * SMS_CLOSED. Else SMS_OK, SMS_NO_ROOM or SMS_NO_MEMORY. To ask takes less than to write: no checksum is made. */
 SMS_STATUS sms_gateway_save(sms_gateway *gateway, uint64_t taken, uint8_t *out, size_t room, size_t *needed);
 /* Opens a joiner with what such octets, all of them, say that it held; *taken is the number that was saved. It answers
  * all that comes as the saved one would. The seed may be another; nothing is forgotten till sms_gateway_age.

@@ -49,6 +49,11 @@ impl GatewayLimits {
     }
 }
 
+/// How much room the next state is given, after one of so many octets, so that it is seldom written twice.
+fn room_beside(octets: usize) -> usize {
+    octets.saturating_add(octets / 8).saturating_add(4_096)
+}
+
 /// An open message of a gateway's joiner.
 #[derive(Clone, Debug, PartialEq, Eq)]
 pub struct GatewayMessage {
@@ -72,7 +77,7 @@ impl Iterator for GatewayMessages<'_> {
     fn next(&mut self) -> Option<Self::Item> {
         let mut seen = raw::GatewayMessage::default();
         // SAFETY: the joiner, the cursor and the struct are ours.
-        match unsafe { raw::sms_gateway_each(&mut self.gateway.0, &mut self.cursor, &mut seen) } {
+        match unsafe { raw::sms_gateway_each(&mut self.gateway.handle, &mut self.cursor, &mut seen) } {
             raw::SMS_OK => Some(self.gateway.message(seen)),
             raw::SMS_NOT_THERE => None,
             status => Some(Err(Error::of(status, raw::Refused::default()))),
@@ -88,7 +93,11 @@ impl FusedIterator for GatewayMessages<'_> {}
 /// into a text for another, and are no repeats of the other's; those for none (also an empty text) are as for a recipient
 /// of their own. Of threads what is said of a [`Joiner`](crate::Joiner) holds.
 #[derive(Debug)]
-pub struct Gateway(raw::Gateway);
+pub struct Gateway {
+    handle: raw::Gateway,
+    /// How much room the next state is given.
+    room: usize,
+}
 
 // SAFETY: what a joiner holds is its own, and the library's calls on it may be made from any thread, one at a time.
 unsafe impl Send for Gateway {}
@@ -99,7 +108,7 @@ impl Gateway {
         let (mut gateway, limits) = (raw::Gateway::CLOSED, limits.raw()?);
         // SAFETY: both are ours, and it is closed.
         match unsafe { raw::sms_gateway_open(&mut gateway, &limits) } {
-            raw::SMS_OK => Ok(Gateway(gateway)),
+            raw::SMS_OK => Ok(Gateway { handle: gateway, room: room_beside(0) }),
             status => Err(Error::of(status, raw::Refused::default())),
         }
     }
@@ -114,7 +123,7 @@ impl Gateway {
         match unsafe {
             raw::sms_gateway_read(&mut gateway, &limits, octets.as_ptr(), octets.len(), &mut taken, &mut refused)
         } {
-            raw::SMS_OK => Ok((Gateway(gateway), taken)),
+            raw::SMS_OK => Ok((Gateway { handle: gateway, room: room_beside(octets.len()) }, taken)),
             status => Err(Error::of(status, refused)),
         }
     }
@@ -123,7 +132,11 @@ impl Gateway {
     /// caller's, which tells how much of its input is in there.
     pub fn save(&mut self, taken: u64) -> Result<Vec<u8>, Error> {
         // SAFETY: the room is as counted, and the joiner is ours.
-        answer(0, |out, room, needed| unsafe { raw::sms_gateway_save(&mut self.0, taken, out, room, needed) })
+        let octets = answer(self.room, |out, room, needed| unsafe {
+            raw::sms_gateway_save(&mut self.handle, taken, out, room, needed)
+        })?;
+        self.room = room_beside(octets.len());
+        Ok(octets)
     }
 
     /// Offers an SMS-DELIVER for a recipient that came at a moment, in seconds from the beginning of 2000. `BadAddress`
@@ -134,7 +147,7 @@ impl Gateway {
         // SAFETY: each pointer is to as many octets as are counted with it, and the rest is ours.
         let status = unsafe {
             raw::sms_gateway_offer(
-                &mut self.0, seconds, to.as_ptr(), to.len(), octets.as_ptr(), octets.len(), &mut outcome, &mut refused,
+                &mut self.handle, seconds, to.as_ptr(), to.len(), octets.as_ptr(), octets.len(), &mut outcome, &mut refused,
             )
         };
         answered(status, outcome, refused, || self.text())
@@ -151,7 +164,7 @@ impl Gateway {
         // SAFETY: each pointer is to as many octets as are counted with it, and the rest is ours.
         let status = unsafe {
             raw::sms_gateway_offer_data(
-                &mut self.0, seconds, &offer, to.as_ptr(), to.len(), origin.as_ptr(), origin.len(), octets.as_ptr(),
+                &mut self.handle, seconds, &offer, to.as_ptr(), to.len(), origin.as_ptr(), origin.len(), octets.as_ptr(),
                 octets.len(), &mut outcome, &mut refused,
             )
         };
@@ -162,7 +175,7 @@ impl Gateway {
     pub fn text(&mut self) -> Result<String, Error> {
         // SAFETY: the room is as counted, and the joiner is ours.
         let text = answer(raw::SMS_TEXT_MAX, |out, room, needed| unsafe {
-            raw::sms_gateway_text(&mut self.0, out, room, needed)
+            raw::sms_gateway_text(&mut self.handle, out, room, needed)
         })?;
         text_of(text)
     }
@@ -174,7 +187,7 @@ impl Gateway {
         // SAFETY: each pointer is to as many octets as are counted with it, and the rest is ours.
         match unsafe {
             raw::sms_gateway_would_finish(
-                &mut self.0, to.as_ptr(), to.len(), octets.as_ptr(), octets.len(), &mut finishes, &mut refused,
+                &mut self.handle, to.as_ptr(), to.len(), octets.as_ptr(), octets.len(), &mut finishes, &mut refused,
             )
         } {
             raw::SMS_OK => Ok(finishes == 1),
@@ -191,7 +204,7 @@ impl Gateway {
         // SAFETY: each pointer is to as many octets as are counted with it, and the rest is ours.
         match unsafe {
             raw::sms_gateway_would_finish_data(
-                &mut self.0, &offer, to.as_ptr(), to.len(), origin.as_ptr(), origin.len(), octets.as_ptr(),
+                &mut self.handle, &offer, to.as_ptr(), to.len(), origin.as_ptr(), origin.len(), octets.as_ptr(),
                 octets.len(), &mut finishes, &mut refused,
             )
         } {
@@ -204,14 +217,14 @@ impl Gateway {
     /// finished ones that finished `remember_for` seconds before it, or earlier.
     pub fn age(&mut self, seconds: u64) {
         // SAFETY: it is ours. An open joiner answers nothing but 0.
-        unsafe { raw::sms_gateway_age(&mut self.0, seconds) };
+        unsafe { raw::sms_gateway_age(&mut self.handle, seconds) };
     }
 
     /// How many messages of all recipients are open: some of their segments have come, and not all.
     pub fn open_count(&mut self) -> usize {
         let mut open_count = 0;
         // SAFETY: both are ours. An open joiner answers nothing but 0.
-        unsafe { raw::sms_gateway_count(&mut self.0, &mut open_count) };
+        unsafe { raw::sms_gateway_count(&mut self.handle, &mut open_count) };
         open_count
     }
 
@@ -230,13 +243,13 @@ impl Gateway {
         let opening = seen.message.opening;
         // SAFETY: the room is as counted, and the joiner is ours.
         let origin = answer(raw::SMS_ADDRESS_TEXT_MAX, |out, room, needed| unsafe {
-            raw::sms_gateway_origin(&mut self.0, opening, out, room, needed)
+            raw::sms_gateway_origin(&mut self.handle, opening, out, room, needed)
         })?;
         let mut recipient = None;
         if seen.has_recipient == 1 {
             // SAFETY: as above.
             recipient = Some(text_of(answer(raw::SMS_ADDRESS_TEXT_MAX, |out, room, needed| unsafe {
-                raw::sms_gateway_recipient(&mut self.0, opening, out, room, needed)
+                raw::sms_gateway_recipient(&mut self.handle, opening, out, room, needed)
             })?)?);
         }
         Ok(GatewayMessage { recipient, message: OpenMessage::of(text_of(origin)?, seen.message) })
@@ -246,6 +259,6 @@ impl Gateway {
 impl Drop for Gateway {
     fn drop(&mut self) {
         // SAFETY: it is ours.
-        unsafe { raw::sms_gateway_close(&mut self.0) }
+        unsafe { raw::sms_gateway_close(&mut self.handle) }
     }
 }

@@ -1,1 +1,1 @@
-mod DigitLemmas
+pub mod Written

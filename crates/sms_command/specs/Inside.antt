@@ -1,3 +1,7 @@
 -- What a reader may pass by: no public contract cites it.
-pub mod Digits
+pub mod Answers
 pub mod Joins
+pub mod Runs
+pub mod Shows
+pub mod Statuses
+pub mod Tellers

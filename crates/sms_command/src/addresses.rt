@@ -1,7 +1,7 @@
 //! Where a text is no address.
 
-use crate::digits::Spot;
 use crate::fault::Fault;
+use sms_show::Spot;
 use sms_text::gsm_of;
 use std::alloc::{AllocError, Global};
 

@@ -8,6 +8,10 @@ mod places;
 mod shapes;
 mod stores;
 
+ghost use Rattle.std.specs.Prelude.{◌≡◌, ◌+◌, OnOk, length};
+ghost use Rattle.sms_command.specs.Inside.Answers.{OfInput};
+ghost use Rattle.sms_command.specs.Inside.Tellers.{WritesChart};
+
 use crate::chart::arrows::put_arrows;
 use crate::chart::head::put_head;
 use crate::chart::labels::{put_gaps, put_labels};
@@ -16,9 +20,9 @@ use crate::chart::places::Places;
 use crate::chart::stores::put_stores;
 use crate::fault::Fault;
 use crate::outcomes::told_of;
-use crate::printed::put_escaped;
-use crate::run::{Happened, Running, Teller, Watching, run_script};
-use sms_page::Page;
+use crate::run::{Running, Watching};
+use sms_page::{Page, put_line};
+use sms_run::{Happened, Teller, run_script};
 use sms_script::Script;
 use sms_world::{Event, WorldFault};
 use std::alloc::Global;
@@ -74,7 +78,7 @@ struct Collected {
 }
 
 /// Where an event has its place.
-fn doing_of(happened: &Happened<'_>) -> Doing {
+fn doing_of(happened: &Happened<'_, Running>) -> Doing {
     if happened.answer == Err(WorldFault::NoSuchPacket) {
         return Doing::Nowhere;
     }
@@ -109,9 +113,9 @@ fn asked_of(alloc: Global, script: &Script, event: &Event) -> Result<String, Fau
             page.put(script.name(*phone).as_bytes());
             page.put(b" ");
             let to = target.to_text(alloc)?;
-            put_escaped(&mut page, &to);
+            put_line(&mut page, to.as_bytes());
             page.put(b" ");
-            put_escaped(&mut page, text.as_str());
+            put_line(&mut page, text.as_str().as_bytes());
         }
         Event::Carry(number) => put_numbered(&mut page, b"carry ", *number),
         Event::Timeout(phone) => put_named(&mut page, b"timeout ", script.name(*phone)),
@@ -138,7 +142,7 @@ fn put_named(page: &mut Page, words: &[u8], name: &str) {
 }
 
 /// The line of what was answered, as a transcript has it.
-fn told_text(alloc: Global, happened: &Happened<'_>) -> Result<String, Fault> {
+fn told_text(alloc: Global, happened: &Happened<'_, Running>) -> Result<String, Fault> {
     let told = told_of(happened.answer);
     let mut page = Page::new(alloc);
     page.put(told.word.as_bytes());
@@ -161,7 +165,9 @@ fn told_text(alloc: Global, happened: &Happened<'_>) -> Result<String, Fault> {
 
 impl Collected {
     /// Adds the row of an event.
-    fn add_row(&mut self, alloc: Global, happened: &Happened<'_>) -> Result<(), Fault> {
+    fn add_row(&mut self, alloc: Global, happened: &Happened<'_, Running>) -> Result<(), Fault>
+        ensures { OnOk result (length self.new.rows.items ≡ length self.old.rows.items + 1) }
+    {
         let asked = asked_of(alloc, happened.script, happened.event)?;
         let told = match told_text(alloc, happened) {
             Ok(told) => told,
@@ -170,7 +176,7 @@ impl Collected {
                 return Err(fault);
             }
         };
-        let count = happened.running.world().packet_count();
+        let count = happened.machine.world().packet_count();
         self.rows.push(Row {
             doing: doing_of(happened),
             asked,
@@ -184,11 +190,13 @@ impl Collected {
     fn add_packet(
         &mut self,
         alloc: Global,
-        happened: &Happened<'_>,
+        happened: &Happened<'_, Running>,
         place: usize,
-    ) -> Result<(), Fault> {
+    ) -> Result<(), Fault>
+        ensures { self.new.rows ≡ self.old.rows }
+    {
         let Some(packet) = happened
-            .running
+            .machine
             .world()
             .packet_on_way(place.saturating_add(1))
         else {
@@ -206,30 +214,45 @@ impl Collected {
         Ok(())
     }
 
-    /// A packet arrives in the last row.
-    fn note_arrival(&mut self, happened: &Happened<'_>) {
-        let row = self.rows.len().saturating_sub(1);
-        if let Doing::Arrival(place) = doing_of(happened) {
-            if let Some(packet) = self.packets.get_mut(place) {
-                packet.arrived = packet.arrived.or(Some(row));
-            }
+    /// Adds the packets that an event has put out.
+    fn add_packets(&mut self, alloc: Global, happened: &Happened<'_, Running>) -> Result<(), Fault>
+        ensures { self.new.rows ≡ self.old.rows }
+    {
+        for place in happened.packets_before..happened.machine.world().packet_count() {
+            self.add_packet(alloc, happened, place)?;
+        }
+        Ok(())
+    }
+}
+
+/// A packet arrives in a row.
+fn note_arrival(happened: &Happened<'_, Running>, row: usize, packets: &mut Vec<Sent>) {
+    if let Doing::Arrival(place) = doing_of(happened) {
+        if let Some(packet) = packets.get_mut(place) {
+            packet.arrived = packet.arrived.or(Some(row));
         }
     }
 }
 
-impl Teller for Collected {
+impl Teller<Running> for Collected {
+    type Fault = Fault;
+
+    ghost use Rattle.sms_command.specs.Inside.Tellers.{adds_row, any_end};
+
+    ghost tells = { adds_row };
+
+    ghost finishes = { any_end };
+
     fn tell(
         &mut self,
         alloc: Global,
-        happened: &Happened<'_>,
+        happened: &Happened<'_, Running>,
         _page: &mut Page,
     ) -> Result<(), Fault> {
         self.add_row(alloc, happened)?;
-        self.note_arrival(happened);
-        for place in happened.packets_before..happened.running.world().packet_count() {
-            self.add_packet(alloc, happened, place)?;
-        }
-        Ok(())
+        let row = self.rows.len().saturating_sub(1);
+        note_arrival(happened, row, &mut self.packets);
+        self.add_packets(alloc, happened)
     }
 
     fn finish(
@@ -269,13 +292,23 @@ pub fn put_chart<R: Read, W: Write>(
     alloc: Global,
     input: &mut R,
     output: &mut W,
-) -> Result<(), Fault> {
-    let mut run = Collected {
+) -> Result<(), Fault>
+    ensures { OnOk result (OfInput (R.remaining input.old)
+        (λ octets. WritesChart octets (W.contents output.old) (W.contents output.new))) }
+{
+    let run = Collected {
         rows: Vec::new(alloc),
         packets: Vec::new(alloc),
     };
     let mut page = Page::new(alloc);
-    let drawn = run_script(alloc, Watching::Nothing, &mut run, &mut page, input, output);
+    let (run, drawn) = run_script::<Running, Collected, R, W>(
+        alloc,
+        Watching::Nothing,
+        run,
+        &mut page,
+        input,
+        output,
+    );
     drop(run);
     let written = page.write_to(output);
     drop(page);

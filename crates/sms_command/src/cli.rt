@@ -1,6 +1,9 @@
 //! The command over any reader and writer.
 
-ghost use Rattle.std.specs.Prelude.{◌≤◌};
+ghost use Rattle.std.specs.Prelude.{◌≡◌, ◌≤◌, ◌<◌, Ok};
+ghost use Rattle.sms_command.specs.Inside.Answers.{Answers, WritesPlayed};
+ghost use Rattle.sms_command.specs.Inside.Statuses.{status_of};
+ghost use Rattle.sms_command.specs.declared.shown.Done.TheVariants.{Whole};
 
 use crate::chart::put_chart;
 use crate::encode::put_units;
@@ -13,6 +16,7 @@ use crate::shown::{Done, show};
 use crate::split::put_segments;
 use crate::words::{Played, Request, parse_words};
 use clap::error::ErrorKind;
+use sms_answer::put_reason;
 use sms_page::Page;
 use sms_told::Form;
 use std::alloc::Global;
@@ -30,7 +34,10 @@ fn answer<F: Folders, R: Read, W: Write, N: Write>(
     input: &mut R,
     output: &mut W,
     notes: &mut N,
-) -> Result<Done, Fault> {
+) -> Result<Done, Fault>
+    ensures { result ≡ Ok Whole → Answers request.now (R.remaining input.old)
+        (W.contents output.old) (W.contents output.new) }
+{
     match request {
         Request::Show(shown) => return show(alloc, *shown, input, output),
         Request::Chart => put_chart(alloc, input, output)?,
@@ -48,7 +55,10 @@ fn play<R: Read, W: Write>(
     played: Played,
     input: &mut R,
     output: &mut W,
-) -> Result<Done, Fault> {
+) -> Result<Done, Fault>
+    ensures { result ≡ Ok Whole → WritesPlayed played.form played (R.remaining input.old)
+        (W.contents output.old) (W.contents output.new) }
+{
     match played.form {
         Form::Plain => play_script(alloc, played, input, output),
         Form::Json => play_as_json(alloc, played, input, output),
@@ -57,10 +67,11 @@ fn play<R: Read, W: Write>(
 
 /// Writes a fault's line where the output still takes it, and gives its status.
 fn refuse<W: Write>(alloc: Global, is_explained: bool, fault: &Fault, output: &mut W) -> u8
-    ensures { result ≤ 3 }
+    ensures status { result ≡ status_of fault.now }
+    ensures bound { (0 < result) × (result ≤ 3) }
 {
     let mut page = Page::new(alloc);
-    match fault.put(alloc, None, is_explained, &mut page) {
+    match put_reason(alloc, None, is_explained, fault, &mut page) {
         Ok(()) => {
             let _ = page.write_to(output);
         }
@@ -84,6 +95,27 @@ fn explain<W: Write>(alloc: Global, error: &clap::Error, output: &mut W) -> u8
     if error.exit_code() == 0 { 0 } else { 2 }
 }
 
+/// Does what a request asks, and gives its status.
+fn do_request<F: Folders, R: Read, W: Write, N: Write>(
+    alloc: Global,
+    request: &Request<'_>,
+    seed: Option<u128>,
+    folders: F,
+    input: &mut R,
+    output: &mut W,
+    notes: &mut N,
+) -> u8
+    ensures done { result ≡ 0 → Answers request.now (R.remaining input.old)
+        (W.contents output.old) (W.contents output.new) }
+    ensures bound { result ≤ 3 }
+{
+    match answer(alloc, request, seed, folders, input, output, notes) {
+        Ok(Done::Whole) => 0,
+        Ok(Done::Faulty) => 1,
+        Err(fault) => refuse(alloc, request.is_explained(), &fault, output),
+    }
+}
+
 /// Does what the words ask, as `command_with_seed` does. Where units are joined, and what is open is
 /// to be kept in a file, its folder is opened and the file replaced there.
 pub fn command_with_folders<S: AsStr, F: Folders, R: Read, W: Write, N: Write>(
@@ -98,11 +130,7 @@ pub fn command_with_folders<S: AsStr, F: Folders, R: Read, W: Write, N: Write>(
     ensures { result ≤ 3 }
 {
     match parse_words(alloc, words) {
-        Ok(request) => match answer(alloc, &request, seed, folders, input, output, notes) {
-            Ok(Done::Whole) => 0,
-            Ok(Done::Faulty) => 1,
-            Err(fault) => refuse(alloc, request.is_explained(), &fault, output),
-        },
+        Ok(request) => do_request(alloc, &request, seed, folders, input, output, notes),
         Err(error) => explain(alloc, &error, output),
     }
 }

@@ -2,9 +2,9 @@
 //! scheme, whether a header stands in front, and the data.
 
 use crate::addresses::bad_address;
-use crate::digits::read_octets;
 use crate::fault::Fault;
 use sms_field::{Address, TextFault};
+use sms_show::read_octets;
 use std::alloc::Global;
 
 /// User data alone.

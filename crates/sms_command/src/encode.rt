@@ -9,12 +9,12 @@ ghost use Rattle.sms_join.specs.Segments.User.{IsSendable};
 
 use crate::addresses::bad_centre;
 use crate::data_line::address_of;
-use crate::digits::read_octets;
 use crate::fault::Fault;
 use crate::words::{Draft, DraftKind};
 use sms_field::{Address, RpAddress, Stamp, TextFault, Validity};
 use sms_join::{SegmentView, Segments, SplitFault, cut_text};
 use sms_page::Page;
+use sms_show::read_octets;
 use sms_tpdu::{Deliver, Submit, Unit, UserData, Width};
 use std::alloc::Global;
 use std::io::Write;

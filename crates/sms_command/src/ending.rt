@@ -1,6 +1,6 @@
 //! How a run of the program ends.
 
-ghost use Rattle.std.specs.Prelude.{◌≤◌};
+ghost use Rattle.std.specs.Prelude.{◌≡◌, ◌⊎◌, ◌≤◌};
 
 use crate::fault::Fault;
 use std::io::Write;
@@ -9,7 +9,8 @@ use std::io::Write;
 /// the flush fails, whatever its kind. Then `write failed` goes to the device below the output,
 /// where that takes it.
 pub fn finish<W: Write, D: Write>(status: u8, output: &mut W, device: &mut D) -> u8
-    ensures { status ≤ 3 → result ≤ 3 }
+    ensures bound { status ≤ 3 → result ≤ 3 }
+    ensures kept { (result ≡ status) ⊎ (result ≡ 3) }
 {
     match output.flush() {
         Ok(()) => status,

@@ -1,14 +1,16 @@
 //! Why a command gives no answer.
 
-ghost use Rattle.std.specs.Prelude.{◌≡◌, ◌≤◌, OnErr};
+ghost use Rattle.std.specs.Prelude.{◌≡◌, ◌<◌, ◌≤◌};
+ghost use Rattle.sms_command.specs.Inside.Statuses.{status_of};
 
-use crate::digits::Spot;
+use sms_answer::{Line, Reason};
 use sms_card::RecordFault;
 use sms_feed::FeedFault;
 use sms_file::FileFault;
 use sms_keep::ReadFault;
-use sms_page::{Page, PageFault};
+use sms_page::PageFault;
 use sms_relay::RelayFault;
+use sms_show::{ShowFault, Spot};
 use sms_tpdu::{DataFault, UnitFault};
 use sms_world::PlayFault;
 use std::alloc::{AllocError, AllocFailed, Global};
@@ -88,7 +90,8 @@ impl Fault {
     /// The exit status: 1 where the input is refused, 2 where the words are, 3 where memory or a
     /// device fails.
     pub fn status(&self) -> u8
-        ensures { result ≤ 3 }
+        ensures value { result ≡ status_of self.now }
+        ensures bound { (0 < result) × (result ≤ 3) }
     {
         match self {
             Fault::Unit(_) | Fault::Message(_) | Fault::BadHex(_) | Fault::BadStamp => 1,
@@ -107,42 +110,24 @@ impl Fault {
     pub fn is_of_input(&self) -> bool {
         self.status() == 1
     }
+}
 
-    /// Adds the line of the fault, after the number of the line of input where that is given. Where it
-    /// is to be explained, the place and the character of digits or of an address that are wrong
-    /// come after it. Where memory for its words runs out, nothing is added.
-    pub fn put(
-        &self,
-        alloc: Global,
-        number: Option<u64>,
-        is_explained: bool,
-        page: &mut Page,
-    ) -> Result<(), AllocError>
-        ensures refused { OnErr result (page.new ≡ page.old) }
-    {
-        let line = self.to_string(alloc)?;
-        put_number(page, number);
-        page.put(line.as_bytes());
-        if is_explained {
-            self.put_explanation(page);
-        }
-        page.put(b"\n");
-        Ok(())
+impl Reason for Fault {
+    fn words(&self, alloc: Global) -> Result<String, AllocError> {
+        self.to_string(alloc)
     }
 
-    /// Adds what explains the fault.
-    fn put_explanation(&self, page: &mut Page) {
+    fn explain(&self, line: &mut Line) {
         match self {
-            Fault::BadHex(spot) | Fault::BadAddress(Some(spot)) => spot.put(page),
-            Fault::BadAddress(None) => page.put(b": too long"),
-            Fault::BadStamp => page.put(b": not seven octets"),
-            Fault::TextTooLong => page.put(b": --split cuts it into segments"),
+            Fault::BadHex(spot) | Fault::BadAddress(Some(spot)) => spot.put(line),
+            Fault::BadAddress(None) => line.put(b": too long"),
+            Fault::BadStamp => line.put(b": not seven octets"),
+            Fault::TextTooLong => line.put(b": --split cuts it into segments"),
             _ => {}
         }
     }
 
-    /// Where the fault lies, counted from the first octet of its layer, if it lies at a place.
-    pub fn place(&self) -> Option<usize> {
+    fn place(&self) -> Option<usize> {
         match self {
             Fault::Unit(fault) => Some(fault.place),
             Fault::Message(fault) => Some(fault.place),
@@ -153,8 +138,7 @@ impl Fault {
         }
     }
 
-    /// Why there is no answer, without a place.
-    pub fn reason(&self, alloc: Global) -> Result<String, AllocError> {
+    fn reason(&self, alloc: Global) -> Result<String, AllocError> {
         match self {
             Fault::Unit(fault) => fault.why.to_string(alloc),
             Fault::Message(fault) => fault.why.to_string(alloc),
@@ -162,15 +146,6 @@ impl Fault {
             Fault::Septets(fault) => fault.why.to_string(alloc),
             _ => self.to_string(alloc),
         }
-    }
-}
-
-/// Adds the number of a line of input, where it is given.
-fn put_number(page: &mut Page, number: Option<u64>) {
-    if let Some(number) = number {
-        page.put(b"line ");
-        page.put_decimal(number);
-        page.put(b": ");
     }
 }
 
@@ -183,6 +158,23 @@ impl From<AllocError> for Fault {
 impl<T: Drop> From<AllocFailed<T>> for Fault {
     fn from(_error: AllocFailed<T>) -> Fault {
         Fault::Memory
+    }
+}
+
+impl From<ShowFault> for Fault {
+    fn from(fault: ShowFault) -> Fault {
+        match fault {
+            ShowFault::Unit(fault) => Fault::Unit(fault),
+            ShowFault::Message(fault) => Fault::Message(fault),
+            ShowFault::Record(fault) => Fault::Record(fault),
+            ShowFault::Septets(fault) => Fault::Septets(fault),
+            ShowFault::BadScheme => Fault::BadScheme,
+            ShowFault::BadHex(spot) => Fault::BadHex(spot),
+            ShowFault::LineTooLong => Fault::LineTooLong,
+            ShowFault::Read => Fault::Read,
+            ShowFault::Write => Fault::Write,
+            ShowFault::Memory => Fault::Memory,
+        }
     }
 }
 

@@ -1,6 +1,8 @@
 //! Texts that are joined from units, one a line of the input.
 
-ghost use Rattle.std.specs.Prelude.{◌≡◌, ◌<◌};
+ghost use Rattle.std.specs.Prelude.{◌≡◌, ◌<◌, OnOk};
+ghost use Rattle.sms_command.specs.Inside.Answers.{OfInput, WritesJoined};
+ghost use Rattle.sms_command.specs.Inside.Joins.{JoinsLines};
 
 use crate::fault::Fault;
 use crate::folders::Folders;
@@ -40,7 +42,10 @@ fn join_anew<R: Read, W: Write, N: Write>(
     input: &mut R,
     output: &mut W,
     notes: &mut N,
-) -> Result<Done, Fault> {
+) -> Result<Done, Fault>
+    ensures { OnOk result (OfInput (R.remaining input.old)
+        (λ octets. JoinsLines octets (W.contents output.old) (W.contents output.new))) }
+{
     let joiner = joiner_of(alloc, way)?;
     let mut joining = Joining::new(alloc, way, joiner, Clock::new());
     let taken = take_lines(alloc, &mut joining, input, output);
@@ -57,7 +62,10 @@ pub fn join<F: Folders, R: Read, W: Write, N: Write>(
     input: &mut R,
     output: &mut W,
     notes: &mut N,
-) -> Result<Done, Fault> {
+) -> Result<Done, Fault>
+    ensures { OnOk result (WritesJoined joined.now.state (R.remaining input.old)
+        (W.contents output.old) (W.contents output.new)) }
+{
     let Some(pieces) = joined.pieces else {
         return Err(Fault::WrongOption);
     };

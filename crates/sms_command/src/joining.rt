@@ -1,19 +1,20 @@
 //! What joins the pieces of lines, and tells what comes of it.
 
-ghost use Rattle.std.specs.Prelude.{◌≡◌, OnOk};
+ghost use Rattle.std.specs.Prelude.{◌≡◌, IsOk, OnOk};
 ghost use Rattle.sms_command.specs.Inside.Joins.{JoinsLine};
 
 use crate::fault::Fault;
-use crate::lines::{Layer, Lines};
 use crate::losses::tell_losses;
 use crate::piece::Pieces;
-use crate::printed::Number;
 use crate::recipient::{Addressed, addressed_in};
 use crate::shown::Done;
 use crate::words::Joined;
+use sms_answer::{Layer, Lines};
 use sms_feed::Taker;
+use sms_file::FileFault;
 use sms_join::{Gateway, GatewayLimits};
 use sms_keep::save;
+use sms_kept::Keeper;
 use sms_page::Page;
 use sms_stream::{Arrival, Clock, Stream};
 use sms_told::Telling;
@@ -76,13 +77,10 @@ impl Joining {
         }
     }
 
-    /// All that the joiner holds, as octets, and how many lines were taken.
-    pub fn save(&self, taken: u64) -> Result<Vec<u8>, AllocError> {
-        save(self.alloc, self.stream.joiner(), taken)
-    }
-
     /// Ends the run, of which it is given how the lines ended: tells what is lost.
-    pub fn end<N: Write>(self, taken: Result<(), Fault>, notes: &mut N) -> Result<Done, Fault> {
+    pub fn end<N: Write>(self, taken: Result<(), Fault>, notes: &mut N) -> Result<Done, Fault>
+        ensures { OnOk result (IsOk taken) }
+    {
         let done = Done::unless(self.is_faulty);
         if !self.stream.telling().is_verbose {
             tell_losses(
@@ -107,10 +105,10 @@ impl Joining {
         ensures stays { self.new.stream ≡ self.old.stream }
     {
         self.is_faulty = true;
-        let mut lines = Lines::new(self.stream.telling().form, page.take(self.alloc));
-        lines.put_json("line", Number(number));
+        let form = self.stream.telling().form;
+        let mut lines = Lines::numbered(form, page.take(self.alloc), number);
         lines.begin(layer);
-        lines.finish_with(self.alloc, Some(number), false, fault, page)?;
+        lines.finish_with(self.alloc, false, fault, page)?;
         Ok(())
     }
 
@@ -172,17 +170,11 @@ impl Joining {
 impl Taker for Joining {
     type Fault = Fault;
 
-    ghost use Rattle.std.specs.Prelude.{◌≡◌, codes};
-    ghost use Rattle.std.specs.List.{flat_map};
-    ghost use Rattle.sms_page.specs.Page.{Puts};
-    ghost use Rattle.sms_told.specs.Sets.{set_text};
-    ghost use Rattle.sms_command.specs.Inside.Joins.{JoinsLine};
+    ghost use Rattle.sms_command.specs.Inside.Joins.{ends, joins};
 
-    ghost takes = { λ old number line page new page_then.
-        JoinsLine old.stream new.stream number page page_then };
+    ghost takes = { joins };
 
-    ghost ends = { λ old page new page_then. (new.stream ≡ old.stream) × Puts page page_then
-        (flat_map (set_text old.stream.telling.form (codes "open")) old.stream.joiner.told) };
+    ghost ends = { ends };
 
     fn take(&mut self, number: u64, line: Option<&[u8]>, page: &mut Page) -> Result<(), Fault> {
         match self.addressed(line.ok_or(Fault::LineTooLong)) {
@@ -199,5 +191,21 @@ impl Taker for Joining {
     fn finish(&mut self, page: &mut Page) -> Result<(), Fault> {
         self.stream.finish(self.alloc, page)?;
         Ok(())
+    }
+}
+
+impl Keeper for Joining {
+    ghost use Rattle.sms_saved.specs.Spelling.{spelling};
+    ghost use Rattle.sms_keep.specs.Saved.{saved};
+
+    ghost state = { λ joining taken. spelling (saved joining.stream.joiner taken) };
+
+    /// All that the joiner holds, as octets, and how many lines were taken.
+    fn save(&self, taken: u64) -> Result<Vec<u8>, AllocError> {
+        save(self.alloc, self.stream.joiner(), taken)
+    }
+
+    fn not_kept(fault: FileFault) -> Fault {
+        Fault::File(fault)
     }
 }

@@ -1,7 +1,8 @@
 //! What an event has answered, in a word and values.
 
-use crate::lines::Lines;
-use crate::printed::Octet;
+ghost use Rattle.std.specs.Prelude.{◌≡◌};
+
+use sms_answer::{Escaped, Lines, Octet};
 use sms_world::{Dropped, Outcome, WorldFault};
 
 /// What an event has answered. What is `None` does not belong to the word.
@@ -127,8 +128,10 @@ pub fn is_fault(answer: Result<Outcome, WorldFault>) -> bool {
 
 impl Told {
     /// Adds the word and its values as members.
-    pub fn put(&self, lines: &mut Lines) {
-        lines.put("word", self.word);
+    pub fn put(&self, lines: &mut Lines)
+        ensures { lines.new ≡ lines.old }
+    {
+        lines.put("word", Escaped(self.word));
         if let Some(text) = self.text {
             lines.put("text", text);
         }

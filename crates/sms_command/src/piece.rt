@@ -4,15 +4,13 @@ ghost use Rattle.std.specs.Prelude.{◌≡◌, IfOk, IfSome};
 ghost use Rattle.sms_tpdu.specs.UserData.ConcatenationFound.{IsPlace};
 
 use crate::data_line::{address_of, data_line_in};
-use crate::digits::read_octets;
 use crate::fault::Fault;
-use crate::lines::Layer;
 use crate::piece_units::{singles_units, user_units};
-use crate::records::deliver_in;
-use crate::show::centre_fault;
 use crate::words::Carried;
+use sms_answer::Layer;
 use sms_card::RecordView;
 use sms_field::{Alphabet, RpAddressView, alphabet_of};
+use sms_show::{centre_fault, deliver_in, read_octets};
 use sms_stream::Piece;
 use sms_tpdu::{Concat, DeliverView, HeaderView, Length, SinglesView, UserDataView};
 use std::alloc::Global;

@@ -1,18 +1,22 @@
 //! A script that is played, as objects in JSON.
 
-ghost use Rattle.std.specs.Prelude.{◌≡◌, true};
+ghost use Rattle.std.specs.Prelude.{◌≡◌, IfOk, Ok, true};
 ghost use Rattle.std.specs.List.{list_all};
 ghost use Rattle.sms_page.specs.Plain.{is_plain};
+ghost use Rattle.sms_command.specs.Inside.Answers.{OfInput};
+ghost use Rattle.sms_command.specs.Inside.Tellers.{WritesObjects, watching};
+ghost use Rattle.sms_command.specs.declared.shown.Done.TheVariants.{Faulty, Whole};
 
 use crate::fault::Fault;
-use crate::lines::{Lines, Printed};
 use crate::outcomes::{is_fault, told_of};
-use crate::printed::{Number, put_address};
-use crate::run::{Happened, Running, Teller, Watching, run_script};
+use crate::run::{Running, Watching};
 use crate::shown::Done;
 use crate::words::Played;
+use sms_answer::{Escaped, Line, Lines, Members, Number, Printed};
 use sms_page::{Object, Page};
+use sms_run::{Happened, Teller, run_script};
 use sms_script::{Packet, Script};
+use sms_show::put_address;
 use sms_told::Form;
 use sms_world::{
     Breach, Doubt, Ground, PlayFault, Status, TextSegment, disorder_text, ground_text, number_told,
@@ -31,47 +35,45 @@ struct Objects {
 
 /// The packets that an event put out.
 #[derive(Clone, Copy)]
-struct Packets<'a>(&'a Happened<'a>);
+struct Packets<'a>(&'a Happened<'a, Running>);
 
 impl Printed for Packets<'_> {
-    fn plain(&self, _page: &mut Page) {}
+    fn plain(&self, _line: &mut Line) {}
 
-    fn json(&self, object: &mut Object) {
-        let Happened {
-            script,
-            running,
-            packets_before,
-            ..
-        } = *self.0;
-        object.open_list();
-        for place in packets_before..running.world().packet_count() {
-            if let Some(packet) = running.world().packet_on_way(place + 1) {
-                put_packet(object, script, place, packet);
+    fn json(&self, members: &mut Members) {
+        let happened = self.0;
+        let world = happened.machine.world();
+        members.open_list();
+        for place in happened.packets_before..world.packet_count() {
+            if let Some(packet) = world.packet_on_way(place + 1) {
+                put_packet(members, happened.script, place, packet);
             }
         }
-        object.close_list();
+        members.close_list();
     }
 }
 
 /// Adds a packet, whose place counts from 0.
-fn put_packet(object: &mut Object, script: &Script, place: usize, packet: Packet<'_>) {
+fn put_packet(members: &mut Members, script: &Script, place: usize, packet: Packet<'_>)
+    ensures { members.new ≡ members.old }
+{
     let name = script.name(packet.phone);
     let (from, to) = if packet.up {
         (name, "centre")
     } else {
         ("centre", name)
     };
-    object.open();
-    object.name("number");
-    object.number((place as u64).saturating_add(1));
-    object.text_named("from", from);
-    object.text_named("to", to);
+    members.open();
+    members.name("number");
+    members.number((place as u64).saturating_add(1));
+    members.text_named("from", from);
+    members.text_named("to", to);
     if script.is_brief() {
-        object.number_named("length", packet.octets.len() as u64);
+        members.number_named("length", packet.octets.len() as u64);
     } else {
-        object.octets_named("octets", packet.octets);
+        members.octets_named("octets", packet.octets);
     }
-    object.close();
+    members.close();
 }
 
 /// What became of the texts that were typed at a phone.
@@ -91,20 +93,20 @@ pub fn status_word(status: Status) -> &'static str {
 }
 
 impl Printed for Sent<'_> {
-    fn plain(&self, _page: &mut Page) {}
+    fn plain(&self, _line: &mut Line) {}
 
-    fn json(&self, object: &mut Object) {
-        object.open_list();
+    fn json(&self, members: &mut Members) {
+        members.open_list();
         for place in 0..self.running.typed(self.phone) {
             let number = place.saturating_add(1);
             if let Some(status) = self.running.status(self.phone, number) {
-                object.open();
-                object.number_named("number", number as u64);
-                object.text_named("status", status_word(status));
-                object.close();
+                members.open();
+                members.number_named("number", number as u64);
+                members.text_named("status", status_word(status));
+                members.close();
             }
         }
-        object.close_list();
+        members.close_list();
     }
 }
 
@@ -117,18 +119,18 @@ struct Stored<'a> {
 }
 
 impl Printed for Stored<'_> {
-    fn plain(&self, _page: &mut Page) {}
+    fn plain(&self, _line: &mut Line) {}
 
-    fn json(&self, object: &mut Object) {
-        object.open_list();
+    fn json(&self, members: &mut Members) {
+        members.open_list();
         for entry in self.running.store(self.phone) {
-            object.open();
-            object.name("origin");
-            put_address(self.alloc, object, &entry.origin);
-            object.text_named("text", entry.text.as_str());
-            object.close();
+            members.open();
+            members.name("origin");
+            put_address(self.alloc, members, &entry.origin);
+            members.text_named("text", entry.text.as_str());
+            members.close();
         }
-        object.close_list();
+        members.close_list();
     }
 }
 
@@ -141,30 +143,32 @@ struct Order<'a> {
 }
 
 impl Printed for Order<'_> {
-    fn plain(&self, _page: &mut Page) {}
+    fn plain(&self, _line: &mut Line) {}
 
-    fn json(&self, object: &mut Object) {
-        object.open();
-        object.name("kept");
-        object.flag(self.breach.is_none());
+    fn json(&self, members: &mut Members) {
+        members.open();
+        members.name("kept");
+        members.flag(self.breach.is_none());
         if let Some(breach) = self.breach {
             let number = number_told(self.script, breach.event);
-            object.number_named("event", number);
-            object.text_named("condition", disorder_text(breach.disorder));
-            put_segment(object, self.script, breach.segment);
+            members.number_named("event", number);
+            members.text_named("condition", disorder_text(breach.disorder));
+            put_segment(members, self.script, breach.segment);
         }
-        object.close();
+        members.close();
     }
 }
 
 /// Adds the segment that an event brought, if it brought one.
-fn put_segment(object: &mut Object, script: &Script, segment: Option<TextSegment>) {
+fn put_segment(members: &mut Members, script: &Script, segment: Option<TextSegment>)
+    ensures { members.new ≡ members.old }
+{
     let Some(brought) = segment else {
         return;
     };
-    object.text_named("phone", script.name(brought.phone));
-    object.number_named("text", brought.text as u64);
-    object.number_named("segment", brought.segment as u64);
+    members.text_named("phone", script.name(brought.phone));
+    members.number_named("text", brought.text as u64);
+    members.number_named("segment", brought.segment as u64);
 }
 
 /// What is told of `accepted` in a run.
@@ -176,27 +180,29 @@ struct Acceptance<'a> {
 }
 
 impl Printed for Acceptance<'_> {
-    fn plain(&self, _page: &mut Page) {}
+    fn plain(&self, _line: &mut Line) {}
 
-    fn json(&self, object: &mut Object) {
-        object.open();
-        object.name("means");
-        object.flag(self.doubt.is_none());
+    fn json(&self, members: &mut Members) {
+        members.open();
+        members.name("means");
+        members.flag(self.doubt.is_none());
         if let Some(doubt) = self.doubt {
             let number = number_told(self.script, doubt.event);
-            object.number_named("event", number);
-            object.text_named("condition", ground_text(doubt.why));
-            put_bearer(object, self.script, doubt.why);
+            members.number_named("event", number);
+            members.text_named("condition", ground_text(doubt.why));
+            put_bearer(members, self.script, doubt.why);
         }
-        object.close();
+        members.close();
     }
 }
 
 /// Adds the phone to which an answer came, or the segment that was brought.
-fn put_bearer(object: &mut Object, script: &Script, why: Ground) {
+fn put_bearer(members: &mut Members, script: &Script, why: Ground)
+    ensures { members.new ≡ members.old }
+{
     match why {
-        Ground::AnswerToAnother { phone } => object.text_named("phone", script.name(phone)),
-        Ground::ReferenceUsedAgain { segment } => put_segment(object, script, Some(segment)),
+        Ground::AnswerToAnother { phone } => members.text_named("phone", script.name(phone)),
+        Ground::ReferenceUsedAgain { segment } => put_segment(members, script, Some(segment)),
         Ground::Injected => {}
     }
 }
@@ -220,11 +226,19 @@ fn put_verdicts(alloc: Global, asked: Played, script: &Script, running: &Running
     }
 }
 
-impl Teller for Objects {
+impl Teller<Running> for Objects {
+    ghost use Rattle.sms_command.specs.Inside.Tellers.{adds_object, any_end};
+
+    type Fault = Fault;
+
+    ghost tells = { adds_object };
+
+    ghost finishes = { any_end };
+
     fn tell(
         &mut self,
         alloc: Global,
-        happened: &Happened<'_>,
+        happened: &Happened<'_, Running>,
         page: &mut Page,
     ) -> Result<(), Fault> {
         self.has_fault = self.has_fault || is_fault(happened.answer);
@@ -245,7 +259,7 @@ impl Teller for Objects {
     ) -> Result<(), Fault> {
         for phone in 0..running.phones() {
             let mut lines = Lines::new(Form::Json, page.take(alloc));
-            lines.put("phone", script.name(phone));
+            lines.put("phone", Escaped(script.name(phone)));
             lines.put("sent", Sent { running, phone });
             let stored = Stored {
                 alloc,
@@ -278,8 +292,31 @@ fn put_script_fault(alloc: Global, fault: &PlayFault, page: &mut Page) -> Result
     Ok(true)
 }
 
+/// Ends a run that was not played to its end: a script that is at fault is told, and what stands on
+/// the page is written.
+fn end_early<W: Write>(
+    alloc: Global,
+    fault: Fault,
+    page: &mut Page,
+    output: &mut W,
+) -> Result<Done, Fault>
+    ensures { IfOk result (λ done. done ≡ Faulty) }
+{
+    let is_told = match &fault {
+        Fault::Play(fault) => put_script_fault(alloc, fault, page)?,
+        _ => false,
+    };
+    page.write_to(output)?;
+    if is_told {
+        return Ok(Done::Faulty);
+    }
+    Err(fault)
+}
+
 /// What the world is to tell of a run.
-fn watching(asked: Played) -> Watching {
+fn watching(asked: Played) -> Watching
+    ensures { result ≡ watching asked }
+{
     if asked.tells_accepted {
         Watching::Accepted
     } else if asked.tells_order {
@@ -297,30 +334,28 @@ pub fn play_as_json<R: Read, W: Write>(
     asked: Played,
     input: &mut R,
     output: &mut W,
-) -> Result<Done, Fault> {
-    let mut objects = Objects {
+) -> Result<Done, Fault>
+    ensures { result ≡ Ok Whole → OfInput (R.remaining input.old)
+        (λ octets. WritesObjects asked octets (W.contents output.old) (W.contents output.new)) }
+{
+    let objects = Objects {
         asked,
         has_fault: false,
     };
     let mut page = Page::new(alloc);
-    let mut played = run_script(
+    let (objects, played) = run_script::<Running, Objects, R, W>(
         alloc,
         watching(asked),
-        &mut objects,
+        objects,
         &mut page,
         input,
         output,
     );
-    let mut is_faulty = asked.is_checked && objects.has_fault;
-    if let Err(Fault::Play(fault)) = &played {
-        if put_script_fault(alloc, fault, &mut page)? {
-            played = Ok(());
-            is_faulty = true;
+    match played {
+        Ok(()) => {
+            page.write_to(output)?;
+            Ok(Done::unless(asked.is_checked && objects.has_fault))
         }
+        Err(fault) => end_early(alloc, fault, &mut page, output),
     }
-    let written = page.write_to(output);
-    drop(page);
-    written?;
-    played?;
-    Ok(Done::unless(is_faulty))
 }

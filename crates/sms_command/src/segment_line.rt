@@ -1,9 +1,8 @@
 //! The line of a segment.
 
 use crate::fault::Fault;
-use crate::lines::Lines;
-use crate::printed::{Answer, Hexadecimal, Octet};
 use crate::words::LongText;
+use sms_answer::{Answer, Escaped, Hexadecimal, Lines, Octet};
 use sms_language::{Locking, Single, Tables};
 use sms_page::Page;
 use sms_told::Form;
@@ -76,7 +75,7 @@ fn object_of(alloc: Global, head: &Head, is_data: bool, octets: &[u8]) -> Page {
         lines.put("dcs", Octet(head.coding_scheme));
         lines.put("header", Answer(head.has_header));
     } else {
-        lines.put("alphabet", head.alphabet);
+        lines.put("alphabet", Escaped(head.alphabet));
     }
     lines.put("length", head.length);
     lines.put("octets", Hexadecimal(octets));

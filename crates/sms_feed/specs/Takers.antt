@@ -38,13 +38,14 @@ pub record HandsOnce {T : Type 0} (takes : Takes T) (old : Standing T) (number :
   pub hands : Hands takes old.taker number line page new.taker page_then
   pub after : Stays written page_then new.written new.page
 
--- Memory runs out for what is told of the line: the page goes back to where it was and is written,
--- and the line is handed on once more.
+-- Memory runs out for what is told of the line, and had not before: the page goes back to where it
+-- was and is written, and the line is handed on once more.
 pub record HandsAgain {T : Type 0} (takes : Takes T) (old : Standing T) (number : ℕ)
     (line : Option (List ℕ)) (new : Standing T) : Type 0 where
   pub written : Option (List ℕ)
   pub page : PageValue
   pub before : Stays old.written old.page written page
+  pub was_whole : page.is_cut ≡ false
   pub between : T
   pub lost : PageValue
   pub hands : Hands takes old.taker number line page between lost

@@ -9,6 +9,7 @@ pub mod Remembered
 pub mod SegmentsAt
 pub mod WrittenAt
 pub mod Slots
+pub mod SameKeyLaws
 pub mod Turns
 pub mod Keeping
 pub mod Lines

@@ -10,7 +10,7 @@ use sms_tpdu::{Concat, Width};
 use std::alloc::Global;
 
 /// What a set of segments is known by.
-#[derive(Debug, PartialEq, Eq, Hash, Drop)]
+#[derive(Debug, PartialEq, Eq, Drop)]
 pub enum Key {
     /// A message in one piece.
     Single {

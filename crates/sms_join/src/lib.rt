@@ -35,6 +35,7 @@ mod table;
 mod told_sets;
 mod units;
 pub mod walks;
+mod wide;
 mod written;
 
 pub use cut::{SEGMENTS_MAX, SplitFault, cut_text, split};

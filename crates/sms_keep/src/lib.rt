@@ -14,4 +14,4 @@ mod sets_back;
 
 pub use fault::{Fault, HeldFault, ReadFault};
 pub use restoring::{Restored, read};
-pub use saving::save;
+pub use saving::{save, written};

@@ -3,7 +3,7 @@
 ghost use Rattle.std.specs.Prelude.{◌≡◌, ◌<◌, ◌++◌, ◌^◌, length, OnOk, IfOk};
 ghost use Rattle.std.specs.List.{AllByRecursion, flat_map};
 ghost use Rattle.sms_saved.specs.Fits.{LimitsFit};
-ghost use Rattle.sms_saved.specs.Spelling.{body, counted, remembered, spelling};
+ghost use Rattle.sms_saved.specs.Spelling.{body, counted, digest, remembered, spelling};
 ghost use Rattle.sms_keep.specs.Saved.{next_opening, passes, saved, saved_finishings, saved_key, saved_limits};
 ghost use Rattle.sms_keep.specs.Held.{CanBeSaved};
 ghost use Rattle.sms_keep.specs.Inside.Saving.{KeyIsSound};
@@ -84,11 +84,11 @@ fn put_keys(room: &mut Vec<u8>, writer: &mut Writer, gateway: &Gateway) -> Resul
     Ok(())
 }
 
-/// All that the joiner holds, as octets, and how many lines of its input were taken
-/// (docs/SAVED.md).
+/// All that the joiner holds, and how many lines of its input were taken, before the checksum is
+/// made of it (docs/SAVED.md): whoever has too little room is told so in less time.
 #[tactic(auto, unfolding(sms_saved::specs::Spelling::body))]
-pub fn save(alloc: Global, gateway: &Gateway, taken: u64) -> Result<Vec<u8>, AllocError>
-    ensures spelled { IfOk result (λ v. v.items ≡ spelling (saved gateway.now taken)) }
+pub fn written(alloc: Global, gateway: &Gateway, taken: u64) -> Result<Writer, AllocError>
+    ensures spelled { IfOk result (λ w. w ++ digest w ≡ spelling (saved gateway.now taken)) }
     // So it is read back, by `again` of `read`.
     ensures fits { OnOk result (CanBeSaved gateway.now taken) }
 {
@@ -100,5 +100,15 @@ pub fn save(alloc: Global, gateway: &Gateway, taken: u64) -> Result<Vec<u8>, All
     let mut room = Vec::with_capacity(alloc, ADDRESS_MAX)?;
     put_sets(&mut room, &mut writer, gateway.open_sets())?;
     put_keys(&mut room, &mut writer, gateway)?;
-    writer.end()
+    Ok(writer)
+}
+
+/// All that the joiner holds, as octets, and how many lines of its input were taken
+/// (docs/SAVED.md).
+pub fn save(alloc: Global, gateway: &Gateway, taken: u64) -> Result<Vec<u8>, AllocError>
+    ensures spelled { IfOk result (λ v. v.items ≡ spelling (saved gateway.now taken)) }
+    // So it is read back, by `again` of `read`.
+    ensures fits { OnOk result (CanBeSaved gateway.now taken) }
+{
+    written(alloc, gateway, taken)?.end()
 }

@@ -1,6 +1,6 @@
 //! A state as octets, as a joiner lends what it holds.
 
-ghost use Rattle.std.specs.Prelude.{◌≡◌, ◌++◌, OnOk, IfOk};
+ghost use Rattle.std.specs.Prelude.{◌≡◌, ◌++◌, length, OnOk, IfOk};
 ghost use Rattle.sms_saved.specs.Spelling.{eight, place, front, front_of_set, remembered, head, digest};
 ghost use Rattle.sms_saved.specs.Views.{seen_place};
 
@@ -13,6 +13,9 @@ use std::marker::Model;
 
 /// What a state begins with: SMSSTATE and its version.
 const HEAD: [u8; 9] = *b"SMSSTATE\x01";
+
+/// How many octets the checksum has.
+const SUM: usize = 32;
 
 /// A state that is written: `begin`, of each open set `begin_set` and a `put_place` for each
 /// sequence, `begin_keys`, a `put_key` for each remembered key, `end`. To clauses it is the octets
@@ -82,6 +85,14 @@ impl Writer {
     {
         put_key(&mut self.octets, key)?;
         put_u64(&mut self.octets, moment)
+    }
+
+    /// How many octets there are with the checksum at their end.
+    #[tactic(auto, using(crate::proofs::Whole::length_digest))]
+    pub fn count_with_sum(&self) -> usize
+        ensures { result ≡ length (self.now ++ digest self.now) }
+    {
+        self.octets.len() + SUM
     }
 
     /// All octets, with the checksum at their end.

@@ -68,6 +68,7 @@ class Gateway:
         self._lock = threading.Lock()
         self._handle = raw.Gateway()
         self._taken = 0
+        self._room = _room_beside(0)
         _raise(raw.lib.sms_gateway_open(byref(self._handle), byref(limits)))
 
     @classmethod
@@ -92,6 +93,7 @@ class Gateway:
         given = byref(gateway._handle), byref(limits), octets, len(octets)
         _raise(raw.lib.sms_gateway_read(*given, byref(taken), byref(refused)), refused)
         gateway._taken = taken.value
+        gateway._room = _room_beside(len(octets))
         return gateway
 
     @property
@@ -104,7 +106,9 @@ class Gateway:
         its input is in there."""
         number = _number(taken, 0, 2**64 - 1, "a number of what was taken")
         with self._lock:
-            return _answer(0, raw.lib.sms_gateway_save, byref(self._handle), number)
+            octets = _answer(self._room, raw.lib.sms_gateway_save, byref(self._handle), number)
+            self._room = _room_beside(len(octets))
+            return octets
 
     def offer(self, recipient: Optional[str], octets: Octets, at: Optional[datetime] = None) -> Optional[str]:
         """Offers an SMS-DELIVER for a recipient that came at a moment (now, if none is given): the text where it finishes
@@ -277,6 +281,11 @@ class Gateway:
 def _text_of(recipient: Optional[str]) -> bytes:
     """The text of a recipient; empty where there is none."""
     return b"" if recipient is None else _utf8(recipient)
+
+
+def _room_beside(octets: int) -> int:
+    """How much room the next state is given, after one of so many octets, so that it is seldom written twice."""
+    return octets + octets // 8 + 4096
 
 
 def _limits(

@@ -12,11 +12,11 @@ use crate::gateway::GatewayHandle;
 use crate::gateway::inside::Inside;
 use crate::handed_out::hand_out;
 use crate::status::{Failure, status_of};
-use sms_keep::save;
+use sms_keep::written;
 use std::alloc::Global;
 use std::mem;
 
-/// Hands out what the joiner holds, as octets.
+/// Hands out what the joiner holds, as octets. Its checksum is made only where there is room.
 fn put_state(
     alloc: Global,
     inside: &Inside,
@@ -33,7 +33,13 @@ fn put_state(
     ensures needed { IfErr result (λ why. IsNotRoom why → needed.new ≡ needed.old) }
     ensures answered { IsAnswered (status_in result) }
 {
-    let octets = save(alloc, &inside.gateway, taken)?;
+    let state = written(alloc, &inside.gateway, taken)?;
+    let count = state.count_with_sum();
+    if count > out.len() {
+        *needed = count;
+        return Err(Failure::NoRoom);
+    }
+    let octets = state.end()?;
     hand_out(&octets, out, needed)
 }
 

@@ -4,9 +4,8 @@ use crate::chart::places::Places;
 use crate::chart::shapes::{Point, Side, close_text, open_text, put_words};
 use crate::fault::Fault;
 use crate::play_json::status_word;
-use crate::printed::put_escaped;
 use crate::run::Running;
-use sms_page::Page;
+use sms_page::{Page, put_line};
 use sms_script::Script;
 use sms_world::Entry;
 use std::alloc::Global;
@@ -56,9 +55,9 @@ fn store_line(alloc: Global, name: &str, count: usize) -> Result<String, Fault> 
 fn entry_line(alloc: Global, entry: &Entry) -> Result<String, Fault> {
     let origin = entry.origin.to_text(alloc)?;
     let mut page = Page::new(alloc);
-    put_escaped(&mut page, &origin);
+    put_line(&mut page, origin.as_bytes());
     page.put(b" ");
-    put_escaped(&mut page, entry.text.as_str());
+    put_line(&mut page, entry.text.as_str().as_bytes());
     drop(origin);
     Ok(page.into_text()?)
 }

@@ -14,4 +14,4 @@ returns-in-Gsm c =
 
 pub returns-in-Ucs2 : goal.returns-in-Ucs2
 returns-in-Ucs2 c =
-    subst (λ l. IfOk c.text_of_ucs2.result (λ text. chars (string_bytes text) ≡ l)) (ap utf16_lossy_chars c.as_slice.ensures ∙ sym (ap (λ u. text_of_segments (u ∷ [])) c.in-Ucs2.is ∙ one_read _)) c.text_of_ucs2.ensures
+    subst (λ l. IfOk c.text_of_wide.result (λ text. chars (string_bytes text) ≡ l)) (ap utf16_lossy_chars c.as_slice.ensures ∙ sym (ap (λ u. text_of_segments (u ∷ [])) c.in-Ucs2.is ∙ one_read _)) c.text_of_wide.ensures

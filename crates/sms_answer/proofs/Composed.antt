@@ -1,0 +1,60 @@
+-- What is written behind what was written.
+use Rattle.std.proofs.Common.{◌≡◌, ℕ, ◌+◌, Bool, true, false, ◌&&◌, List, [], ◌∷◌, ◌++◌, length, take, refl, ap, sym, subst, ◌∙◌, arith, length-append, append_assoc, take-add, ⊎_elim}
+use Rattle.std.proofs.lemmas.Bool.{cases_Bool, false≢true}
+use Rattle.std.proofs.lemmas.List.{take_all, take-append-le, take_at, drop_at, append-nil}
+use Rattle.sms_page.specs.Page.{PageValue, Puts, maybe}
+use Rattle.sms_page.specs.Object.{ObjectValue, Token, Writes, begins, ends, token_text, texts, after}
+
+take-past : (n : ℕ) (xs ys : List ℕ) → take (length xs + n) (xs ++ ys) ≡ xs ++ take n ys
+take-past n xs ys = take-add (length xs) n (xs ++ ys) ∙ (λ i. take_at xs ys (length xs) refl i ++ take n (drop_at xs ys (length xs) refl i))
+
+-- what is put behind what was put
+pub Puts-then : {a b c : PageValue} (xs ys : List ℕ) → Puts a b xs → Puts b c ys → Puts a c (xs ++ ys)
+Puts-then {a} {b} {c} xs ys p q = ⊎_elim first second (cases_Bool b.is_cut) where
+  size : length (xs ++ ys) ≡ length xs + length ys
+  size = length-append xs ys
+
+  first : b.is_cut ≡ true → Puts a c (xs ++ ys)
+  first cut = record {
+    count = p.count;
+    within = omega (arith, p.within, size);
+    added = q.added ∙ ap (λ (n : ℕ). b.octets ++ take n ys) (q.cut cut).0 ∙ append-nil b.octets ∙ p.added
+        ∙ ap (λ (l : List ℕ). a.octets ++ l) (sym (take-append-le p.count xs ys p.within));
+    all = λ e. absurd (false≢true (sym e ∙ (q.cut cut).1));
+    cut = λ e. ((p.cut e).0, (q.cut cut).1);
+  }
+
+  second : b.is_cut ≡ false → Puts a c (xs ++ ys)
+  second open_still = record {
+    count = length xs + q.count;
+    within = omega (arith, q.within, size);
+    added = q.added ∙ ap (λ (l : List ℕ). l ++ take q.count ys) (p.added ∙ ap (λ (n : ℕ). a.octets ++ take n xs) (p.all open_still) ∙ ap (λ (l : List ℕ). a.octets ++ l) (take_all (length xs) xs (omega arith)))
+        ∙ append_assoc a.octets xs (take q.count ys) ∙ ap (λ (l : List ℕ). a.octets ++ l) (sym (take-past q.count xs ys));
+    all = λ e. omega (arith, q.all e, size);
+    cut = λ e. absurd (false≢true (sym open_still ∙ (p.cut e).1));
+  }
+
+-- the same octets
+pub Puts-same : {a b : PageValue} {xs ys : List ℕ} → xs ≡ ys → Puts a b xs → Puts a b ys
+Puts-same {a} {b} {xs} {ys} e p = let P : List ℕ → Type 0 = λ l. Puts a b l in subst P e p
+
+pub after-append : (has_value : Bool) (xs ys : List Token) → after has_value (xs ++ ys) ≡ after (after has_value xs) ys
+unfolding after
+after-append h [] ys = refl
+after-append h (x ∷ xs) ys = after-append (ends x) xs ys
+
+pub texts-append : (has_value : Bool) (xs ys : List Token) → texts has_value (xs ++ ys) ≡ texts has_value xs ++ texts (after has_value xs) ys
+unfolding texts after
+texts-append h [] ys = refl
+texts-append h (x ∷ xs) ys =
+    ap (λ (l : List ℕ). (maybe (h && begins x) 44 ++ token_text x) ++ l) (texts-append (ends x) xs ys)
+    ∙ sym (append_assoc (maybe (h && begins x) 44 ++ token_text x) (texts (ends x) xs) (texts (after (ends x) xs) ys))
+
+-- tokens behind tokens
+pub Writes-then : {a b c : ObjectValue} (xs ys : List Token) → Writes a b xs → Writes b c ys → Writes a c (xs ++ ys)
+Writes-then {a} {b} {c} xs ys p q =
+    let Q : Bool → Type 0 = λ h. Puts b.page c.page (texts h ys) in
+    record {
+      put = Puts-same (sym (texts-append a.has_value xs ys)) (Puts-then _ _ p.put (subst Q p.place q.put));
+      place = q.place ∙ ap (λ (h : Bool). after h ys) p.place ∙ sym (after-append a.has_value xs ys);
+    }

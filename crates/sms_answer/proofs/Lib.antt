@@ -1,0 +1,5 @@
+pub mod InLine
+pub mod Composed
+pub mod Standing
+pub mod RowLemmas
+pub mod ObjectLemmas
