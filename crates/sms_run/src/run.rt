@@ -2,6 +2,7 @@
 
 ghost use Rattle.std.specs.Prelude.{◌≡◌, ℕ, List, Some, IfOk, OnOk, option_copied};
 ghost use Rattle.sms_script.specs.Lines.{lines};
+ghost use Rattle.sms_run.specs.Inside.{HappensOn};
 ghost use Rattle.sms_run.specs.Runs.{EndsRun, Happens, Plays, PlaysLine, RunsToEnd, TakesNext};
 
 use crate::machine::Machine;
@@ -51,6 +52,32 @@ fn fault_in<F: From<PlayFault>>(line: u64, why: ScriptFault) -> F {
     F::from(PlayFault::Script { line, why })
 }
 
+/// Lets an event of this number happen on a machine, and tells it.
+fn happen_on<M: Machine, T: Teller<M>>(
+    alloc: Global,
+    script: &Script,
+    number: u64,
+    event: &Event,
+    machine: &mut M,
+    teller: &mut T,
+    page: &mut Page,
+) -> Result<(), T::Fault>
+    ensures { OnOk result (HappensOn M.conduct T.tells script.now number event.now
+        machine.old teller.old page.old machine.new teller.new page.new) }
+{
+    let packets_before = machine.packet_count();
+    let answer = machine.step(event);
+    let happened = Happened {
+        script,
+        machine: &*machine,
+        number,
+        event,
+        answer,
+        packets_before,
+    };
+    teller.tell(alloc, &happened, page)
+}
+
 impl<M: Machine, T: Teller<M>> Run<M, M::Way, T> {
     /// The event that a line says, if it says one.
     fn event_in(&mut self, line: Line<'_>) -> Result<Option<Event>, T::Fault>
@@ -66,24 +93,34 @@ impl<M: Machine, T: Teller<M>> Run<M, M::Way, T> {
         }
     }
 
-    /// Lets an event happen, and tells it.
+    /// Lets an event happen on the machine that there is, where it stands, or on one that starts.
     fn happen(&mut self, event: &Event, page: &mut Page) -> Result<(), T::Fault>
         ensures { OnOk result
             (Happens M.conduct T.tells self.old event.now page.old self.new page.new) }
     {
-        let mut machine = started(self.alloc, self.way, &self.script, self.machine.take())?;
         self.events = self.events.saturating_add(1);
-        let packets_before = machine.packet_count();
-        let answer = machine.step(event);
-        let happened = Happened {
-            script: &self.script,
-            machine: &machine,
-            number: self.events,
+        let (alloc, number) = (self.alloc, self.events);
+        if let Some(machine) = &mut self.machine {
+            return happen_on(
+                alloc,
+                &self.script,
+                number,
+                event,
+                machine,
+                &mut self.teller,
+                page,
+            );
+        }
+        let mut machine = started(alloc, self.way, &self.script)?;
+        let told = happen_on(
+            alloc,
+            &self.script,
+            number,
             event,
-            answer,
-            packets_before,
-        };
-        let told = self.teller.tell(self.alloc, &happened, page);
+            &mut machine,
+            &mut self.teller,
+            page,
+        );
         self.machine = Some(machine);
         told
     }
@@ -124,7 +161,10 @@ impl<M: Machine, T: Teller<M>> Worker for Run<M, M::Way, T> {
     }
 
     fn finish<W: Write>(&mut self, page: &mut Page, _output: &mut W) -> Result<(), T::Fault> {
-        let machine = started(self.alloc, self.way, &self.script, self.machine.take())?;
+        if let Some(machine) = &self.machine {
+            return self.teller.finish(self.alloc, &self.script, machine, page);
+        }
+        let machine = started(self.alloc, self.way, &self.script)?;
         self.teller.finish(self.alloc, &self.script, &machine, page)
     }
 }
