@@ -1,5 +1,5 @@
 -- What is told is written where all went well.
-use Rattle.std.proofs.Common.{◌≡◌, ℕ, false, List, [], Option, Some, OnOk, Result, Ok, Err, subst}
+use Rattle.std.proofs.Common.{◌≡◌, ℕ, false, List, [], length, Option, Some, OnOk, Result, Ok, Err, subst}
 use Rattle.std.specs.Prelude.{IsOk}
 use Rattle.std.specs.Io.KnownBytes.{Appends}
 use Rattle.sms_page.specs.Page.{PageValue}
@@ -7,11 +7,14 @@ use Rattle.sms_feed.specs.Takers.{HandsToOutput}
 use Rattle.sms_run.specs.Runs.{Finishes, RunsToEnd, Tells}
 use Rattle.sms_world.specs.Told.{Told}
 use Rattle.sms_script.specs.Lines.{lines}
+use Rattle.sms_command.specs.declared.chart.Collected.{Collected}
 use Rattle.sms_command.specs.declared.joining.Joining.{Joining}
 use Rattle.sms_command.specs.declared.run.Running.{Running}
 use Rattle.sms_command.specs.declared.run.Watching.{Watching}
+use Rattle.sms_command.specs.declared.run.Watching.TheVariants.{Nothing}
 use Rattle.sms_command.specs.Inside.Joins.{JoinsLines, ends, joins}
 use Rattle.sms_command.specs.Inside.Runs.{RunsToOutput, conduct}
+use Rattle.sms_command.specs.Inside.Tellers.{WritesChart, adds_row, any_end}
 
 abbrev pub empty : PageValue
 empty = record { octets = []; is_cut = false }
@@ -24,10 +27,8 @@ was_ok (Err e) P is p = absurd (cc is)
 -- What is told of a run, on a page that was empty, is written.
 pub runs_out : {T : Type 0} (tells : Tells Running Told T) (finishes : Finishes Running T) (watching : Watching) (octets : List ℕ) (first last : T) (page page_then : PageValue) (written between written_then : Option (List ℕ))
     → page ≡ empty → RunsToEnd conduct tells finishes watching first written page (lines octets) last between page_then → page_then.is_cut ≡ false → Appends between written_then page_then.octets
-    → RunsToOutput tells finishes watching octets written written_then
+    → RunsToOutput tells finishes watching octets first written last written_then
 runs_out tells finishes watching octets first last page page_then written between written_then is runs whole appends = record {
-  first = first;
-  last = last;
   between = between;
   page = page_then;
   runs = subst (λ p. RunsToEnd conduct tells finishes watching first written p (lines octets) last between page_then) is runs;
@@ -35,17 +36,26 @@ runs_out tells finishes watching octets first last page page_then written betwee
   rest = appends;
 }
 
-pub ran_out : {T E : Type 0} (tells : Tells Running Told T) (finishes : Finishes Running T) (watching : Watching) (input : Option (List ℕ)) (r : Result (Unit {0}) E) (first last : T) (page page_then : PageValue) (written between written_then : Option (List ℕ))
-    → page ≡ empty → page_then.is_cut ≡ false → Appends between written_then page_then.octets
-    → ((octets : List ℕ) → input ≡ Some octets → OnOk r (RunsToEnd conduct tells finishes watching first written page (lines octets) last between page_then))
-    → OnOk r ((octets : List ℕ) → input ≡ Some octets → RunsToOutput tells finishes watching octets written written_then)
-ran_out tells finishes watching input (Ok u) first last page page_then written between written_then is whole appends runs =
-    λ octets known. runs_out tells finishes watching octets first last page page_then written between written_then is (runs octets known) whole appends
-ran_out tells finishes watching input (Err e) first last page page_then written between written_then is whole appends runs = tt
+-- A run is drawn, from no row on.
+pub drawn_out : {E : Type 0} (input : Option (List ℕ)) (r : Result (Unit {0}) E) (first last : Collected) (page page_then : PageValue) (written between written_then : Option (List ℕ))
+    → length first.rows.items ≡ 0 → page ≡ empty → page_then.is_cut ≡ false → Appends between written_then page_then.octets
+    → ((octets : List ℕ) → input ≡ Some octets → OnOk r (RunsToEnd conduct adds_row any_end Nothing first written page (lines octets) last between page_then))
+    → OnOk r ((octets : List ℕ) → input ≡ Some octets → WritesChart octets written written_then)
+drawn_out input (Ok u) first last page page_then written between written_then begun is whole appends runs = λ octets known. record {
+  first = first;
+  begun = begun;
+  last = last;
+  runs = runs_out adds_row any_end Nothing octets first last page page_then written between written_then is (runs octets known) whole appends;
+}
+drawn_out input (Err e) first last page page_then written between written_then begun is whole appends runs = tt
+
+-- what holds where it is well holds where this was the result
+pub was : {A E : Type 0} (r : Result A E) (a : A) (P : Type 0) → ◌≡◌ {A = Result A E} r (Ok a) → OnOk r P → P
+was {A} {E} r a P is on = subst (λ (x : Result A E). OnOk x P) is on
 
 pub ran_well : {T E : Type 0} (tells : Tells Running Told T) (finishes : Finishes Running T) (way watching : Watching) (octets : List ℕ) (r : Result (Unit {0}) E) (u : Unit {0}) (first last : T) (page page_then : PageValue) (written between written_then : Option (List ℕ))
     → r ≡ Ok u → way ≡ watching → page ≡ empty → page_then.is_cut ≡ false → Appends between written_then page_then.octets
-    → OnOk r (RunsToEnd conduct tells finishes way first written page (lines octets) last between page_then) → RunsToOutput tells finishes watching octets written written_then
+    → OnOk r (RunsToEnd conduct tells finishes way first written page (lines octets) last between page_then) → RunsToOutput tells finishes watching octets first written last written_then
 ran_well {T} {E} tells finishes way watching octets r u first last page page_then written between written_then well same is whole appends runs =
     let on : OnOk {E = E} (Ok u) (RunsToEnd conduct tells finishes way first written page (lines octets) last between page_then) = subst (λ x. OnOk x (RunsToEnd conduct tells finishes way first written page (lines octets) last between page_then)) well runs in
     runs_out tells finishes watching octets first last page page_then written between written_then is

@@ -14,6 +14,7 @@ mod join;
 mod joining;
 mod kept;
 mod losses;
+mod objects;
 mod outcomes;
 mod piece;
 mod piece_units;

@@ -1,6 +1,7 @@
 //! What an event has answered, in a word and values.
 
 ghost use Rattle.std.specs.Prelude.{◌≡◌};
+ghost use Rattle.sms_command.specs.Inside.Outcomes.{is_fault};
 
 use sms_answer::{Escaped, Lines, Octet};
 use sms_world::{Dropped, Outcome, WorldFault};
@@ -119,7 +120,9 @@ pub fn told_of(answer: Result<Outcome, WorldFault>) -> Told {
 }
 
 /// Whether an event named nothing.
-pub fn is_fault(answer: Result<Outcome, WorldFault>) -> bool {
+pub fn is_fault(answer: Result<Outcome, WorldFault>) -> bool
+    ensures { result ≡ is_fault answer }
+{
     match answer {
         Ok(_) | Err(WorldFault::Party(_)) => false,
         Err(_) => true,

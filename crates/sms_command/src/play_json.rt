@@ -1,26 +1,26 @@
 //! A script that is played, as objects in JSON.
 
-ghost use Rattle.std.specs.Prelude.{◌≡◌, IfOk, Ok, true};
+ghost use Rattle.std.specs.Prelude.{◌≡◌, ◌&&◌, IfOk, Ok, OnOk, false, length, true};
+ghost use Rattle.std.specs.Io.KnownBytes.{Appends};
 ghost use Rattle.std.specs.List.{list_all};
 ghost use Rattle.sms_page.specs.Plain.{is_plain};
 ghost use Rattle.sms_command.specs.Inside.Answers.{OfInput};
-ghost use Rattle.sms_command.specs.Inside.Tellers.{WritesObjects, watching};
+ghost use Rattle.sms_command.specs.Inside.Runs.{AddsObject, is_trusted, is_watched, world_of};
+ghost use Rattle.sms_command.specs.Inside.Tellers.{AddsObjects, MayAdd, WritesObjects, watching};
 ghost use Rattle.sms_command.specs.declared.shown.Done.TheVariants.{Faulty, Whole};
 
 use crate::fault::Fault;
+use crate::objects::{Acceptance, Order, Packets, Sent, Stored};
 use crate::outcomes::{is_fault, told_of};
 use crate::run::{Running, Watching};
 use crate::shown::Done;
 use crate::words::Played;
-use sms_answer::{Escaped, Line, Lines, Members, Number, Printed};
+use sms_answer::{Escaped, Lines, Number, Printed};
 use sms_page::{Object, Page};
 use sms_run::{Happened, Teller, run_script};
-use sms_script::{Packet, Script};
-use sms_show::put_address;
+use sms_script::Script;
 use sms_told::Form;
-use sms_world::{
-    Breach, Doubt, Ground, PlayFault, Status, TextSegment, disorder_text, ground_text, number_told,
-};
+use sms_world::PlayFault;
 use std::alloc::Global;
 use std::io::{Read, Write};
 
@@ -33,207 +33,67 @@ struct Objects {
     has_fault: bool,
 }
 
-/// The packets that an event put out.
-#[derive(Clone, Copy)]
-struct Packets<'a>(&'a Happened<'a, Running>);
-
-impl Printed for Packets<'_> {
-    fn plain(&self, _line: &mut Line) {}
-
-    fn json(&self, members: &mut Members) {
-        let happened = self.0;
-        let world = happened.machine.world();
-        members.open_list();
-        for place in happened.packets_before..world.packet_count() {
-            if let Some(packet) = world.packet_on_way(place + 1) {
-                put_packet(members, happened.script, place, packet);
-            }
-        }
-        members.close_list();
-    }
-}
-
-/// Adds a packet, whose place counts from 0.
-fn put_packet(members: &mut Members, script: &Script, place: usize, packet: Packet<'_>)
-    ensures { members.new ≡ members.old }
-{
-    let name = script.name(packet.phone);
-    let (from, to) = if packet.up {
-        (name, "centre")
-    } else {
-        ("centre", name)
-    };
-    members.open();
-    members.name("number");
-    members.number((place as u64).saturating_add(1));
-    members.text_named("from", from);
-    members.text_named("to", to);
-    if script.is_brief() {
-        members.number_named("length", packet.octets.len() as u64);
-    } else {
-        members.octets_named("octets", packet.octets);
-    }
-    members.close();
-}
-
-/// What became of the texts that were typed at a phone.
-#[derive(Clone, Copy)]
-struct Sent<'a> {
-    running: &'a Running,
-    phone: usize,
-}
-
-/// What became of a text, in a word.
-pub fn status_word(status: Status) -> &'static str {
-    match status {
-        Status::Waiting => "waiting",
-        Status::Accepted => "accepted",
-        Status::Failed => "failed",
-    }
-}
-
-impl Printed for Sent<'_> {
-    fn plain(&self, _line: &mut Line) {}
-
-    fn json(&self, members: &mut Members) {
-        members.open_list();
-        for place in 0..self.running.typed(self.phone) {
-            let number = place.saturating_add(1);
-            if let Some(status) = self.running.status(self.phone, number) {
-                members.open();
-                members.number_named("number", number as u64);
-                members.text_named("status", status_word(status));
-                members.close();
-            }
-        }
-        members.close_list();
-    }
-}
-
-/// The texts that came to a phone.
-#[derive(Clone, Copy)]
-struct Stored<'a> {
-    alloc: Global,
-    running: &'a Running,
-    phone: usize,
-}
-
-impl Printed for Stored<'_> {
-    fn plain(&self, _line: &mut Line) {}
-
-    fn json(&self, members: &mut Members) {
-        members.open_list();
-        for entry in self.running.store(self.phone) {
-            members.open();
-            members.name("origin");
-            put_address(self.alloc, members, &entry.origin);
-            members.text_named("text", entry.text.as_str());
-            members.close();
-        }
-        members.close_list();
-    }
-}
-
-/// What is told of the order of a run.
-#[derive(Clone, Copy)]
-struct Order<'a> {
-    script: &'a Script,
-    /// The first event that came out of order, if one did.
-    breach: Option<Breach>,
-}
-
-impl Printed for Order<'_> {
-    fn plain(&self, _line: &mut Line) {}
-
-    fn json(&self, members: &mut Members) {
-        members.open();
-        members.name("kept");
-        members.flag(self.breach.is_none());
-        if let Some(breach) = self.breach {
-            let number = number_told(self.script, breach.event);
-            members.number_named("event", number);
-            members.text_named("condition", disorder_text(breach.disorder));
-            put_segment(members, self.script, breach.segment);
-        }
-        members.close();
-    }
-}
-
-/// Adds the segment that an event brought, if it brought one.
-fn put_segment(members: &mut Members, script: &Script, segment: Option<TextSegment>)
-    ensures { members.new ≡ members.old }
-{
-    let Some(brought) = segment else {
-        return;
-    };
-    members.text_named("phone", script.name(brought.phone));
-    members.number_named("text", brought.text as u64);
-    members.number_named("segment", brought.segment as u64);
-}
-
-/// What is told of `accepted` in a run.
-#[derive(Clone, Copy)]
-struct Acceptance<'a> {
-    script: &'a Script,
-    /// The first event after which it need not mean accepted, if there is one.
-    doubt: Option<Doubt>,
-}
-
-impl Printed for Acceptance<'_> {
-    fn plain(&self, _line: &mut Line) {}
-
-    fn json(&self, members: &mut Members) {
-        members.open();
-        members.name("means");
-        members.flag(self.doubt.is_none());
-        if let Some(doubt) = self.doubt {
-            let number = number_told(self.script, doubt.event);
-            members.number_named("event", number);
-            members.text_named("condition", ground_text(doubt.why));
-            put_bearer(members, self.script, doubt.why);
-        }
-        members.close();
-    }
-}
-
-/// Adds the phone to which an answer came, or the segment that was brought.
-fn put_bearer(members: &mut Members, script: &Script, why: Ground)
-    ensures { members.new ≡ members.old }
-{
-    match why {
-        Ground::AnswerToAnother { phone } => members.text_named("phone", script.name(phone)),
-        Ground::ReferenceUsedAgain { segment } => put_segment(members, script, Some(segment)),
-        Ground::Injected => {}
-    }
-}
-
 /// Adds an object that tells something of a run.
 fn put_told<P: Printed>(alloc: Global, name: &'static str, told: P, page: &mut Page)
     requires { list_all (is_plain 34) name.now ≡ true }
+    ensures { AddsObject page.old page.new }
 {
     let mut lines = Lines::new(Form::Json, page.take(alloc));
     lines.put(name, told);
     *page = lines.finish();
 }
 
-/// Adds what is told of the order of a run and of `accepted`, where that is asked for.
-fn put_verdicts(alloc: Global, asked: Played, script: &Script, running: &Running, page: &mut Page) {
+/// Adds what is told of the order of a run, where that is asked for.
+fn put_order(alloc: Global, asked: Played, script: &Script, running: &Running, page: &mut Page)
+    ensures { MayAdd (asked.tells_order && is_watched running.now) page.old page.new }
+{
     if let (true, Some(breach)) = (asked.tells_order, running.order()) {
         put_told(alloc, "order", Order { script, breach }, page);
     }
+}
+
+/// Adds what is told of `accepted`, where that is noted.
+fn put_accepted(alloc: Global, script: &Script, running: &Running, page: &mut Page)
+    ensures { MayAdd (is_trusted running.now) page.old page.new }
+{
     if let Some(doubt) = running.accepted() {
         put_told(alloc, "accepted", Acceptance { script, doubt }, page);
     }
 }
 
+/// Adds what stands at a phone in the end.
+fn put_phone(alloc: Global, script: &Script, running: &Running, phone: usize, page: &mut Page)
+    ensures { AddsObject page.old page.new }
+{
+    let mut lines = Lines::new(Form::Json, page.take(alloc));
+    lines.put("phone", Escaped(script.name(phone)));
+    lines.put("sent", Sent { running, phone });
+    let stored = Stored {
+        alloc,
+        running,
+        phone,
+    };
+    lines.put("store", stored);
+    *page = lines.finish();
+}
+
+/// Adds what stands at each phone in the end.
+fn put_phones(alloc: Global, script: &Script, running: &Running, page: &mut Page)
+    ensures { AddsObjects (length (world_of running.now).parties.phones) page.old page.new }
+{
+    for phone in 0..running.phones() {
+        put_phone(alloc, script, running, phone, page);
+    }
+}
+
 impl Teller<Running> for Objects {
-    ghost use Rattle.sms_command.specs.Inside.Tellers.{adds_object, any_end};
+    ghost use Rattle.sms_command.specs.Inside.Tellers.{adds_object, ends_objects};
 
     type Fault = Fault;
 
     ghost tells = { adds_object };
 
-    ghost finishes = { any_end };
+    ghost finishes = { ends_objects };
 
     fn tell(
         &mut self,
@@ -257,19 +117,9 @@ impl Teller<Running> for Objects {
         running: &Running,
         page: &mut Page,
     ) -> Result<(), Fault> {
-        for phone in 0..running.phones() {
-            let mut lines = Lines::new(Form::Json, page.take(alloc));
-            lines.put("phone", Escaped(script.name(phone)));
-            lines.put("sent", Sent { running, phone });
-            let stored = Stored {
-                alloc,
-                running,
-                phone,
-            };
-            lines.put("store", stored);
-            *page = lines.finish();
-        }
-        put_verdicts(alloc, self.asked, script, running, page);
+        put_phones(alloc, script, running, page);
+        put_order(alloc, self.asked, script, running, page);
+        put_accepted(alloc, script, running, page);
         Ok(())
     }
 }
@@ -313,6 +163,31 @@ fn end_early<W: Write>(
     Err(fault)
 }
 
+/// Whether all was done in a run that was played to its end. Where events that name nothing count,
+/// they are faults.
+fn done_of(asked: Played, objects: &Objects) -> Done
+    ensures { result ≡ Whole → asked.is_checked ≡ true → objects.now.has_fault ≡ false }
+{
+    Done::unless(asked.is_checked && objects.has_fault)
+}
+
+/// Ends a run that was played to its end: what stands on the page is written.
+fn end_whole<W: Write>(
+    asked: Played,
+    objects: &Objects,
+    page: &mut Page,
+    output: &mut W,
+) -> Result<Done, Fault>
+    ensures written { OnOk result
+        (Appends (W.contents output.old) (W.contents output.new) page.old.octets) }
+    ensures whole { OnOk result (page.old.is_cut ≡ false) }
+    ensures faults { result ≡ Ok Whole → asked.is_checked ≡ true
+        → objects.now.has_fault ≡ false }
+{
+    page.write_to(output)?;
+    Ok(done_of(asked, objects))
+}
+
 /// What the world is to tell of a run.
 fn watching(asked: Played) -> Watching
     ensures { result ≡ watching asked }
@@ -352,10 +227,7 @@ pub fn play_as_json<R: Read, W: Write>(
         output,
     );
     match played {
-        Ok(()) => {
-            page.write_to(output)?;
-            Ok(Done::unless(asked.is_checked && objects.has_fault))
-        }
+        Ok(()) => end_whole(asked, &objects, &mut page, output),
         Err(fault) => end_early(alloc, fault, &mut page, output),
     }
 }

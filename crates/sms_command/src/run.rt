@@ -1,7 +1,7 @@
 //! The world that a script is played on for a chart or for objects in JSON.
 
-ghost use Rattle.std.specs.Prelude.{◌≡◌};
-ghost use Rattle.sms_command.specs.Inside.Runs.{world_of};
+ghost use Rattle.std.specs.Prelude.{◌≡◌, is_some, length};
+ghost use Rattle.sms_command.specs.Inside.Runs.{is_trusted, is_watched, world_of};
 
 use sms_field::Address;
 use sms_run::Machine;
@@ -45,7 +45,9 @@ impl Running {
 
     /// What is told of the order of the run, where it is watched: the first event that came out of
     /// order, if one did.
-    pub fn order(&self) -> Option<Option<Breach>> {
+    pub fn order(&self) -> Option<Option<Breach>>
+        ensures { is_some result ≡ is_watched self.now }
+    {
         match self {
             Running::Plain(_) => None,
             Running::Watched(watched) => Some(watched.order()),
@@ -55,7 +57,9 @@ impl Running {
 
     /// What is told of `accepted`, where that is noted: the first event after which it need not
     /// mean accepted, if there is one.
-    pub fn accepted(&self) -> Option<Option<Doubt>> {
+    pub fn accepted(&self) -> Option<Option<Doubt>>
+        ensures { is_some result ≡ is_trusted self.now }
+    {
         match self {
             Running::Plain(_) | Running::Watched(_) => None,
             Running::Trusted(trusted) => Some(trusted.accepted()),
@@ -63,7 +67,9 @@ impl Running {
     }
 
     /// How many phones there are.
-    pub fn phones(&self) -> usize {
+    pub fn phones(&self) -> usize
+        ensures { result ≡ length (world_of self.now).parties.phones }
+    {
         self.world().phone_count()
     }
 

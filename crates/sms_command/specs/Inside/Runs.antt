@@ -1,5 +1,5 @@
 -- The worlds that a script is played on, and what is told of an event.
-use Rattle.std.specs.Prelude.{◌≡◌, ℕ, false, List, [], Option, length, None}
+use Rattle.std.specs.Prelude.{◌≡◌, ℕ, Bool, true, false, List, [], Option, length, None}
 use Rattle.std.specs.Io.KnownBytes.{Appends}
 use Rattle.sms_script.specs.Lines.{lines}
 use Rattle.sms_field.specs.Address.Value.{AddressValue}
@@ -27,6 +27,16 @@ abbrev pub world_of : Running → WorldValue
 world_of (Plain world) = world
 world_of (Watched watched) = watched.world
 world_of (Trusted trusted) = trusted.watched.world
+
+-- whether it is told if its run is orderly
+abbrev pub is_watched : Running → Bool
+is_watched (Plain world) = false
+is_watched _ = true
+
+-- whether it is told if `accepted` means accepted
+abbrev pub is_trusted : Running → Bool
+is_trusted (Trusted trusted) = true
+is_trusted _ = false
 
 -- It tells of its run what is asked for, and its world begins with these limits and phones.
 abbrev pub Begins : Watching → Limits → List AddressValue → Running → Type 0
@@ -59,9 +69,8 @@ AddsObject page page_then =
 -- The lines of a script are played on such a world, each once and in order, and then it is told how
 -- all stands. All that is told is written.
 pub record RunsToOutput {T : Type 0} (tells : Tells Running Told T) (finishes : Finishes Running T)
-    (watching : Watching) (octets : List ℕ) (written written_then : Option (List ℕ)) : Type 0 where
-  pub first : T
-  pub last : T
+    (watching : Watching) (octets : List ℕ) (first : T) (written : Option (List ℕ)) (last : T)
+    (written_then : Option (List ℕ)) : Type 0 where
   pub between : Option (List ℕ)
   pub page : PageValue
   pub runs : RunsToEnd conduct tells finishes watching first written

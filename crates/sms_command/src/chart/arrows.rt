@@ -1,8 +1,9 @@
 //! The packets of a chart.
 
+use crate::chart::Sent;
 use crate::chart::places::Places;
+use crate::chart::rows::{Doing, Row};
 use crate::chart::shapes::{Point, Side, beside, close_text, open_text, put_line, put_words};
-use crate::chart::{Doing, Row, Sent};
 use sms_page::Page;
 
 /// How many characters of a packet's name stand beside its start.

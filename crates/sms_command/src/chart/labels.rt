@@ -1,11 +1,12 @@
 //! What happens in the rows of a chart.
 
+use crate::chart::Sent;
 use crate::chart::arrows::way_of;
 use crate::chart::places::Places;
+use crate::chart::rows::{Doing, Row};
 use crate::chart::shapes::{
     Point, Side, beside, close_text, open_text, put_dot, put_line, put_number, put_words,
 };
-use crate::chart::{Doing, Row, Sent};
 use sms_page::Page;
 
 /// How many characters of a label stand beside a lifeline.

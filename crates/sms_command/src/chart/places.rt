@@ -1,6 +1,6 @@
 //! Where things stand in a chart, in pixels.
 
-use crate::chart::Row;
+use crate::chart::rows::Row;
 use std::alloc::{AllocError, Global};
 
 /// The room beside the outer lifelines, for what happens there.

@@ -3,7 +3,7 @@
 use crate::chart::places::Places;
 use crate::chart::shapes::{Point, Side, close_text, open_text, put_words};
 use crate::fault::Fault;
-use crate::play_json::status_word;
+use crate::objects::status_word;
 use crate::run::Running;
 use sms_page::{Page, put_line};
 use sms_script::Script;
