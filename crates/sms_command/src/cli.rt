@@ -6,7 +6,6 @@ ghost use Rattle.sms_command.specs.Inside.Statuses.{status_of};
 ghost use Rattle.sms_command.specs.declared.shown.Done.TheVariants.{Whole};
 
 use crate::chart::put_chart;
-use crate::encode::put_units;
 use crate::fault::Fault;
 use crate::folders::{Folders, NoFolders};
 use crate::join::join;
@@ -17,6 +16,7 @@ use crate::split::put_segments;
 use crate::words::{Played, Request, parse_words};
 use clap::error::ErrorKind;
 use sms_answer::put_reason;
+use sms_encode::put_units;
 use sms_page::Page;
 use sms_told::Form;
 use std::alloc::Global;

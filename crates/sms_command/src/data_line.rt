@@ -1,11 +1,8 @@
 //! User data alone in a line, as gateways hand them over: whom they are from, their data coding
 //! scheme, whether a header stands in front, and the data.
 
-use crate::addresses::bad_address;
 use crate::fault::Fault;
-use sms_field::{Address, TextFault};
 use sms_show::read_octets;
-use std::alloc::Global;
 
 /// User data alone.
 #[derive(Clone, Copy)]
@@ -18,15 +15,6 @@ pub struct DataLine<'a> {
     pub has_header: bool,
     /// The octets of the data in hexadecimal digits.
     pub digits: &'a str,
-}
-
-/// The address that a text says.
-pub fn address_of(alloc: Global, text: &str) -> Result<Address, Fault> {
-    match Address::from_text(alloc, text) {
-        Ok(address) => Ok(address),
-        Err(TextFault::Memory) => Err(Fault::Memory),
-        Err(TextFault::Address(_)) => Err(bad_address(alloc, text)),
-    }
 }
 
 /// The octet that two digits say.

@@ -5,6 +5,7 @@ ghost use Rattle.sms_command.specs.Inside.Statuses.{status_of};
 
 use sms_answer::{Line, Reason};
 use sms_card::RecordFault;
+use sms_encode::{EncodeFault, NoAddress};
 use sms_feed::FeedFault;
 use sms_file::FileFault;
 use sms_keep::ReadFault;
@@ -174,6 +175,31 @@ impl From<ShowFault> for Fault {
             ShowFault::Read => Fault::Read,
             ShowFault::Write => Fault::Write,
             ShowFault::Memory => Fault::Memory,
+        }
+    }
+}
+
+impl From<EncodeFault> for Fault {
+    fn from(fault: EncodeFault) -> Fault {
+        match fault {
+            EncodeFault::WrongOption => Fault::WrongOption,
+            EncodeFault::ReferenceTooLarge => Fault::ReferenceTooLarge,
+            EncodeFault::BadHex(spot) => Fault::BadHex(spot),
+            EncodeFault::BadStamp => Fault::BadStamp,
+            EncodeFault::BadAddress(spot) => Fault::BadAddress(spot),
+            EncodeFault::TextTooLong => Fault::TextTooLong,
+            EncodeFault::TooManySegments => Fault::TooManySegments,
+            EncodeFault::Write => Fault::Write,
+            EncodeFault::Memory => Fault::Memory,
+        }
+    }
+}
+
+impl From<NoAddress> for Fault {
+    fn from(fault: NoAddress) -> Fault {
+        match fault {
+            NoAddress::Bad(spot) => Fault::BadAddress(spot),
+            NoAddress::Memory => Fault::Memory,
         }
     }
 }

@@ -2,11 +2,9 @@
 //! split, scripts that are played.
 #![tactic(auto)]
 
-mod addresses;
 mod chart;
 mod cli;
 mod data_line;
-mod encode;
 mod ending;
 mod fault;
 mod folders;

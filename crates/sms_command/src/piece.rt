@@ -3,12 +3,13 @@
 ghost use Rattle.std.specs.Prelude.{◌≡◌, IfOk, IfSome};
 ghost use Rattle.sms_tpdu.specs.UserData.ConcatenationFound.{IsPlace};
 
-use crate::data_line::{address_of, data_line_in};
+use crate::data_line::data_line_in;
 use crate::fault::Fault;
 use crate::piece_units::{singles_units, user_units};
 use crate::words::Carried;
 use sms_answer::Layer;
 use sms_card::RecordView;
+use sms_encode::address_of;
 use sms_field::{Alphabet, RpAddressView, alphabet_of};
 use sms_show::{centre_fault, deliver_in, read_octets};
 use sms_stream::Piece;

@@ -3,9 +3,9 @@
 ghost use Rattle.std.specs.Prelude.{◌≡◌, ◌++◌, ◌∷◌, length, option_map, IfSome};
 ghost use Rattle.memchr.specs.Find.{IsFirstByte, is_byte};
 
-use crate::data_line::address_of;
 use crate::fault::Fault;
 use memchr::memchr;
+use sms_encode::address_of;
 use sms_field::Address;
 use std::alloc::Global;
 

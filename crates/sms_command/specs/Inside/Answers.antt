@@ -2,6 +2,7 @@
 use Rattle.std.specs.Prelude.{◌≡◌, ℕ, List, Option, None, Some, ⊤}
 use Rattle.sms_told.specs.declared.form.Form.{Form}
 use Rattle.sms_told.specs.declared.form.Form.TheVariants.{Plain, Json}
+use Rattle.sms_encode.specs.Drafts.{WritesDraft}
 use Rattle.sms_command.specs.declared.words.Joined.{Joined}
 use Rattle.sms_command.specs.declared.words.Played.{Played}
 use Rattle.sms_command.specs.declared.words.Request.{Request}
@@ -38,5 +39,5 @@ Answers (Join joined) input written written_then =
     WritesJoined joined.state input written written_then
 Answers (Play played) input written written_then =
     WritesPlayed played.form played input written written_then
-Answers (Encode draft) input written written_then = ⊤
+Answers (Encode draft) input written written_then = WritesDraft draft written written_then
 Answers (Split long) input written written_then = ⊤

@@ -2,9 +2,10 @@
 
 use crate::words::arguments::whole_command;
 use crate::words::found_joined::joined_of;
-use crate::words::{Draft, DraftKind, Languages, LongText, Played, Request};
+use crate::words::{Languages, LongText, Played, Request};
 use clap::error::ErrorKind;
 use clap::{ArgMatches, Command, Error};
+use sms_encode::{Draft, DraftKind};
 use sms_national::Language;
 use sms_show::{Alone, Kind, Sender, Shown, UnitKind};
 use sms_told::Form;

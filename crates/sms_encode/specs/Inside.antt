@@ -1,0 +1,3 @@
+-- What a reader may pass by: no public contract cites it.
+pub mod Faults
+pub mod Pages
