@@ -21,9 +21,7 @@ mod play_json;
 mod recipient;
 mod restart;
 mod run;
-mod segment_line;
 mod shown;
-mod split;
 mod talk;
 mod words;
 

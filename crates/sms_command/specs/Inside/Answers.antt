@@ -3,6 +3,7 @@ use Rattle.std.specs.Prelude.{◌≡◌, ℕ, List, Option, None, Some, ⊤}
 use Rattle.sms_told.specs.declared.form.Form.{Form}
 use Rattle.sms_told.specs.declared.form.Form.TheVariants.{Plain, Json}
 use Rattle.sms_encode.specs.Drafts.{WritesDraft}
+use Rattle.sms_split.specs.Segments.{WritesSegments}
 use Rattle.sms_command.specs.declared.words.Joined.{Joined}
 use Rattle.sms_command.specs.declared.words.Played.{Played}
 use Rattle.sms_command.specs.declared.words.Request.{Request}
@@ -40,4 +41,4 @@ Answers (Join joined) input written written_then =
 Answers (Play played) input written written_then =
     WritesPlayed played.form played input written written_then
 Answers (Encode draft) input written written_then = WritesDraft draft written written_then
-Answers (Split long) input written written_then = ⊤
+Answers (Split long) input written written_then = WritesSegments long written written_then

@@ -2,12 +2,13 @@
 
 use crate::words::arguments::whole_command;
 use crate::words::found_joined::joined_of;
-use crate::words::{Languages, LongText, Played, Request};
+use crate::words::{Played, Request};
 use clap::error::ErrorKind;
 use clap::{ArgMatches, Command, Error};
 use sms_encode::{Draft, DraftKind};
 use sms_national::Language;
 use sms_show::{Alone, Kind, Sender, Shown, UnitKind};
+use sms_split::{Languages, LongText};
 use sms_told::Form;
 use std::alloc::Global;
 use std::convert::AsStr;

@@ -1,0 +1,2 @@
+-- What a reader may pass by: no public contract cites it.
+pub mod Heads
