@@ -1,11 +1,12 @@
 //! Stamps of units, and numbers in decimal, beside those that are written one digit pair after
 //! another.
 
-use crate::fed::fed_with;
-use crate::former::dates::{put_date, put_decimal, put_zone, rfc_3339};
+mod pairs;
+
 use crate::found::holds;
-use crate::made::Made;
+use pairs::{put_date, put_decimal, put_zone, rfc_3339};
 use sms_field::{Stamp, Validity};
+use sms_trial::{Made, digits_of, fed_with};
 use std::alloc::Global;
 use std::process::Abort;
 use std::test::Fail;
@@ -51,16 +52,6 @@ fn stamps(alloc: Global) -> Result<Vec<[u8; 7]>, Fail> {
         stamps.push(made_stamp(&mut made))?;
     }
     Ok(stamps)
-}
-
-/// Octets in upper case hexadecimal digits.
-pub fn digits_of(alloc: Global, octets: &[u8]) -> Result<String, Fail> {
-    let mut digits = String::new(alloc);
-    for octet in octets {
-        let pair = format!(in alloc; "{octet:02X}")?;
-        digits.push_str(&pair)?;
-    }
-    Ok(digits)
 }
 
 /// The line of a stamp.

@@ -1,6 +1,6 @@
 //! Octets and words, and what the command answers to them.
 
-use sms_command::command;
+use sms_trial::answers;
 use std::alloc::{AllocError, Global};
 use std::fmt::Debug;
 use std::process::Abort;
@@ -24,31 +24,6 @@ pub struct AfterCentre {
 /// What is said of the row is so.
 pub fn holds(rt: &impl Abort, row: &impl Debug, so: bool) {
     assert!(rt; so, "{row:?}");
-}
-
-/// The status and the whole output.
-pub fn answer_to(alloc: Global, words: &[&str]) -> Result<(u8, String), Fail> {
-    let mut input = b"".as_slice();
-    let mut output = Vec::new(alloc);
-    let status = command(alloc, words, &mut input, &mut output);
-    Ok((status, String::from_utf8(output)?))
-}
-
-/// Whether an answer has these lines, or this part of a line.
-pub fn says(answer: &str, part: &str) -> bool {
-    answer.contains(part)
-}
-
-/// Whether words have a status, and this as their whole answer.
-pub fn answers(alloc: Global, words: &[&str], wanted: u8, lines: &str) -> Result<bool, Fail> {
-    let (status, answer) = answer_to(alloc, words)?;
-    Ok(status == wanted && answer.as_str() == lines)
-}
-
-/// Whether words have a status, and this part in their answer.
-pub fn answers_with(alloc: Global, words: &[&str], wanted: u8, part: &str) -> Result<bool, Fail> {
-    let (status, answer) = answer_to(alloc, words)?;
-    Ok(status == wanted && says(&answer, part))
 }
 
 /// Whether octets as a kind have a status and an answer.

@@ -1,6 +1,7 @@
 //! Texts that are shown under the national language tables that their headers tell.
 
-use crate::found::{Shown, answers_with, holds};
+use crate::found::{Shown, holds};
+use sms_trial::answers_with;
 use std::alloc::Global;
 use std::process::Abort;
 use std::test::Fail;

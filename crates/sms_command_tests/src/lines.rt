@@ -3,22 +3,53 @@
 mod listing;
 mod rows;
 
-use crate::fed::{are_fed, fed_from, fed_with, is_fed};
-use crate::found::{holds, says};
+use crate::found::holds;
 use listing::{LISTED, LISTING, Listed};
 use rows::{EXPLAINED, LINES};
+use sms_trial::{Slow, are_fed, fed_from, fed_with, is_fed, says};
 use std::alloc::{AllocError, Global};
-use std::io::{ErrorKind, Read};
 use std::test::Fail;
 
 #[test]
 fn shows_lines(rt: HostRuntime) -> Result<(), Fail> {
-    are_fed(&rt, rt.alloc(), LINES.as_slice())
+    are_fed(rt.alloc(), LINES.as_slice())
 }
 
 #[test]
 fn explains_faults(rt: HostRuntime) -> Result<(), Fail> {
-    are_fed(&rt, rt.alloc(), EXPLAINED.as_slice())
+    are_fed(rt.alloc(), EXPLAINED.as_slice())
+}
+
+/// Octets of a line that are no digits, and what is told of them: the first of two that are wrong,
+/// one behind blanks, a blank within an octet, one that stands as an escape, octets that are no
+/// UTF-8, there or behind, and a digit that is missing.
+static WRONG: [(&[u8], &str); 9] = [
+    (b"04gz", "line 1: bad hex at 2: g\n"),
+    (b"04 \xC3\xA9", "line 1: bad hex at 3: é\n"),
+    (b"0 4", "line 1: bad hex at 1:  \n"),
+    (b"0\x00", "line 1: bad hex at 1: \\x00\n"),
+    (b"04\\", "line 1: bad hex at 2: \\\\\n"),
+    (b"04\x80", "line 1: bad hex at 2: \u{FFFD}\n"),
+    (b"04x\xFF", "line 1: bad hex at 2: \u{FFFD}\n"),
+    (b"04 0", "line 1: bad hex at 4: the end\n"),
+    (b"040", "line 1: bad hex at 3: the end\n"),
+];
+
+/// Whether this is told of a line whose digits are wrong.
+fn is_wrong(alloc: Global, line: &[u8], wanted: &str) -> Result<bool, Fail> {
+    let mut input = line;
+    let words = ["sms", "show", "deliver", "--lines", "--explain"];
+    let (status, told) = fed_from(alloc, &words, &mut input)?;
+    Ok(status == 1 && told.as_str() == wanted)
+}
+
+#[test]
+fn explains_digits_that_are_wrong(rt: HostRuntime) -> Result<(), Fail> {
+    for (line, wanted) in &WRONG {
+        let told = is_wrong(rt.alloc(), line, wanted)?;
+        holds(&rt, wanted, told);
+    }
+    Ok(())
 }
 
 /// Whether what is shown of a unit is from this sender, and has this date and this text.
@@ -58,28 +89,6 @@ fn shows_a_listing_of_27_units(rt: HostRuntime) -> Result<(), Fail> {
     }
     holds(&rt, &"end", units.next().is_none());
     Ok(())
-}
-
-/// Gives at most so many octets at a time, and is interrupted before each time.
-#[derive(Drop)]
-pub struct Slow<'a> {
-    pub octets: &'a [u8],
-    pub most: usize,
-    pub is_interrupted: bool,
-}
-
-impl Read for Slow<'_> {
-    fn read(&mut self, buffer: &mut [u8]) -> std::io::Result<usize> {
-        self.is_interrupted = !self.is_interrupted;
-        if self.is_interrupted {
-            return Err(std::io::Error::from(ErrorKind::Interrupted));
-        }
-        let count = self.most.min(buffer.len()).min(self.octets.len());
-        let (front, rest) = self.octets.split_at(count);
-        buffer[..count].copy_from_slice(front);
-        self.octets = rest;
-        Ok(count)
-    }
 }
 
 /// The status and the whole output of the listing, read so many octets at a time.

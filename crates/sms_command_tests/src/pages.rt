@@ -1,10 +1,9 @@
-//! Outputs that are longer than the room that is made at once and than a page, beside the pieces
-//! that they are put together from.
+//! Outputs that are longer than a page, of which a write fails, beside the pieces that they are put
+//! together from.
 
-use crate::fed::fed_with;
 use crate::found::holds;
-use crate::made::Made;
 use sms_command::command;
+use sms_trial::{Made, digits_of, fed_with};
 use std::alloc::Global;
 use std::io::{ErrorKind, Write};
 use std::process::Abort;
@@ -41,13 +40,9 @@ struct Piece {
 /// The line of a unit with user data in a coding scheme.
 fn line_of(alloc: Global, coding: u8, octets: &[u8]) -> Result<String, Fail> {
     let count = octets.len();
-    let mut line = format!(in alloc; "040B911326880736F400{coding:02X}99309251619580{count:02X}")?;
-    for octet in octets {
-        let digits = format!(in alloc; "{octet:02X}")?;
-        line.push_str(&digits)?;
-    }
-    line.push('\n')?;
-    Ok(line)
+    let digits = digits_of(alloc, octets)?;
+    let front = "040B911326880736F400";
+    Ok(format!(in alloc; "{front}{coding:02X}99309251619580{count:02X}{digits}\n")?)
 }
 
 /// What a unit is shown as by itself.
@@ -102,17 +97,6 @@ fn made_pieces(alloc: Global, count: usize, seed: u64) -> Result<Vec<Piece>, Fai
     Ok(pieces)
 }
 
-/// Units with texts of 50 to 70 letters: each answer is an octet longer than the one before.
-fn growing_pieces(alloc: Global) -> Result<Vec<Piece>, Fail> {
-    let mut octets = [0, b'a'].as_slice().repeat(alloc, 50)?;
-    let mut pieces = Vec::new(alloc);
-    for _ in 50..=70 {
-        pieces.push(piece_of(alloc, 8, &octets)?)?;
-        octets.extend_from_slice(&[0, b'a'])?;
-    }
-    Ok(pieces)
-}
-
 /// Adds what a unit is shown as, as that of the line of a number.
 fn push_shown(
     alloc: Global,
@@ -142,7 +126,7 @@ struct Answer {
 }
 
 /// The answer to units, put together from what each is shown as by itself.
-fn answer_of(alloc: Global, pieces: &[&Piece], form: Form) -> Result<Answer, Fail> {
+fn answer_of(alloc: Global, pieces: &[Piece], form: Form) -> Result<Answer, Fail> {
     let mut output = String::new(alloc);
     let mut ends = Vec::new(alloc);
     let mut start = 0;
@@ -160,57 +144,12 @@ fn answer_of(alloc: Global, pieces: &[&Piece], form: Form) -> Result<Answer, Fai
 }
 
 /// The lines of units.
-fn input_of(alloc: Global, pieces: &[&Piece]) -> Result<String, Fail> {
+fn input_of(alloc: Global, pieces: &[Piece]) -> Result<String, Fail> {
     let mut input = String::new(alloc);
     for piece in pieces {
         input.push_str(&piece.line)?;
     }
     Ok(input)
-}
-
-/// Units are shown as they are one by one, and more than a page of them.
-fn are_shown(rt: &impl Abort, alloc: Global, pieces: &[&Piece], form: Form) -> Result<(), Fail> {
-    let input = input_of(alloc, pieces)?;
-    let (status, output) = fed_with(alloc, form.words(), &input)?;
-    let answer = answer_of(alloc, pieces, form)?;
-    holds(rt, &("long", answer.output.len()), answer.ends.len() > 1);
-    let is_same = output.as_str() == answer.output.as_str();
-    holds(rt, &("same", form, input.as_str()), status == 0 && is_same);
-    Ok(())
-}
-
-/// Units of which the first four together are so many octets longer than they are at least, before
-/// the others.
-fn shifted<'a>(
-    alloc: Global,
-    growing: &'a [Piece],
-    pieces: &'a [Piece],
-    shift: usize,
-) -> Result<Vec<&'a Piece>, Fail> {
-    let mut all = Vec::new(alloc);
-    for before in [0usize, 20, 40, 60] {
-        let longer = shift.saturating_sub(before).min(20);
-        if let Some(piece) = growing.get(longer) {
-            all.push(piece)?;
-        }
-    }
-    for piece in pieces {
-        all.push(piece)?;
-    }
-    Ok(all)
-}
-
-#[test]
-fn shows_more_than_a_page(rt: HostRuntime) -> Result<(), Fail> {
-    let growing = growing_pieces(rt.alloc())?;
-    let pieces = made_pieces(rt.alloc(), 108, 8)?;
-    for shift in 0..=70 {
-        let all = shifted(rt.alloc(), &growing, &pieces, shift)?;
-        are_shown(&rt, rt.alloc(), &all, Form::Plain)?;
-        are_shown(&rt, rt.alloc(), &all, Form::Json)?;
-        drop(all);
-    }
-    Ok(())
 }
 
 /// Takes all octets that are written, but at one write, which fails.
@@ -269,7 +208,7 @@ fn is_failure_told(
 fn failures_are_told(
     rt: &impl Abort,
     alloc: Global,
-    pieces: &[&Piece],
+    pieces: &[Piece],
     form: Form,
 ) -> Result<(), Fail> {
     let input = input_of(alloc, pieces)?;
@@ -288,7 +227,6 @@ fn failures_are_told(
 #[test]
 fn tells_each_write_that_fails(rt: HostRuntime) -> Result<(), Fail> {
     let pieces = made_pieces(rt.alloc(), 220, 11)?;
-    let all = shifted(rt.alloc(), &[], &pieces, 0)?;
-    failures_are_told(&rt, rt.alloc(), &all, Form::Plain)?;
-    failures_are_told(&rt, rt.alloc(), &all, Form::Json)
+    failures_are_told(&rt, rt.alloc(), &pieces, Form::Plain)?;
+    failures_are_told(&rt, rt.alloc(), &pieces, Form::Json)
 }

@@ -2,9 +2,9 @@
 
 mod rows;
 
-use crate::fed::{are_fed, are_fed_as_json};
-use crate::found::{answers, are_answered, holds};
+use crate::found::{are_answered, holds};
 use rows::{FAULTS, JOINED, LISTED, OBJECTS, RECORDS};
+use sms_trial::{answers, are_fed, are_fed_as_json};
 use std::test::Fail;
 
 #[test]
@@ -19,17 +19,17 @@ fn tells_faults_of_records(rt: HostRuntime) -> Result<(), Fail> {
 
 #[test]
 fn shows_records_in_lines(rt: HostRuntime) -> Result<(), Fail> {
-    are_fed(&rt, rt.alloc(), LISTED.as_slice())
+    are_fed(rt.alloc(), LISTED.as_slice())
 }
 
 #[test]
 fn shows_records_as_objects(rt: HostRuntime) -> Result<(), Fail> {
-    are_fed_as_json(&rt, rt.alloc(), OBJECTS.as_slice())
+    are_fed_as_json(rt.alloc(), OBJECTS.as_slice())
 }
 
 #[test]
 fn joins_records(rt: HostRuntime) -> Result<(), Fail> {
-    are_fed(&rt, rt.alloc(), JOINED.as_slice())
+    are_fed(rt.alloc(), JOINED.as_slice())
 }
 
 #[test]

@@ -2,11 +2,12 @@
 
 mod rows;
 
-use crate::found::{AfterCentre, answers, are_answered, holds};
+use crate::found::{AfterCentre, are_answered, holds};
 use rows::{
     AFTER_CENTRES, CP_DATA, CP_WITHOUT_DATA, FAULTS_IN_ANSWERS, FAULTS_IN_TRANSFERS,
     FAULTS_OF_RP_IN_CP, FAULTS_OF_UNITS_IN_CP, NO_CP_MESSAGES, NO_RP_MESSAGES, RP_ANSWERS, RP_DATA,
 };
+use sms_trial::answers;
 use std::alloc::Global;
 use std::test::Fail;
 

@@ -2,11 +2,12 @@
 
 mod rows;
 
-use crate::found::{answers, answers_with, are_answered, are_answered_after_a_centre, holds};
+use crate::found::{are_answered, are_answered_after_a_centre, holds};
 use rows::{
     AFTER_CENTRES, ASKED, Any, CARRIED, COMMANDS, NO_COMMANDS, NO_STATUS_REPORTS, PARTS,
     STATUS_REPORTS, STATUSES, TOLD, Told, Words,
 };
+use sms_trial::{answers, answers_with};
 use std::alloc::Global;
 use std::process::Abort;
 use std::test::Fail;

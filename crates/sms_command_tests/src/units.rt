@@ -3,10 +3,8 @@
 mod rows;
 
 use crate::found::{
-    Shown, answer_to, answers_with, are_answered, are_answered_after_a_centre, holds, is_answered,
-    is_missed, says,
+    Shown, are_answered, are_answered_after_a_centre, holds, is_answered, is_missed,
 };
-use crate::splits::{expanded, is_expanded};
 use rows::{
     ADDRESSES, AFTER_CENTRES, BREAKING, DELIVERIES, DELIVERY_FLAGS, ENCODE_WORDS, ENCODED_OPTIONS,
     ENCODED_TEXTS, Encoded, Explained, HELLO, HELLO_SHOWN, LONG_TEXTS, LongText, NO_ADDRESSES,
@@ -14,6 +12,7 @@ use rows::{
     SPLIT_WORDS, STAMPS, SUBMISSIONS, TEXTS, VALIDITIES, WHOLE_SUBMISSIONS, WHOLE_WORDS,
 };
 use sms_command::command;
+use sms_trial::{answer_to, answers_with, expanded, is_expanded, says};
 use std::alloc::{AllocError, Global};
 use std::process::Abort;
 use std::test::Fail;

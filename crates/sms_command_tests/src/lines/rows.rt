@@ -1,6 +1,6 @@
 //! Lines of input, and what they are shown as; and words whose faults are explained.
 
-use crate::fed::Fed;
+use sms_trial::Fed;
 
 pub static LINES: [Fed; 10] = [
     Fed {

@@ -1,7 +1,7 @@
 //! Rows of the tests of records.
 
-use crate::fed::Fed;
 use crate::found::Shown;
+use sms_trial::Fed;
 
 /// Records of each status, and the answer.
 pub static RECORDS: [Shown; 9] = [
