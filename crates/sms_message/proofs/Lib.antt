@@ -4,3 +4,4 @@ pub mod Carrying
 pub mod OneMessage
 pub mod EachMessage
 pub mod Glances
+pub mod Looks

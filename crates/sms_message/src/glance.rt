@@ -4,8 +4,9 @@ ghost use Rattle.std.specs.Prelude.{◌≡◌};
 ghost use Rattle.sms_relay.specs.Carried.InnerSeen.{seen_inner};
 ghost use Rattle.sms_message.specs.Message.Glance.{relay_glance, glance_of, IsSeenAs, HasGlanceTag, glance_in, flag_of};
 
+use crate::look::look_at;
 use crate::message::{Message, Relay, Tag};
-use sms_relay::{CpBodyView, InnerView, RpBodyView, Side, unwrap_view};
+use sms_relay::{InnerView, RpBodyView, Side};
 
 /// The octets of a CP-DATA at a glance.
 #[derive(Clone, Copy, Debug, PartialEq, Eq)]
@@ -94,7 +95,7 @@ impl Message {
 }
 
 /// What is found in a CP-DATA.
-fn relay_at(inner: &InnerView<'_>) -> RelayGlance
+pub(crate) fn relay_at(inner: &InnerView<'_>) -> RelayGlance
     ensures { result ≡ glance_in (seen_inner inner.now) }
 {
     match inner {
@@ -113,21 +114,5 @@ pub fn glance_at(octets: &[u8]) -> Glance
     ensures seen { IsSeenAs octets.now result }
     ensures tagged { HasGlanceTag result }
 {
-    let Ok((connection, inner)) = unwrap_view(octets) else {
-        return Glance::NotCp;
-    };
-    let flag = connection.flag;
-    let value = connection.value;
-    let CpBodyView::Transfer(user) = connection.body else {
-        return Glance::Note { flag, value };
-    };
-    let [_, reference, ..] = user.as_slice() else {
-        return Glance::Tiny { flag, value };
-    };
-    let tag = Tag {
-        value,
-        reference: *reference,
-    };
-    let relay = relay_at(&inner);
-    Glance::Data { flag, tag, relay }
+    look_at(octets).glance()
 }

@@ -5,6 +5,7 @@
 pub mod failure_cause;
 mod glance;
 mod laws;
+mod look;
 mod message;
 mod outcome;
 pub mod packets;
@@ -16,6 +17,7 @@ pub use glance::{Glance, RelayGlance, glance_at};
 pub use laws::{
     carried_messages_are_read, octets_are_read_as_a_message, octets_are_read_as_one_message,
 };
+pub use look::{Look, look_at};
 pub use message::{Message, Relay, Report, Tag, TransferUnit};
 pub use outcome::{Dropped, Outcome, Packets, Step};
 pub use reading::read_message;

@@ -14,10 +14,11 @@ ghost use Rattle.sms_field.specs.Reading.Values.{AreOptionalOctets};
 ghost use Rattle.sms_message.specs.Message.Reading.{ReadsAs, ReadsUnit, ReadsSomeReport, ReadsReport, ReadsRelay, IsLongData, HasTag};
 ghost use Rattle.sms_message.specs.declared.outcome.Dropped.TheVariants.{Memory};
 
-use crate::message::{Message, Relay, Report, Tag, TransferUnit};
+use crate::look::look_at;
+use crate::message::{Message, Relay, Report, TransferUnit};
 use crate::outcome::Dropped;
 use sms_field::Refusal;
-use sms_relay::{CpBodyView, InnerView, RelayFault, RpBodyView, RpView, Side, unwrap_view};
+use sms_relay::{InnerView, RelayFault, RpBodyView, RpView, Side};
 use sms_tpdu::{
     Deliver, DeliverAck, DeliverError, OctetsView, Submit, SubmitAck, SubmitError, Unit, UnitFault,
 };
@@ -101,11 +102,11 @@ fn answer_in(
     alloc: Global,
     side: Side,
     cause: Option<u8>,
-    user: Option<OctetsView<'_>>,
+    user: &Option<OctetsView<'_>>,
 ) -> Result<Relay, Dropped>
-    requires { AreOptionalOctets user }
+    requires { AreOptionalOctets user.now }
     ensures read { IfOk result (λ r. (report : Option Report) × (r ≡ Answer side cause report)
-        × ReadsReport side cause user.entry report) }
+        × ReadsReport side cause user.now report) }
     ensures err { IfErr result (λ e. e ≡ Memory) }
 {
     let report = match user {
@@ -120,28 +121,28 @@ fn answer_in(
 }
 
 /// What an RP message says.
-fn relay_of(alloc: Global, message: RpView<'_>) -> Result<Relay, Dropped>
+fn relay_of(alloc: Global, message: &RpView<'_>) -> Result<Relay, Dropped>
     ensures read { IfOk result (λ relay. (octets : List ℕ) (used : ℕ)
-        → Reads rp_message message.entry octets used
-        → ReadsRelay octets message.entry.reference relay) }
+        → Reads rp_message message.now octets used
+        → ReadsRelay octets message.now.reference relay) }
     ensures err { IfErr result (λ e. e ≡ Memory) }
 {
     let side = message.side;
-    match message.body {
+    match &message.body {
         RpBodyView::Transfer { user, .. } => {
             let unit = unit_in(alloc, side, user.as_slice())?;
             Ok(Relay::Transfer { side, unit })
         }
         RpBodyView::Ack { user } => answer_in(alloc, side, None, user),
-        RpBodyView::Fail { cause, user, .. } => answer_in(alloc, side, Some(cause), user),
+        RpBodyView::Fail { cause, user, .. } => answer_in(alloc, side, Some(*cause), user),
     }
 }
 
 /// What the octets of a CP-DATA are read as, where they are read so.
-fn relay_in(alloc: Global, inner: InnerView<'_>) -> Result<Relay, Dropped>
+pub(crate) fn relay_in(alloc: Global, inner: &InnerView<'_>) -> Result<Relay, Dropped>
     ensures read { IfOk result (λ relay. (first second : ℕ) (rest : List ℕ)
         → IsOctets (first ∷ second ∷ rest)
-        → IsReadAs (first ∷ second ∷ rest) (seen_inner inner.entry)
+        → IsReadAs (first ∷ second ∷ rest) (seen_inner inner.now)
         → ReadsRelay (first ∷ second ∷ rest) second relay) }
     ensures err { IfErr result (λ e. e ≡ Memory) }
 {
@@ -162,21 +163,5 @@ pub fn read_message(alloc: Global, octets: &[u8]) -> Result<Message, Dropped>
     ensures err { IfErr result (λ e. e ≡ Memory) }
     ensures data { OnErr result (IsLongData octets.now) }
 {
-    let Ok((connection, inner)) = unwrap_view(octets) else {
-        return Ok(Message::NotCp);
-    };
-    let flag = connection.flag;
-    let value = connection.value;
-    let CpBodyView::Transfer(user) = connection.body else {
-        return Ok(Message::Note { flag, value });
-    };
-    let [_, reference, ..] = user.as_slice() else {
-        return Ok(Message::Tiny { flag, value });
-    };
-    let tag = Tag {
-        value,
-        reference: *reference,
-    };
-    let relay = relay_in(alloc, inner)?;
-    Ok(Message::Data { flag, tag, relay })
+    look_at(octets).message(alloc)
 }

@@ -12,7 +12,7 @@ use Rattle.sms_message.proofs.Read.{relay_read}
 use Rattle.sms_message.proofs.reading.relay_in.Goals as goal
 
 pub returns-in-Relay-clause-read : goal.returns-in-Relay-clause-read
-returns-in-Relay-clause-read c = relay_read c.relay_of.result c.in-Relay.message (seen_inner c.args.inner) (ap seen_inner c.in-Relay.is) c.relay_of.ensures.read
+returns-in-Relay-clause-read c = relay_read c.relay_of.result c.in-Relay.message (seen_inner c.args.inner.now) (ap seen_inner c.in-Relay.is) c.relay_of.ensures.read
 
 pub returns-in-UnknownType-clause-read : goal.returns-in-UnknownType-clause-read
 returns-in-UnknownType-clause-read c = λ first second rest fits h.
