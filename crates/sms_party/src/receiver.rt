@@ -30,9 +30,8 @@ use sms_join::laws::{agings_keep_same, answer_finishes, answers_alike, same_is_e
 use sms_join::{Joiner, Offer, OfferFault, Units};
 use sms_message::packets::{no_packets, relay_refusal};
 use sms_message::{
-    Dropped, Glance, Message, NotTaken, Outcome, Relay, RelayGlance, Step, Tag, TransferUnit,
-    delivery_from, failure_cause, glance_at, octets_are_read_as_a_message, read_message, rp_cause,
-    unit_from,
+    Dropped, Glance, Look, Message, NotTaken, Outcome, Relay, RelayGlance, Step, Tag, TransferUnit,
+    delivery_from, failure_cause, look_at, octets_are_read_as_a_message, rp_cause, unit_from,
 };
 use sms_relay::Side;
 use sms_tpdu::{Concat, Deliver, Header};
@@ -172,13 +171,23 @@ impl Receiver {
         ensures memory { MemoryOnlyFor takes_up octets.now result }
         ensures refused { OnErr result (self.new ≡ self.old) }
     {
+        self.receive_look(now, &look_at(octets))
+    }
+
+    /// Takes a packet that was looked at, as `receive` takes its octets.
+    pub(crate) fn receive_look(&mut self, now: u64, look: &Look<'_>) -> Result<Step, Dropped>
+        ensures receives { ReceivesAs now look.now self.old result self.new }
+        ensures few { FewPackets result }
+        ensures memory { MemoryOnlyFor takes_up look.now result }
+        ensures refused { OnErr result (self.new ≡ self.old) }
+    {
         octets_are_read_as_a_message();
         laws_of_joiners();
-        let seen = glance_at(octets);
+        let seen = look.glance();
         if !takes_up(seen) {
             return self.pass(now, seen);
         }
-        let message = read_message(self.alloc, octets)?;
+        let message = look.message(self.alloc)?;
         self.take(now, message)
     }
 
