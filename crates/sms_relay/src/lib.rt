@@ -31,4 +31,5 @@ pub use unwrapping::{unwrap, unwrap_view};
 pub use user::USER_DATA_MAX;
 pub use wrap::{
     wrap_acknowledgement, wrap_answer, wrap_answer_octets, wrap_transfer, wrap_transfer_octets,
+    wrap_written_transfer,
 };

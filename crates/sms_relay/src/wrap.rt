@@ -129,6 +129,45 @@ fn user_data_of(alloc: Global, octets: &[u8]) -> Result<Octets, WrapFault>
     Ok(Octets::from_slice(alloc, octets)?)
 }
 
+/// Octets as user data, if they are not too many. They are moved, not copied.
+fn user_data_from(octets: Vec<u8>) -> Result<Octets, WrapFault>
+    ensures moved { IfOk result (λ user. (user ≡ octets.items) × IsUserData user) }
+    ensures too_long { (result ≡ Err DataTooLong) ↔ (USER_DATA_MAX < length octets.items) }
+{
+    if usize::from(USER_DATA_MAX) < octets.len() {
+        return Err(WrapFault::DataTooLong);
+    }
+    Ok(Octets::new(octets))
+}
+
+/// The octets of a CP-DATA around an RP-DATA around these octets, which are not looked at. They are
+/// moved, where `wrap_transfer_octets` copies them.
+///
+/// The flag and the value are those of the transaction identifier (3GPP TS 24.011, 8.1.2). The flag
+/// is false from the side that opened the transaction, and true from the other; the value is 0 to
+/// 6.
+///
+/// `DataTooLong` comes exactly where there are more than 233 octets.
+pub fn wrap_written_transfer(
+    alloc: Global,
+    flag: bool,
+    value: u8,
+    side: Side,
+    reference: u8,
+    address: Option<&RpAddress>,
+    octets: Vec<u8>,
+) -> Result<Vec<u8>, WrapFault>
+    requires { value < 7 }
+    ensures carried { IfOk result (λ packet.
+        Carries flag value (transfer side reference (option_copied address.entry) octets.items)
+        packet.items) }
+    ensures too_long { (result ≡ Err DataTooLong) ↔ (USER_DATA_MAX < length octets.items) }
+{
+    let user = user_data_from(octets)?;
+    let message = transfer_of(alloc, side, reference, address, user)?;
+    Ok(wrap_message(alloc, flag, value, message)?)
+}
+
 /// The octets of a CP-DATA around an RP-DATA around these octets, which are not looked at.
 ///
 /// The flag and the value are those of the transaction identifier (3GPP TS 24.011, 8.1.2). The flag

@@ -1,6 +1,6 @@
 //! A typed text on its way.
 
-ghost use Rattle.std.specs.Prelude.{◌≡◌, ◌<◌, false, Some, IfOk, IfErr};
+ghost use Rattle.std.specs.Prelude.{◌≡◌, ◌<◌, ◌≤◌, length, false, Some, IfOk, IfErr};
 ghost use Rattle.sms_join.specs.Segments.User.{IsSendable};
 ghost use Rattle.sms_party.specs.Inside.Sender.{submission_in, text_put, CarriesOptional};
 ghost use Rattle.sms_message.specs.Message.Carrying.{Carries};
@@ -9,13 +9,15 @@ ghost use Rattle.sms_message.specs.declared.message.Relay.TheVariants.{Transfer}
 ghost use Rattle.sms_message.specs.declared.message.TransferUnit.TheVariants.{Submit as TheUnit};
 ghost use Rattle.sms_message.specs.declared.outcome.Dropped.TheVariants.{Memory};
 ghost use Rattle.sms_relay.specs.declared.side.Side.TheVariants.{FromPhone};
+ghost use Rattle.sms_relay.specs.declared.user.TheConstants.{USER_DATA_MAX};
+ghost use Rattle.sms_tpdu.specs.Submit.{Submission, SpellsSubmit};
 
 use sms_field::{Address, Validity};
 use sms_join::{SegmentView, Segments};
 use sms_message::packets::{address_of_centre, wrapped};
 use sms_message::{Dropped, Tag};
-use sms_relay::{Side, wrap_transfer};
-use sms_tpdu::{Submit, Width};
+use sms_relay::{Side, wrap_written_transfer};
+use sms_tpdu::{SubmitFront, Width};
 use std::alloc::{AllocError, Global};
 use std::marker::Model;
 
@@ -54,38 +56,42 @@ impl Model for TypedText {
         × (length t.segments ≤ SEGMENTS_MAX) × All (IsSendable t.width) t.segments };
 }
 
-/// The packet of a submission.
-fn submission_packet(alloc: Global, tag: Tag, submission: &Submit) -> Result<Vec<u8>, Dropped>
-    requires { tag.value < 7 }
-    ensures carries { IfOk result (λ packet. Carries packet.items
-        (Data false tag (Transfer FromPhone (TheUnit submission.now)))) }
+/// The packet of a submission that is written so.
+fn submission_packet(alloc: Global, tag: Tag, octets: Vec<u8>) -> Result<Vec<u8>, Dropped>
+    requires value { tag.value < 7 }
+    requires few { length octets.items ≤ USER_DATA_MAX }
+    ensures carries { (s : Submission) → SpellsSubmit s octets.items
+        → IfOk result (λ packet. Carries packet.items
+        (Data false tag (Transfer FromPhone (TheUnit s)))) }
     ensures err { IfErr result (λ e. e ≡ Memory) }
 {
     let address = address_of_centre();
-    wrapped(wrap_transfer(
+    wrapped(wrap_written_transfer(
         alloc,
         false,
         tag.value,
         Side::FromPhone,
         tag.reference,
         Some(&address),
-        submission,
+        octets,
     ))
 }
 
 impl TypedText {
-    /// The submission of its segment at a place, counted from 0.
+    /// The submission of its segment at a place, counted from 0, as octets.
     fn submission(
         &self,
         alloc: Global,
         place: u8,
         segment: &SegmentView<'_>,
         reject: bool,
-    ) -> Result<Submit, AllocError>
+    ) -> Result<Vec<u8>, AllocError>
         requires { IsSendable self.now.width segment.now }
-        ensures { IfOk result (λ s. s ≡ submission_in self.now place segment.now reject) }
+        ensures spelled { IfOk result (λ octets. SpellsSubmit
+            (submission_in self.now place segment.now reject) octets.items) }
+        ensures few { IfOk result (λ octets. length octets.items ≤ USER_DATA_MAX) }
     {
-        Ok(Submit {
+        let front = SubmitFront {
             reject,
             validity: Validity::Absent,
             report: false,
@@ -94,8 +100,8 @@ impl TypedText {
             target: self.target.copy(alloc)?,
             pid: 0,
             dcs: segment.coding_scheme(),
-            user: segment.user(alloc, self.width, self.set_reference)?,
-        })
+        };
+        segment.write_submit(alloc, &front, self.width, self.set_reference)
     }
 
     /// The packet of the segment at a place, counted from 0, if there is one there.
@@ -114,9 +120,7 @@ impl TypedText {
         let Some(segment) = self.segments.get(usize::from(place)) else {
             return Ok(None);
         };
-        let submission = self.submission(alloc, place, &segment, reject)?;
-        let packet = submission_packet(alloc, tag, &submission);
-        drop(submission);
-        Ok(Some(packet?))
+        let octets = self.submission(alloc, place, &segment, reject)?;
+        Ok(Some(submission_packet(alloc, tag, octets)?))
     }
 }
