@@ -9,5 +9,5 @@ returns c =
     let maximum = c.from-2.ensures in
     let size = c.from-3.ensures in
     Writes-same (λ i. line_object (sequence i) (maximum i) (coding_members c.args.is_data head.alphabet.now head.coding_scheme head.has_header) (size i) c.args.octets.now)
-    (Writes-then _ _ (Writes-then _ _ (Writes-then _ _ (Writes-then _ _ (Writes-then _ _ (Writes-then _ _ c.open.ensures c.number_named.ensures) c.number_named-2.ensures)
-    c.put_coding_members.ensures) c.number_named-3.ensures) c.octets_named.ensures) c.close.ensures)
+    (Writes-then _ _ (Writes-then _ _ (Writes-then _ _ c.open.ensures c.number_named.ensures) c.number_named-2.ensures)
+    (Writes-then _ _ c.put_coding_members.ensures (Writes-then _ _ (Writes-then _ _ c.number_named-3.ensures c.octets_named.ensures) c.close.ensures)))
