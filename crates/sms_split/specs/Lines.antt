@@ -1,13 +1,13 @@
 -- The lines of segments.
-use Rattle.std.specs.Prelude.{◌≡◌, ℕ, Bool, List, [], ◌∷◌, ◌++◌, Option, None, codes, decimal, if◌then◌else◌}
+use Rattle.std.specs.Prelude.{◌≡◌, ℕ, Bool, false, List, [], ◌∷◌, ◌++◌, Option, codes, decimal, if◌then◌else◌}
 use Rattle.std.specs.Io.KnownBytes.{Appends}
 use Rattle.hex.specs.Hex.{encode_upper}
-use Rattle.sms_page.specs.Page.{hexadecimal}
+use Rattle.sms_page.specs.Object.{Token, json_string, texts, object, end_object, name, value}
+use Rattle.sms_page.specs.Page.{hexadecimal, quoted}
 use Rattle.sms_told.specs.declared.form.Form.{Form}
 use Rattle.sms_told.specs.declared.form.Form.TheVariants.{Plain, Json}
 use Rattle.sms_tpdu.specs.UserData.{has_header, length_in}
 use Rattle.sms_told.specs.Texts.{line_end}
-use Rattle.sms_answer.specs.Answer.{IsAnswer}
 use Rattle.sms_split.specs.declared.long_text.LongText.{LongText}
 use Rattle.sms_split.specs.Octets.{HasOctets}
 use Rattle.sms_split.specs.Told.{SegmentTold}
@@ -36,16 +36,42 @@ segment_line is_data told octets =
     (coding is_data told.alphabet told.coding_scheme (has_header told.user))
     (length_in told.user) octets
 
--- this line, or in JSON an object in a line
-abbrev pub IsLineBy : Form → List ℕ → List ℕ → Type 0
-IsLineBy Plain text line = line ≡ text
-IsLineBy Json text line = IsAnswer Json None line
+-- the name of the alphabet; of user data alone its coding scheme (TP-DCS), and whether a header
+-- stands in front (TP-UDHI)
+abbrev pub coding_members : Bool → List ℕ → ℕ → Bool → List Token
+coding_members is_data alphabet coding_scheme is_headed =
+    if is_data
+    then name (codes "dcs") ∷ value (decimal coding_scheme) ∷ name (codes "header")
+    ∷ value (if is_headed then codes "true" else codes "false") ∷ []
+    else name (codes "alphabet") ∷ value (json_string alphabet) ∷ []
 
--- the line of a segment, or its object
+-- the same as an object of JSON
+abbrev pub line_object : (sequence maximum : ℕ) → (coded : List Token) → (size : ℕ)
+    → (octets : List ℕ) → List Token
+line_object sequence maximum coded size octets =
+    (object ∷ name (codes "sequence") ∷ value (decimal sequence)
+    ∷ name (codes "maximum") ∷ value (decimal maximum) ∷ [])
+    ++ coded
+    ++ (name (codes "length") ∷ value (decimal size)
+    ∷ name (codes "octets") ∷ value (quoted false (encode_upper octets) false) ∷ end_object ∷ [])
+
+-- the object of a segment that tells these octets
+abbrev pub segment_object : Bool → SegmentTold → List ℕ → List Token
+segment_object is_data told octets =
+    line_object told.sequence told.maximum
+    (coding_members is_data told.alphabet told.coding_scheme (has_header told.user))
+    (length_in told.user) octets
+
+-- the line of a segment, or in JSON its object in a line
+abbrev pub segment_text : Form → Bool → SegmentTold → List ℕ → List ℕ
+segment_text Plain is_data told octets = segment_line is_data told octets
+segment_text Json is_data told octets = texts false (segment_object is_data told octets) ++ line_end
+
+-- the line of a segment, with the octets of its user data
 abbrev pub IsLineOf : LongText → SegmentTold → List ℕ → Type 0
 IsLineOf long told line =
     (octets : List ℕ) × HasOctets long.is_single told.user octets
-    × IsLineBy long.form (segment_line long.is_data told octets) line
+    × (line ≡ segment_text long.form long.is_data told octets)
 
 -- The text has a line for each of these segments, in order, and nothing else.
 abbrev pub TellsEach : LongText → List SegmentTold → List ℕ → Type 0

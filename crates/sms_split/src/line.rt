@@ -1,17 +1,17 @@
 //! The line of a segment.
 
-ghost use Rattle.std.specs.Prelude.{◌≡◌, OnOk, false, None};
+ghost use Rattle.std.specs.Prelude.{◌≡◌, OnOk, false};
+ghost use Rattle.std.specs.Io.KnownBytes.{Appends};
 ghost use Rattle.sms_page.specs.Page.{Puts};
+ghost use Rattle.sms_page.specs.Object.{Writes};
 ghost use Rattle.sms_told.specs.declared.form.Form.TheVariants.{Json};
-ghost use Rattle.sms_answer.specs.Answer.{IsAnswer};
-ghost use Rattle.sms_split.specs.Lines.{IsLineBy, coding, header_word};
-ghost use Rattle.sms_split.specs.Inside.Heads.{WritesBy, head_line};
+ghost use Rattle.sms_split.specs.Lines.{coding, coding_members, header_word};
+ghost use Rattle.sms_split.specs.Inside.Heads.{head_line, head_object, head_text};
 
 use crate::fault::CutFault;
 use crate::head::Head;
 use crate::long_text::LongText;
-use sms_answer::{Answer, Escaped, Hexadecimal, Lines, Octet};
-use sms_page::Page;
+use sms_page::{Object, Page};
 use sms_told::Form;
 use std::alloc::Global;
 use std::io::Write;
@@ -65,28 +65,47 @@ fn plain_of(alloc: Global, head: &Head, is_data: bool, octets: &[u8]) -> Page
     page
 }
 
-/// The object of a segment.
-fn object_of(alloc: Global, head: &Head, is_data: bool, octets: &[u8]) -> Page
-    ensures { result.is_cut ≡ false → IsAnswer Json None result.octets }
+/// Adds the alphabet, or the coding scheme and whether a header stands in front, as members.
+fn put_coding_members(object: &mut Object, head: &Head, is_data: bool)
+    ensures { Writes object.old object.new (coding_members is_data head.now.alphabet.now
+        head.now.coding_scheme head.now.has_header) }
 {
-    let mut lines = Lines::new(Form::Json, Page::new(alloc));
-    lines.put("sequence", head.sequence);
-    lines.put("maximum", head.maximum);
     if is_data {
-        lines.put("dcs", Octet(head.coding_scheme));
-        lines.put("header", Answer(head.has_header));
+        object.number_named("dcs", u64::from(head.coding_scheme));
+        object.name("header");
+        object.flag(head.has_header);
     } else {
-        lines.put("alphabet", Escaped(head.alphabet));
+        object.text_named("alphabet", head.alphabet);
     }
-    lines.put("length", head.length);
-    lines.put("octets", Hexadecimal(octets));
-    lines.finish()
+}
+
+/// Adds the object of a segment.
+fn put_object(object: &mut Object, head: &Head, is_data: bool, octets: &[u8])
+    ensures { Writes object.old object.new (head_object is_data head.now octets.now) }
+{
+    object.open();
+    object.number_named("sequence", u64::from(head.sequence));
+    object.number_named("maximum", u64::from(head.maximum));
+    put_coding_members(object, head, is_data);
+    object.number_named("length", u64::from(head.length));
+    object.octets_named("octets", octets);
+    object.close();
+}
+
+/// The object of a segment, in a line.
+fn object_of(alloc: Global, head: &Head, is_data: bool, octets: &[u8]) -> Page
+    ensures { result.is_cut ≡ false
+        → result.octets ≡ head_text Json is_data head.now octets.now }
+{
+    let mut object = Object::new(Page::new(alloc));
+    put_object(&mut object, head, is_data, octets);
+    object.into_line()
 }
 
 /// The line or the object of a segment.
 fn page_of(alloc: Global, head: &Head, long: &LongText<'_>, octets: &[u8]) -> Page
-    ensures { result.is_cut ≡ false → IsLineBy long.now.form
-        (head_line long.now.is_data head.now octets.now) result.octets }
+    ensures { result.is_cut ≡ false → result.octets
+        ≡ head_text long.now.form long.now.is_data head.now octets.now }
 {
     match long.form {
         Form::Plain => plain_of(alloc, head, long.is_data, octets),
@@ -102,9 +121,8 @@ pub(crate) fn put_line<W: Write>(
     octets: &[u8],
     output: &mut W,
 ) -> Result<(), CutFault>
-    ensures { OnOk result (WritesBy long.now.form
-        (head_line long.now.is_data head.now octets.now)
-        (W.contents output.old) (W.contents output.new)) }
+    ensures { OnOk result (Appends (W.contents output.old) (W.contents output.new)
+        (head_text long.now.form long.now.is_data head.now octets.now)) }
 {
     let mut page = page_of(alloc, head, long, octets);
     Ok(page.write_to(output)?)
