@@ -14,8 +14,8 @@ use sms_relay::{CpBodyView, InnerView, unwrap_view};
 use std::alloc::Global;
 use std::marker::Model;
 
-/// A packet that was looked at. It was unwrapped once: what is asked of it looks at its octets no
-/// more, but for the unit or report in them. Contracts see it as the octets.
+/// A packet that was unwrapped once. Of its octets only the unit or report is still to be read,
+/// where the message is asked for. Contracts see it as the octets.
 #[derive(Drop)]
 pub struct Look<'a> {
     octets: &'a [u8],
