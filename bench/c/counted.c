@@ -7,6 +7,7 @@
 #include <string.h>
 
 enum { KINDS = 4, ROOM = 4096, SPANS = 16, SEGMENTS = 3, REFERENCE = 22 };
+enum { RECIPIENTS = 64, DIGITS = 11, REMEMBERED = 1000, STATE_ROOM = 1 << 20 };
 
 /* In the default alphabet, with characters of its extension table, in UCS-2, and short. The first
  * three are of several segments, the first of all of three. */
@@ -36,6 +37,13 @@ static sms_deliver messages[KINDS];
 static uint8_t segments[SEGMENTS][SMS_UNIT_MAX];
 static size_t segment_sizes[SEGMENTS];
 static sms_joiner joiner = SMS_JOINER_CLOSED;
+
+/* A joiner with a seed, for many recipients, and what it held once as octets. */
+static sms_gateway_limits limits = SMS_GATEWAY_LIMITS(64, REMEMBERED);
+static sms_gateway gateway = SMS_GATEWAY_CLOSED;
+static char recipients[RECIPIENTS][DIGITS + 1];
+static uint8_t state[STATE_ROOM];
+static size_t state_size;
 
 static uint8_t out[ROOM];
 static size_t needed;
@@ -123,12 +131,49 @@ static int offer_one(size_t turn)
            outcome == wanted;
 }
 
+/* The same for a recipient, of whom there are many. */
+static int serve_one(size_t turn)
+{
+    size_t index = turn % SEGMENTS, message = turn / SEGMENTS;
+    const char *recipient = recipients[message % RECIPIENTS];
+    uint32_t outcome, wanted = index + 1 < SEGMENTS ? SMS_KEPT : SMS_FINISHED;
+    sms_refused refused;
+    segments[index][REFERENCE] = (uint8_t)(message / RECIPIENTS);
+    return sms_gateway_offer(&gateway, turn, octets(recipient), DIGITS, segments[index],
+                             segment_sizes[index], &outcome, &refused) == SMS_OK &&
+           outcome == wanted;
+}
+
+/* A joiner that remembers a thousand keys is read back. */
+static int restore_one(size_t turn)
+{
+    uint64_t taken;
+    sms_refused refused;
+    (void)turn;
+    return sms_gateway_read(&gateway, &limits, state, state_size, &taken, &refused) == SMS_OK &&
+           taken == REMEMBERED;
+}
+
+static int make_gateway(void)
+{
+    limits.has_seed = 1;
+    limits.seed_low = 7;
+    limits.seed_high = 11;
+    int is_made = sms_gateway_open(&gateway, &limits) == SMS_OK;
+    for (size_t i = 0; i < RECIPIENTS; i++)
+        snprintf(recipients[i], sizeof recipients[i], "4670000%04zu", i * 151);
+    for (size_t turn = 0; turn < SEGMENTS * REMEMBERED; turn++)
+        is_made = is_made && serve_one(turn);
+    return is_made && sms_gateway_save(&gateway, REMEMBERED, state, sizeof state, &state_size) ==
+                          SMS_OK && sms_gateway_open(&gateway, &limits) == SMS_OK;
+}
+
 static const struct {
     const char *name;
     int (*make)(size_t turn);
 } CALLS[] = {
-    {"read", read_one},   {"text", text_of_one}, {"write", write_one},
-    {"split", split_one}, {"offer", offer_one},
+    {"read", read_one},   {"text", text_of_one}, {"write", write_one},     {"split", split_one},
+    {"offer", offer_one}, {"serve", serve_one},  {"restore", restore_one},
 };
 
 static int make_calls(int (*make)(size_t turn), size_t times)
@@ -147,7 +192,7 @@ int main(int count, char **words)
         fprintf(stderr, "counted CALL TIMES\n");
         return 2;
     }
-    if (!make_units() || !make_segments()) {
+    if (!make_units() || !make_segments() || !make_gateway()) {
         fprintf(stderr, "the inputs are not made\n");
         return 1;
     }

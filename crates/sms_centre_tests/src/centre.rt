@@ -4,6 +4,7 @@ ghost use Rattle.std.specs.Prelude.{◌≡◌, ◌<◌, ◌≤◌, [], ◌∷◌
 ghost use Rattle.sms_field.specs.declared.symbols.Symbols.TheVariants as symbols;
 ghost use Rattle.sms_centre.specs.Centre.Value.{phones_of};
 
+mod growths;
 mod rows;
 
 use crate::answer::{is_answer, none_differs};
@@ -40,7 +41,7 @@ struct Fixture {
 
 /// A centre with the phones +1001, +1002 and +1003.
 #[tactic(auto, unfolding(sms_field::specs::Address::Same::same_address))]
-fn new_fixture(alloc: Global, held: usize) -> Result<Fixture, Fail>
+fn new_fixture(alloc: Global, held: usize) -> Result<Fixture, AllocError>
     requires some { 0 < held }
     requires most { held ≤ HELD_MAX }
 {

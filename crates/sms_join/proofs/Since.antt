@@ -1,5 +1,5 @@
 -- A moment before which no set was opened, as sets come and go.
-use Rattle.std.proofs.Common.{◌≡◌, ℕ, zero, suc, ◌+◌, ◌<◌, ◌≤◌, inl, inr, Bool, true, false, leb, min, List, [], ◌∷◌, ◌++◌, length, slice_get, Some, refl, sym, ap, ◌∙◌, subst, arith}
+use Rattle.std.proofs.Common.{◌≡◌, ℕ, zero, suc, ◌+◌, ◌<◌, ◌≤◌, inl, inr, Bool, true, false, leb, min, List, [], ◌∷◌, ◌++◌, length, get_or, slice_get, Some, refl, sym, ap, ◌∙◌, subst, arith}
 use Rattle.std.proofs.Math.ListN.{set}
 use Rattle.std.proofs.lemmas.Bool.{leb-false}
 use Rattle.std.specs.List.{swap_remove, fold}
@@ -8,7 +8,8 @@ use Rattle.sms_join.specs.declared.key.Key.{Key}
 use Rattle.sms_join.specs.declared.age.Age.{Age}
 use Rattle.sms_join.specs.OpenSets.{SetValue}
 use Rattle.sms_join.specs.Inside.Dropping.{Drops, DropsMany, DropsOld}
-use Rattle.sms_join.specs.Inside.Lines.{AreSince}
+use Rattle.sms_join.specs.declared.line.Opening.{Opening}
+use Rattle.sms_join.specs.Inside.Lines.{AreAfter, AreInTime, AreSince, InLine, IsNoted}
 use Rattle.sms_join.specs.Inside.Slots.{SlotValue, sets_of}
 use Rattle.sms_join.proofs.InLine.{comes, got_more, got_within, put_at}
 
@@ -57,3 +58,41 @@ since_least (e ∷ es) n zero s at =
     let x = ap (λ (w : SetValue). w.opened) (some_same _ s at) in
     omega arith
 since_least (e ∷ es) n (suc i) s at = since_least es (min n e.1.opened) i s at
+
+-- what is noted behind an opening came after it
+noted_after : (n : ℕ) (x : Opening) (os : List Opening) → AreAfter n os → IsNoted x os → n < x.turn
+noted_after n x [] a h = absurd h
+noted_after n x (o ∷ os) a h = elim h [
+  | inl e ↦ (let t = ap (λ (p : Opening). p.turn) e in let b = a.0 in omega arith)
+  | inr q ↦ noted_after n x os a.1 q
+]
+
+same_set : (ss : List SetValue) (i j : ℕ) (s u : SetValue) → slice_get ss i ≡ Some s → slice_get ss j ≡ Some u → i ≡ j → s ≡ u
+same_set ss i j s u here at e = some_same s u (sym here ∙ (ap (slice_get ss) e ∙ at))
+
+-- the set of the first opening was opened first
+pub since_first : (t latest : ℕ) (o : Opening) (os : List Opening) (ss : List SetValue) (s : SetValue) → slice_get ss o.index ≡ Some s → s.turn ≡ o.turn
+    → InLine t (o ∷ os) ss → AreInTime latest ss → AreSince s.opened ss
+since_first t latest o os ss s there turn line time j u at = elim (line.each j u at tt) [
+  | inl e ↦ (
+      let same = same_set ss o.index j s u there at (ap (λ (p : Opening). p.index) e) in
+      let x = ap (λ (w : SetValue). w.opened) same in
+      omega arith
+      )
+  | inr q ↦ (
+      let after = noted_after o.turn (record { turn = u.turn; index = j }) os line.climbs.0 q in
+      time.order o.index j s u there at (omega arith)
+      )
+]
+
+-- the same, where it is read from the line
+pub since_front : (t latest : ℕ) (os : List Opening) (o : Opening) (ss : List SetValue) (s : SetValue) → 0 < length os → o ≡ get_or os 0 o → slice_get ss o.index ≡ Some s → s.turn ≡ o.turn
+    → InLine t os ss → AreInTime latest ss → AreSince s.opened ss
+since_front t latest [] o ss s l e there turn line time = absurd (omega arith)
+since_front t latest (p ∷ os) o ss s l e there turn line time =
+    since_first t latest o os ss s there turn (subst (λ (q : Opening). InLine t (q ∷ os) ss) (sym e) line) time
+
+-- where there is no set, none was opened before any moment
+pub since_none : (n : ℕ) (es : List (Key × SlotValue)) → length es ≡ 0 → AreSince n (sets_of es)
+since_none n [] l i s at = absurd cc
+since_none n (e ∷ es) l i s at = absurd (omega arith)

@@ -23,7 +23,7 @@ const NONE: u32 = u32::MAX;
 pub(crate) const PLACES_MAX: usize = 1 << 31;
 
 /// As many keys as the limit at most. A further one takes the place of the oldest. All room is made
-/// at once, and written only as keys come: the heads are doubled where the keys are more.
+/// at once, and written only as keys come: there become more heads where the keys are more.
 #[derive(Drop)]
 pub(crate) struct KeyRing {
     hashing: Hashing,
@@ -245,17 +245,44 @@ impl KeyRing {
         self.oldest = place_after(place, limit);
     }
 
-    /// Doubles the heads, where the keys are more and the ring has not turned. All keys are linked
-    /// anew then, half of which have come since the last time.
+    /// Makes the heads four times as many where they are fewer than the keys, or twice where there
+    /// is no room for that. A fourth of the keys, or half of them, have come since the last time.
     fn spread(&mut self)
         ensures { self.new ≡ self.old }
     {
         let count = self.heads.len();
-        if self.oldest > 0 || self.keys.len() <= count {
+        if self.keys.len() <= count {
+            return;
+        }
+        if self.heads.capacity() / 4 >= count {
+            self.widen(4 * count);
+        } else {
+            self.widen(2 * count);
+        }
+    }
+
+    /// Makes ready for so many keys: they are not linked anew then, as they come.
+    pub(crate) fn expect(&mut self, count: usize)
+        ensures { self.new ≡ self.old }
+    {
+        if count <= PLACES_MAX {
+            self.widen(count.next_power_of_two());
+        }
+    }
+
+    /// Makes the heads as many, where they are fewer, there is room for as many, and the ring has
+    /// not turned. All keys are linked anew then.
+    fn widen(&mut self, wanted: usize)
+        ensures { self.new ≡ self.old }
+    {
+        if wanted <= self.heads.len() || self.heads.capacity() < wanted {
+            return;
+        }
+        if self.oldest > 0 {
             return;
         }
         self.heads.clear();
-        self.heads.resize(2 * count, NONE).unwrap();
+        self.heads.resize(wanted, NONE).unwrap();
         relink(self.hashing, &self.keys, &mut self.heads, &mut self.next);
     }
 }

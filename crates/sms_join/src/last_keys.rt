@@ -68,6 +68,16 @@ impl Remembered {
             Remembered::Many(ring) => ring.push(key),
         }
     }
+
+    /// Makes ready for so many keys.
+    fn expect(&mut self, count: usize)
+        ensures { last_keys self.new ≡ last_keys self.old }
+    {
+        match self {
+            Remembered::Few(_) => {}
+            Remembered::Many(ring) => ring.expect(count),
+        }
+    }
 }
 
 /// As many keys as the limit at most. A further one takes the place of the oldest.
@@ -152,6 +162,13 @@ impl LastKeys {
         if self.count < self.limit {
             self.count += 1;
         }
+    }
+
+    /// Makes ready for so many keys.
+    pub(crate) fn expect(&mut self, count: usize)
+        ensures { self.new ≡ self.old }
+    {
+        self.keys.expect(count);
     }
 
     /// Forgets all but so many of the last ones.

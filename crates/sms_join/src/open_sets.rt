@@ -91,7 +91,7 @@ impl OpenSets {
             turns: 0,
             latest: 0,
             in_time: true,
-            earliest: 0,
+            earliest: u64::MAX,
         }
     }
 
@@ -249,7 +249,7 @@ impl OpenSets {
             age,
             self.in_time,
         );
-        self.earliest = earliest_left(self.in_time, self.earliest, &self.slots);
+        self.earliest = earliest_left(self.in_time, self.earliest, &self.slots, &self.line);
         self.most = give_room_back(&mut self.slots, self.most);
         self.front = tidy(&mut self.line, &mut self.slots, self.front);
     }

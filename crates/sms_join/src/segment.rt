@@ -268,8 +268,26 @@ impl<'a> SegmentView<'a> {
         ensures { IfOk result (λ octets. SpellsSubmit
             (submission_of front.now (user_of width reference self.now)) octets.items) }
     {
+        self.write_submit_in(Vec::new(alloc), front, width, reference)
+    }
+
+    /// The octets of the SMS-SUBMIT with these fields that carries the segment, as `write_submit`
+    /// has them, written in the room of a list: whatever stood in it is gone.
+    pub fn write_submit_in(
+        &self,
+        room: Vec<u8>,
+        front: &SubmitFront,
+        width: Width,
+        reference: u16,
+    ) -> Result<Vec<u8>, AllocError>
+        requires sendable { IsSendable width self.now }
+        requires reference { width ≡ Eight → reference < 256 }
+        requires alphabet { alphabet_at front.now.dcs ≡ coding_of self.now.units }
+        ensures { IfOk result (λ octets. SpellsSubmit
+            (submission_of front.now (user_of width reference self.now)) octets.items) }
+    {
         let place = self.place(width, reference);
-        front.write_with(alloc, place, in_range(self.units))
+        front.write_with_in(room, place, in_range(self.units))
     }
 
     /// The segment itself, with a copy of the units.

@@ -1,13 +1,14 @@
 //! The user data of segments.
 
-ghost use Rattle.std.specs.Prelude.{◌≡◌, ◌<◌, All};
+ghost use Rattle.std.specs.Prelude.{◌≡◌, ◌<◌, All, IfOk};
 ghost use Rattle.sms_tpdu.specs.declared.user_data.concat.Width.TheVariants.{Eight};
 ghost use Rattle.sms_join.specs.Segments.User.{IsSendable};
 
 use crate::cut::{CUTS, repeated};
 use crate::found::{holds, same};
+use sms_field::{Address, Validity};
 use sms_join::{SegmentView, Segments, Written, cut_text, segment_user, split};
-use sms_tpdu::{Body, UserData, Width};
+use sms_tpdu::{Body, SubmitFront, UserData, Width};
 use std::alloc::{AllocError, Global};
 use std::process::Abort;
 use std::test::Fail;
@@ -226,5 +227,78 @@ fn writes_user_data(rt: HostRuntime) -> Result<(), Fail> {
         let text = repeated(rt.alloc(), row.letter, row.times, row.then)?;
         writes(&rt, rt.alloc(), &text)?;
     }
+    Ok(())
+}
+
+/// A submission but its user data and its data coding scheme.
+fn front_of(alloc: Global, dcs: u8) -> Result<SubmitFront, AllocError>
+    ensures { IfOk result (λ front. front.dcs ≡ dcs) }
+{
+    let target = Address::from_text(alloc, "+46708251358").map_err(|_| AllocError)?;
+    Ok(SubmitFront {
+        reject: false,
+        validity: Validity::Absent,
+        report: false,
+        reply: false,
+        reference: 0,
+        target,
+        pid: 0,
+        dcs,
+    })
+}
+
+/// Whether the submission of a segment is the same alone and in the room of three octets.
+fn is_same_in_room(
+    alloc: Global,
+    segment: &SegmentView<'_>,
+    width: Width,
+    reference: u16,
+) -> Result<bool, AllocError>
+    requires sendable { IsSendable width segment.now }
+    requires reference { width ≡ Eight → reference < 256 }
+{
+    let front = front_of(alloc, segment.coding_scheme())?;
+    let alone = segment.write_submit(alloc, &front, width, reference)?;
+    let room = Vec::from_slice(alloc, &[1, 2, 3])?;
+    let written = segment.write_submit_in(room, &front, width, reference)?;
+    Ok(written == alone)
+}
+
+/// Whether the submissions of a text's segments are the same alone and in a room.
+fn are_same_in_room(alloc: Global, text: &str, width: Width) -> Result<bool, AllocError> {
+    let segments = cut_text(alloc, text, width).map_err(|_| AllocError)?;
+    for place in 0..segments.len() {
+        let segment = segments.get(place).ok_or(AllocError)?;
+        if !is_same_in_room(alloc, &segment, width, 200)? {
+            return Ok(false);
+        }
+    }
+    Ok(true)
+}
+
+/// The same, asked once more where memory ran out.
+fn are_same_at_last(alloc: Global, text: &str) -> Result<bool, AllocError> {
+    match are_same_in_room(alloc, text, Width::Eight) {
+        Ok(same) => Ok(same),
+        Err(_) => are_same_in_room(alloc, text, Width::Eight),
+    }
+}
+
+#[test]
+fn writes_submissions_in_a_room(rt: HostRuntime) -> Result<(), Fail> {
+    for row in CUTS.as_slice() {
+        let text = repeated(rt.alloc(), row.letter, row.times, row.then)?;
+        let same = are_same_in_room(rt.alloc(), &text, Width::Sixteen)?;
+        holds(&rt, &text.as_str(), same);
+    }
+    Ok(())
+}
+
+/// One growth is refused, whichever it is (docs/CONTRIBUTING.md says how): the submissions are then
+/// written as where none was refused.
+#[test]
+fn writes_submissions_in_a_room_after_a_refused_growth(rt: HostRuntime) -> Result<(), Fail> {
+    let same = are_same_at_last(rt.alloc(), "жж")?;
+    holds(&rt, &"UCS-2", same);
     Ok(())
 }

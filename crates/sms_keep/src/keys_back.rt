@@ -47,6 +47,7 @@ pub(crate) fn remember_keys(
     ensures bad { IfErr result (FailsBy (IsBadKey (view state.now))) }
 {
     let keys = state.keys.as_slice();
+    gateway.expect(keys.len());
     let mut last = 0;
     for before in 0..keys.len() {
         let own = &keys[before];

@@ -12,6 +12,7 @@ pub mod packets;
 mod reading;
 mod request;
 pub mod rp_cause;
+mod spare;
 
 pub use glance::{Glance, RelayGlance, glance_at};
 pub use laws::{
@@ -22,3 +23,4 @@ pub use message::{Message, Relay, Report, Tag, TransferUnit};
 pub use outcome::{Dropped, Outcome, Packets, Step};
 pub use reading::read_message;
 pub use request::{NotTaken, delivery_from, submission_from, unit_from};
+pub use spare::Spare;

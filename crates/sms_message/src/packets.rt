@@ -14,9 +14,10 @@ ghost use Rattle.sms_message.specs.declared.outcome.Outcome.TheVariants.{Refused
 
 use crate::message::Tag;
 use crate::outcome::{Dropped, Outcome, Packets, Step};
+use crate::spare::Spare;
 use arrayvec::ArrayVec;
 use sms_field::{Digits, RpAddress};
-use sms_relay::{Side, WrapFault, wrap_acknowledgement, wrap_answer};
+use sms_relay::{Side, WrapFault, wrap_acknowledgement_in, wrap_answer_in};
 use sms_tpdu::SubmitError;
 use std::alloc::Global;
 
@@ -50,7 +51,17 @@ pub fn acknowledgement(alloc: Global, flag: bool, value: u8) -> Result<Vec<u8>, 
     ensures carries { IfOk result (λ p. Carries p.items (Note flag value)) }
     ensures err { IfErr result (λ e. e ≡ Memory) }
 {
-    Ok(wrap_acknowledgement(alloc, flag, value)?)
+    let mut spare = Spare::new(alloc);
+    acknowledgement_in(&mut spare, flag, value)
+}
+
+/// A CP-ACK, in the room of a list that is spare where there is one.
+pub fn acknowledgement_in(spare: &mut Spare, flag: bool, value: u8) -> Result<Vec<u8>, Dropped>
+    requires { value < 7 }
+    ensures carries { IfOk result (λ p. Carries p.items (Note flag value)) }
+    ensures err { IfErr result (λ e. e ≡ Memory) }
+{
+    Ok(wrap_acknowledgement_in(spare.room(), flag, value)?)
 }
 
 /// No packets.
@@ -83,8 +94,24 @@ pub fn answered(alloc: Global, outcome: Outcome, tag: Tag, packet: Vec<u8>) -> R
         → Carries packet.items (Data true tag (Answer side cause report))
         → Puts outcome (answers side tag cause report) result }
 {
-    let note = acknowledgement(alloc, true, tag.value)?;
-    let packets = both(alloc, note, packet);
+    let mut spare = Spare::new(alloc);
+    answered_in(&mut spare, outcome, tag, packet)
+}
+
+/// A CP-ACK, in the room of a list that is spare where there is one, and the answer in this packet.
+pub fn answered_in(
+    spare: &mut Spare,
+    outcome: Outcome,
+    tag: Tag,
+    packet: Vec<u8>,
+) -> Result<Step, Dropped>
+    requires { tag.value < 7 }
+    ensures { (side : Sides) (cause : Option ℕ) (report : Option Report)
+        → Carries packet.items (Data true tag (Answer side cause report))
+        → Puts outcome (answers side tag cause report) result }
+{
+    let note = acknowledgement_in(spare, true, tag.value)?;
+    let packets = both(spare.alloc(), note, packet);
     Ok(Step { outcome, packets })
 }
 
@@ -94,9 +121,20 @@ pub fn relay_refusal(alloc: Global, side: Side, tag: Tag, cause: u8) -> Result<S
     requires cause { cause < 128 }
     ensures { Puts (Refused cause None) (answers side tag (Some cause) None) result }
 {
+    let mut spare = Spare::new(alloc);
+    relay_refusal_in(&mut spare, side, tag, cause)
+}
+
+/// A CP-ACK, and an RP-ERROR of this side without user data, in the room of lists that are spare
+/// where there are such.
+pub fn relay_refusal_in(spare: &mut Spare, side: Side, tag: Tag, cause: u8) -> Result<Step, Dropped>
+    requires value { tag.value < 7 }
+    requires cause { cause < 128 }
+    ensures { Puts (Refused cause None) (answers side tag (Some cause) None) result }
+{
     let report: Option<&SubmitError> = None;
-    let packet = wrap_answer(
-        alloc,
+    let packet = wrap_answer_in(
+        spare.room(),
         true,
         tag.value,
         side,
@@ -109,5 +147,5 @@ pub fn relay_refusal(alloc: Global, side: Side, tag: Tag, cause: u8) -> Result<S
         cause,
         failure: None,
     };
-    answered(alloc, outcome, tag, packet)
+    answered_in(spare, outcome, tag, packet)
 }

@@ -8,3 +8,5 @@ mod found;
 mod packets;
 #[cfg(test)]
 mod reading;
+#[cfg(test)]
+mod spare;

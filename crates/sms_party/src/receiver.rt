@@ -28,10 +28,11 @@ use crate::receiver::replying::{approval, no_room, refusal};
 use sms_field::{Address, Stamp, alphabet_of};
 use sms_join::laws::{agings_keep_same, answer_finishes, answers_alike, same_is_equivalence};
 use sms_join::{Joiner, Offer, OfferFault, Units};
-use sms_message::packets::{no_packets, relay_refusal};
+use sms_message::packets::{no_packets, relay_refusal_in};
 use sms_message::{
-    Dropped, Glance, Look, Message, NotTaken, Outcome, Relay, RelayGlance, Step, Tag, TransferUnit,
-    delivery_from, failure_cause, look_at, octets_are_read_as_a_message, rp_cause, unit_from,
+    Dropped, Glance, Look, Message, NotTaken, Outcome, Relay, RelayGlance, Spare, Step, Tag,
+    TransferUnit, delivery_from, failure_cause, look_at, octets_are_read_as_a_message, rp_cause,
+    unit_from,
 };
 use sms_relay::Side;
 use sms_tpdu::{Concat, Deliver, Header};
@@ -143,6 +144,11 @@ impl Receiver {
         })
     }
 
+    /// The memory that the receiver grows in.
+    pub(crate) fn alloc(&self) -> Global {
+        self.alloc
+    }
+
     /// The texts that came, in order of completion: at most as many as the store has room for.
     pub fn store(&self) -> &[Entry]
         ensures store { result.now ≡ self.now.store }
@@ -171,11 +177,33 @@ impl Receiver {
         ensures memory { MemoryOnlyFor takes_up octets.now result }
         ensures refused { OnErr result (self.new ≡ self.old) }
     {
-        self.receive_look(now, &look_at(octets))
+        let mut spare = Spare::new(self.alloc);
+        self.receive_with(&mut spare, now, octets)
     }
 
-    /// Takes a packet that was looked at, as `receive` takes its octets.
-    pub(crate) fn receive_look(&mut self, now: u64, look: &Look<'_>) -> Result<Step, Dropped>
+    /// Takes octets that come to the phone, as `receive` does, with packets in the room of lists
+    /// that are spare where there are such.
+    pub fn receive_with(
+        &mut self,
+        spare: &mut Spare,
+        now: u64,
+        octets: &[u8],
+    ) -> Result<Step, Dropped>
+        ensures receives { ReceivesAs now octets.now self.old result self.new }
+        ensures few { FewPackets result }
+        ensures memory { MemoryOnlyFor takes_up octets.now result }
+        ensures refused { OnErr result (self.new ≡ self.old) }
+    {
+        self.receive_look(spare, now, &look_at(octets))
+    }
+
+    /// Takes a packet that was looked at, as `receive_with` takes its octets.
+    pub(crate) fn receive_look(
+        &mut self,
+        spare: &mut Spare,
+        now: u64,
+        look: &Look<'_>,
+    ) -> Result<Step, Dropped>
         ensures receives { ReceivesAs now look.now self.old result self.new }
         ensures few { FewPackets result }
         ensures memory { MemoryOnlyFor takes_up look.now result }
@@ -188,11 +216,11 @@ impl Receiver {
             return self.pass(now, seen);
         }
         let message = look.message(self.alloc)?;
-        self.take(now, message)
+        self.take(spare, now, message)
     }
 
     /// Takes a message.
-    fn take(&mut self, now: u64, message: Message) -> Result<Step, Dropped>
+    fn take(&mut self, spare: &mut Spare, now: u64, message: Message) -> Result<Step, Dropped>
         requires tag { HasTag message }
         ensures steps { Steps (λ limits s origin. receiver_receives limits s now message origin)
             self.old result self.new }
@@ -204,7 +232,7 @@ impl Receiver {
                     drop(relay);
                     Err(Dropped::Unmatched)
                 } else {
-                    self.take_request(now, tag, relay)
+                    self.take_request(spare, now, tag, relay)
                 }
             }
             other => {
@@ -236,20 +264,26 @@ impl Receiver {
     }
 
     /// Takes a message of a transaction that the centre has opened.
-    fn take_request(&mut self, now: u64, tag: Tag, relay: Relay) -> Result<Step, Dropped>
+    fn take_request(
+        &mut self,
+        spare: &mut Spare,
+        now: u64,
+        tag: Tag,
+        relay: Relay,
+    ) -> Result<Step, Dropped>
         requires tag { tag.value < 7 }
         ensures steps { Steps (λ limits s origin. receiver_opened limits s now tag relay origin)
             self.old result self.new }
         ensures refused { OnErr result (self.new ≡ self.old) }
     {
         match unit_from(Side::ToPhone, relay) {
-            Ok(unit) => self.take_unit(now, tag, unit),
-            Err(why) => self.turn_away(tag, why),
+            Ok(unit) => self.take_unit(spare, now, tag, unit),
+            Err(why) => self.turn_away(spare, tag, why),
         }
     }
 
     /// Drops what is not taken, or refuses it.
-    fn turn_away(&self, tag: Tag, why: NotTaken) -> Result<Step, Dropped>
+    fn turn_away(&self, spare: &mut Spare, tag: Tag, why: NotTaken) -> Result<Step, Dropped>
         requires tag { tag.value < 7 }
         requires cause { HasCause why }
         ensures { Steps (λ limits s origin. turned_away s tag why) self.now result self.now }
@@ -257,27 +291,39 @@ impl Receiver {
         match why {
             NotTaken::Unmatched => Err(Dropped::Unmatched),
             NotTaken::Refused { cause, failure } => match failure {
-                None => relay_refusal(self.alloc, Side::FromPhone, tag, cause),
-                Some(failure) => refusal(self.alloc, tag, cause, failure),
+                None => relay_refusal_in(spare, Side::FromPhone, tag, cause),
+                Some(failure) => refusal(spare, tag, cause, failure),
             },
         }
     }
 
     /// Takes the unit of a transfer.
-    fn take_unit(&mut self, now: u64, tag: Tag, unit: TransferUnit) -> Result<Step, Dropped>
+    fn take_unit(
+        &mut self,
+        spare: &mut Spare,
+        now: u64,
+        tag: Tag,
+        unit: TransferUnit,
+    ) -> Result<Step, Dropped>
         requires tag { tag.value < 7 }
         ensures steps { Steps (λ limits s origin. receiver_takes limits s now tag unit origin)
             self.old result self.new }
         ensures refused { OnErr result (self.new ≡ self.old) }
     {
         match delivery_from(rp_cause::PROTOCOL_ERROR, unit) {
-            Ok(delivery) => self.take_delivery(now, tag, delivery),
-            Err(why) => self.turn_away(tag, why),
+            Ok(delivery) => self.take_delivery(spare, now, tag, delivery),
+            Err(why) => self.turn_away(spare, tag, why),
         }
     }
 
     /// Takes a delivery.
-    fn take_delivery(&mut self, now: u64, tag: Tag, delivery: Deliver) -> Result<Step, Dropped>
+    fn take_delivery(
+        &mut self,
+        spare: &mut Spare,
+        now: u64,
+        tag: Tag,
+        delivery: Deliver,
+    ) -> Result<Step, Dropped>
         requires tag { tag.value < 7 }
         ensures steps { Steps (λ limits s origin. offers_units limits s now tag delivery origin
             (units_of_body (alphabet_at delivery.dcs) delivery.user.body))
@@ -291,12 +337,12 @@ impl Receiver {
         let concat = concat_of(&user.header);
         match Units::of_body(self.alloc, alphabet, user.body)? {
             None => refusal(
-                self.alloc,
+                spare,
                 tag,
                 rp_cause::PROTOCOL_ERROR,
                 failure_cause::CODING_SCHEME_NOT_SUPPORTED,
             ),
-            Some(units) => self.take_piece(now, tag, origin, stamp, concat, units),
+            Some(units) => self.take_piece(spare, now, tag, origin, stamp, concat, units),
         }
     }
 
@@ -313,6 +359,7 @@ impl Receiver {
     /// Takes a message or a segment.
     fn take_piece(
         &mut self,
+        spare: &mut Spare,
         now: u64,
         tag: Tag,
         origin: Address,
@@ -329,15 +376,16 @@ impl Receiver {
     {
         if self.is_full_for(&origin, stamp, concat) {
             laws_of_joiners();
-            return no_room(self.alloc, tag);
+            return no_room(spare, tag);
         }
-        self.offer(now, tag, origin, stamp, concat, units)
+        self.offer(spare, now, tag, origin, stamp, concat, units)
     }
 
     /// Offers the joiner a message or a segment that the store has room for. Nothing grows after
     /// the joiner has taken it; and the store grows for a text that finishes alone.
     fn offer(
         &mut self,
+        spare: &mut Spare,
         now: u64,
         tag: Tag,
         origin: Address,
@@ -360,7 +408,7 @@ impl Receiver {
             &mut self.store,
             self.joiner.would_finish(&origin, stamp, concat),
         )?;
-        let packets = approval(self.alloc, tag)?;
+        let packets = approval(spare, tag)?;
         match self.joiner.offer(now, &origin, stamp, concat, units) {
             Ok(Offer::Repeat) => Ok(Step {
                 outcome: Outcome::Repeat,
@@ -377,7 +425,7 @@ impl Receiver {
                     packets,
                 })
             }
-            Err(OfferFault::TooManyOpen) => no_room(self.alloc, tag),
+            Err(OfferFault::TooManyOpen) => no_room(spare, tag),
             Err(OfferFault::Memory) => Err(Dropped::Memory),
         }
     }

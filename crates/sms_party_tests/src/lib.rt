@@ -4,6 +4,8 @@
 #[cfg(test)]
 mod answer;
 #[cfg(test)]
+mod lent;
+#[cfg(test)]
 mod phone;
 #[cfg(test)]
 mod receiver;

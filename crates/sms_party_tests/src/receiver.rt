@@ -2,6 +2,7 @@
 
 ghost use Rattle.std.specs.Prelude.{◌<◌};
 
+mod growths;
 mod rows;
 
 use crate::answer::{is_answer, none_differs};

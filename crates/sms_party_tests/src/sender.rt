@@ -1,5 +1,6 @@
 //! What a sending phone answers, and the packets that it puts out.
 
+mod growths;
 mod rows;
 
 use crate::answer::{is_answer, is_so, none_differs};

@@ -22,7 +22,7 @@ some_address : (a : RelayAddressValue) → HasRelaySpelling a → length (relay_
 unfolding relay_address_octets
 some_address a fits = omega (arith, fits.digits.few, length-digit_octets a.digits)
 
-address_size : (a : Option RelayAddressValue) → HasOptionalSpelling a → length (optional_address_octets a) ≤ 12
+pub address_size : (a : Option RelayAddressValue) → HasOptionalSpelling a → length (optional_address_octets a) ≤ 12
 address_size None fits = omega arith
 address_size (Some a) fits = some_address a fits
 

@@ -3,6 +3,7 @@ pub mod CarriedLaws
 pub mod CpLaws
 pub mod FaultLaws
 pub mod OneRefusalLaws
+pub mod Opened
 pub mod ReadOctetLaws
 pub mod RpLaws
 pub mod TypeLaws

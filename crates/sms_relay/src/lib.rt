@@ -9,6 +9,7 @@ mod fault;
 mod inner;
 pub mod laws;
 pub mod limits;
+mod packet;
 mod rp;
 mod rp_kind;
 mod side;
@@ -30,6 +31,6 @@ pub use transaction::Transaction;
 pub use unwrapping::{unwrap, unwrap_view};
 pub use user::USER_DATA_MAX;
 pub use wrap::{
-    wrap_acknowledgement, wrap_answer, wrap_answer_octets, wrap_transfer, wrap_transfer_octets,
-    wrap_written_transfer,
+    wrap_acknowledgement, wrap_acknowledgement_in, wrap_answer, wrap_answer_in, wrap_answer_octets,
+    wrap_transfer, wrap_transfer_in, wrap_transfer_octets, wrap_written_in, wrap_written_transfer,
 };

@@ -126,12 +126,12 @@ fn put_body(out: &mut Vec<u8>, side: Side, body: &RpBody) -> Result<(), AllocErr
 }
 
 /// Room for a message.
-pub(crate) fn room_for_message(message: &RpMessage) -> usize {
+fn room_for_message(message: &RpMessage) -> usize {
     room_for_body(&message.body).saturating_add(2)
 }
 
 /// Adds the octets of a message.
-pub(crate) fn put_message(out: &mut Vec<u8>, message: &RpMessage) -> Result<(), AllocError>
+fn put_message(out: &mut Vec<u8>, message: &RpMessage) -> Result<(), AllocError>
     ensures valid { IsRpMessage message.now }
     ensures added { OnOk result (out.new.items ≡ out.old.items ++ rp_octets message.now) }
 {

@@ -16,7 +16,7 @@ use std::alloc::AllocError;
 pub const USER_DATA_MAX: u8 = 233;
 
 /// The octet before user data that may be left out.
-const USER_DATA_TAG: u8 = 0x41;
+pub const USER_DATA_TAG: u8 = 0x41;
 
 /// The next octets, as many as are counted.
 pub fn octets_at<'a>(input: &mut Cursor<'a>, count: u8) -> Result<OctetsView<'a>, Fault<RelayFault>>
@@ -67,14 +67,21 @@ pub fn room_for_user_data(user: &Option<Octets>) -> usize
     }
 }
 
+/// Adds these octets as user data, with their length before them.
+pub fn put_octets(out: &mut Vec<u8>, octets: &[u8]) -> Result<(), AllocError>
+    requires { length octets.now ≤ USER_DATA_MAX }
+    ensures { OnOk result (out.new.items ≡ out.old.items ++ user_octets octets.now) }
+{
+    out.push(octets.len() as u8)?;
+    out.extend_from_slice(octets)
+}
+
 /// Adds user data, with their length before them.
 pub fn put_user_data(out: &mut Vec<u8>, user: &Octets) -> Result<(), AllocError>
     requires { IsUserData user.now }
     ensures { OnOk result (out.new.items ≡ out.old.items ++ user_octets user.now) }
 {
-    let octets = user.as_slice();
-    out.push(octets.len() as u8)?;
-    out.extend_from_slice(octets)
+    put_octets(out, user.as_slice())
 }
 
 /// Adds user data after their tag, where there are any.

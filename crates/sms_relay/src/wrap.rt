@@ -2,76 +2,21 @@
 
 ghost use Rattle.std.specs.Prelude.{◌≡◌, ◌<◌, ◌↔◌, ℕ, List, length, Option, Some, Err, IfOk, IsSomeAnd, option_copied};
 ghost use Rattle.std.specs.Option.{ForSome};
-ghost use Rattle.sms_relay.specs.Rp.UserData.{IsUserData};
-ghost use Rattle.sms_relay.specs.Carried.{acknowledgement, transfer, answer, relay_of, CarriesRelay, Carries, SpellsOptional};
+ghost use Rattle.sms_relay.specs.Carried.{acknowledgement, transfer, answer, Carries, SpellsOptional};
 ghost use Rattle.sms_relay.specs.declared.fault.WrapFault.TheVariants.{DataTooLong};
 
-use crate::cp::{CpBody, CpMessage};
 use crate::cp_kind::CpKind;
 use crate::fault::WrapFault;
-use crate::rp::{RpBody, RpMessage, put_message, room_for_message};
+use crate::packet::{
+    PACKET_MAX, answer_begun, emptied, room_for, transfer_begun, with_octets, with_some_octets,
+    with_some_unit, with_unit,
+};
 use crate::side::Side;
 use crate::transaction::Transaction;
 use crate::user::USER_DATA_MAX;
 use sms_field::RpAddress;
-use sms_tpdu::{Octets, Unit};
+use sms_tpdu::Unit;
 use std::alloc::{AllocError, Global};
-
-/// The octets of a unit, if they are not too many for user data.
-fn octets_of_unit<U: Unit>(alloc: Global, unit: &U) -> Result<Octets, WrapFault>
-    ensures spelled { IfOk result (λ octets. U.spells unit.now octets × IsUserData octets) }
-    ensures too_long { result ≡ Err DataTooLong →
-        (octets : List ℕ) × U.spells unit.now octets × (USER_DATA_MAX < length octets) }
-{
-    let octets = unit.write(alloc)?;
-    if octets.len() > USER_DATA_MAX as usize {
-        return Err(WrapFault::DataTooLong);
-    }
-    Ok(Octets::new(octets))
-}
-
-/// The octets of a CP-DATA around an RP message.
-fn wrap_message(
-    alloc: Global,
-    flag: bool,
-    value: u8,
-    message: RpMessage,
-) -> Result<Vec<u8>, AllocError>
-    requires { value < 7 }
-    ensures { IfOk result (λ packet. CarriesRelay flag value (Some message) packet.items) }
-{
-    let transaction = Transaction { flag, value };
-    let front = [transaction.to_octet(), CpKind::Data.to_octet(), 0];
-    let room = room_for_message(&message).saturating_add(front.len());
-    let mut packet = Vec::with_capacity(alloc, room)?;
-    packet.extend_from_slice(&front)?;
-    put_message(&mut packet, &message)?;
-    packet[2] = (packet.len() - front.len()) as u8;
-    Ok(packet)
-}
-
-/// An RP-DATA with these octets, and with an address of its own.
-fn transfer_of(
-    alloc: Global,
-    side: Side,
-    reference: u8,
-    address: Option<&RpAddress>,
-    user: Octets,
-) -> Result<RpMessage, AllocError>
-    requires { IsUserData user }
-    ensures { IfOk result (λ message.
-        relay_of (transfer side reference (option_copied address.entry) user) ≡ Some message) }
-{
-    let address = match address {
-        Some(address) => Some(address.copy(alloc)?),
-        None => None,
-    };
-    Ok(RpMessage {
-        side,
-        reference,
-        body: RpBody::Transfer { address, user },
-    })
-}
 
 /// The octets of a CP-ACK.
 ///
@@ -82,12 +27,20 @@ pub fn wrap_acknowledgement(alloc: Global, flag: bool, value: u8) -> Result<Vec<
     requires { value < 7 }
     ensures { IfOk result (λ packet. Carries flag value acknowledgement packet.items) }
 {
-    let packet = CpMessage {
-        flag,
-        value,
-        body: CpBody::Ack,
-    };
-    packet.write(alloc)
+    wrap_acknowledgement_in(Vec::new(alloc), flag, value)
+}
+
+/// The octets of a CP-ACK, as `wrap_acknowledgement` has them, written in the room of a list:
+/// whatever stood in it is gone.
+pub fn wrap_acknowledgement_in(room: Vec<u8>, flag: bool, value: u8) -> Result<Vec<u8>, AllocError>
+    requires { value < 7 }
+    ensures { IfOk result (λ packet. Carries flag value acknowledgement packet.items) }
+{
+    let transaction = Transaction { flag, value };
+    let octets = [transaction.to_octet(), CpKind::Ack.to_octet()];
+    let mut packet = emptied(room, octets.len())?;
+    packet.extend_from_slice(&octets)?;
+    Ok(packet)
 }
 
 /// The octets of a CP-DATA around an RP-DATA around a unit.
@@ -113,35 +66,35 @@ pub fn wrap_transfer<U: Unit>(
     ensures too_long { result ≡ Err DataTooLong →
         (octets : List ℕ) × U.spells unit.now octets × (USER_DATA_MAX < length octets) }
 {
-    let user = octets_of_unit(alloc, unit)?;
-    let message = transfer_of(alloc, side, reference, address, user)?;
-    Ok(wrap_message(alloc, flag, value, message)?)
+    wrap_transfer_in(Vec::new(alloc), flag, value, side, reference, address, unit)
 }
 
-/// A copy of octets, if they are not too many for user data.
-fn user_data_of(alloc: Global, octets: &[u8]) -> Result<Octets, WrapFault>
-    ensures copied { IfOk result (λ user. (user ≡ octets.now) × IsUserData user) }
-    ensures too_long { (result ≡ Err DataTooLong) ↔ (USER_DATA_MAX < length octets.now) }
+/// The octets of a CP-DATA around an RP-DATA around a unit, as `wrap_transfer` has them, written in
+/// the room of a list: whatever stood in it is gone. The unit is written straight into the packet.
+///
+/// `DataTooLong` comes only where the unit has more than 233 octets.
+pub fn wrap_transfer_in<U: Unit>(
+    room: Vec<u8>,
+    flag: bool,
+    value: u8,
+    side: Side,
+    reference: u8,
+    address: Option<&RpAddress>,
+    unit: &U,
+) -> Result<Vec<u8>, WrapFault>
+    requires { value < 7 }
+    ensures carried { IfOk result (λ packet. (octets : List ℕ) × U.spells unit.now octets ×
+        Carries flag value (transfer side reference (option_copied address.entry) octets)
+        packet.items) }
+    ensures too_long { result ≡ Err DataTooLong →
+        (octets : List ℕ) × U.spells unit.now octets × (USER_DATA_MAX < length octets) }
 {
-    if usize::from(USER_DATA_MAX) < octets.len() {
-        return Err(WrapFault::DataTooLong);
-    }
-    Ok(Octets::from_slice(alloc, octets)?)
+    let packet = emptied(room, PACKET_MAX)?;
+    let packet = transfer_begun(packet, flag, value, side, reference, address)?;
+    with_unit(packet, unit)
 }
 
-/// Octets as user data, if they are not too many. They are moved, not copied.
-fn user_data_from(octets: Vec<u8>) -> Result<Octets, WrapFault>
-    ensures moved { IfOk result (λ user. (user ≡ octets.items) × IsUserData user) }
-    ensures too_long { (result ≡ Err DataTooLong) ↔ (USER_DATA_MAX < length octets.items) }
-{
-    if usize::from(USER_DATA_MAX) < octets.len() {
-        return Err(WrapFault::DataTooLong);
-    }
-    Ok(Octets::new(octets))
-}
-
-/// The octets of a CP-DATA around an RP-DATA around these octets, which are not looked at. They are
-/// moved, where `wrap_transfer_octets` copies them.
+/// The octets of a CP-DATA around an RP-DATA around these octets, which are not looked at.
 ///
 /// The flag and the value are those of the transaction identifier (3GPP TS 24.011, 8.1.2). The flag
 /// is false from the side that opened the transaction, and true from the other; the value is 0 to
@@ -163,9 +116,15 @@ pub fn wrap_written_transfer(
         packet.items) }
     ensures too_long { (result ≡ Err DataTooLong) ↔ (USER_DATA_MAX < length octets.items) }
 {
-    let user = user_data_from(octets)?;
-    let message = transfer_of(alloc, side, reference, address, user)?;
-    Ok(wrap_message(alloc, flag, value, message)?)
+    wrap_written_in(
+        Vec::new(alloc),
+        flag,
+        value,
+        side,
+        reference,
+        address,
+        &octets,
+    )
 }
 
 /// The octets of a CP-DATA around an RP-DATA around these octets, which are not looked at.
@@ -190,44 +149,39 @@ pub fn wrap_transfer_octets(
         packet.items) }
     ensures too_long { (result ≡ Err DataTooLong) ↔ (USER_DATA_MAX < length octets.now) }
 {
-    let user = user_data_of(alloc, octets)?;
-    let message = transfer_of(alloc, side, reference, address, user)?;
-    Ok(wrap_message(alloc, flag, value, message)?)
-}
-
-/// The octets of a unit, if there is one and they are not too many for user data.
-fn octets_of_some<U: Unit>(alloc: Global, unit: Option<&U>) -> Result<Option<Octets>, WrapFault>
-    ensures spelled { IfOk result (λ octets.
-        SpellsOptional U.spells (option_copied unit.entry) octets × ForSome octets IsUserData) }
-    ensures too_long { result ≡ Err DataTooLong → (octets : List ℕ) ×
-        SpellsOptional U.spells (option_copied unit.entry) (Some octets)
-        × (USER_DATA_MAX < length octets) }
-{
-    match unit {
-        Some(unit) => Ok(Some(octets_of_unit(alloc, unit)?)),
-        None => Ok(None),
-    }
-}
-
-/// The RP-ACK or RP-ERROR with these octets.
-fn answer_of(side: Side, reference: u8, cause: Option<u8>, user: Option<Octets>) -> RpMessage
-    requires cause { ForSome cause (λ c. c < 128) }
-    requires user { ForSome user IsUserData }
-    ensures { relay_of (answer side reference cause user) ≡ Some result }
-{
-    let body = match cause {
-        Some(cause) => RpBody::Fail {
-            cause,
-            diagnostic: None,
-            user,
-        },
-        None => RpBody::Ack { user },
-    };
-    RpMessage {
+    wrap_written_in(
+        Vec::new(alloc),
+        flag,
+        value,
         side,
         reference,
-        body,
-    }
+        address,
+        octets,
+    )
+}
+
+/// The octets of a CP-DATA around an RP-DATA around these octets, as `wrap_transfer_octets` has
+/// them, written in the room of a list: whatever stood in it is gone.
+///
+/// `DataTooLong` comes exactly where there are more than 233 octets.
+pub fn wrap_written_in(
+    room: Vec<u8>,
+    flag: bool,
+    value: u8,
+    side: Side,
+    reference: u8,
+    address: Option<&RpAddress>,
+    octets: &[u8],
+) -> Result<Vec<u8>, WrapFault>
+    requires { value < 7 }
+    ensures carried { IfOk result (λ packet.
+        Carries flag value (transfer side reference (option_copied address.entry) octets.now)
+        packet.items) }
+    ensures too_long { (result ≡ Err DataTooLong) ↔ (USER_DATA_MAX < length octets.now) }
+{
+    let packet = emptied(room, room_for(Some(octets))?)?;
+    let packet = transfer_begun(packet, flag, value, side, reference, address)?;
+    Ok(with_octets(packet, octets)?)
 }
 
 /// The octets of a CP-DATA around the answer to a transfer, and a unit if it has one: an RP-ACK, or
@@ -256,22 +210,35 @@ pub fn wrap_answer<U: Unit>(
         SpellsOptional U.spells (option_copied unit.entry) (Some octets)
         × (USER_DATA_MAX < length octets) }
 {
-    let user = octets_of_some(alloc, unit)?;
-    let message = answer_of(side, reference, cause, user);
-    Ok(wrap_message(alloc, flag, value, message)?)
+    wrap_answer_in(Vec::new(alloc), flag, value, side, reference, cause, unit)
 }
 
-/// A copy of octets, if there are any and they are not too many for user data.
-fn user_data_of_some(alloc: Global, octets: Option<&[u8]>) -> Result<Option<Octets>, WrapFault>
-    ensures copied { IfOk result (λ user.
-        (user ≡ option_copied octets.entry) × ForSome user IsUserData) }
-    ensures too_long { (result ≡ Err DataTooLong)
-        ↔ IsSomeAnd (option_copied octets.entry) (λ o. USER_DATA_MAX < length o) }
+/// The octets of a CP-DATA around the answer to a transfer, and a unit if it has one, as
+/// `wrap_answer` has them, written in the room of a list: whatever stood in it is gone. The unit is
+/// written straight into the packet.
+///
+/// `DataTooLong` comes only where the unit has more than 233 octets.
+pub fn wrap_answer_in<U: Unit>(
+    room: Vec<u8>,
+    flag: bool,
+    value: u8,
+    side: Side,
+    reference: u8,
+    cause: Option<u8>,
+    unit: Option<&U>,
+) -> Result<Vec<u8>, WrapFault>
+    requires value { value < 7 }
+    requires cause { ForSome cause (λ c. c < 128) }
+    ensures carried { IfOk result (λ packet. (octets : Option (List ℕ)) ×
+        SpellsOptional U.spells (option_copied unit.entry) octets ×
+        Carries flag value (answer side reference cause octets) packet.items) }
+    ensures too_long { result ≡ Err DataTooLong → (octets : List ℕ) ×
+        SpellsOptional U.spells (option_copied unit.entry) (Some octets)
+        × (USER_DATA_MAX < length octets) }
 {
-    match octets {
-        Some(octets) => Ok(Some(user_data_of(alloc, octets)?)),
-        None => Ok(None),
-    }
+    let packet = emptied(room, PACKET_MAX)?;
+    let packet = answer_begun(packet, flag, value, side, reference, cause)?;
+    with_some_unit(packet, unit)
 }
 
 /// The octets of a CP-DATA around the answer to a transfer, and these octets if there are any,
@@ -299,7 +266,7 @@ pub fn wrap_answer_octets(
     ensures too_long { (result ≡ Err DataTooLong)
         ↔ IsSomeAnd (option_copied octets.entry) (λ o. USER_DATA_MAX < length o) }
 {
-    let user = user_data_of_some(alloc, octets)?;
-    let message = answer_of(side, reference, cause, user);
-    Ok(wrap_message(alloc, flag, value, message)?)
+    let packet = Vec::with_capacity(alloc, room_for(octets)?)?;
+    let packet = answer_begun(packet, flag, value, side, reference, cause)?;
+    Ok(with_some_octets(packet, octets)?)
 }

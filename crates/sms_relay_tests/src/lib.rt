@@ -8,6 +8,8 @@ mod hostile;
 #[cfg(test)]
 mod packets;
 #[cfg(test)]
+mod rooms;
+#[cfg(test)]
 mod shared;
 #[cfg(test)]
 mod written;

@@ -95,15 +95,20 @@ impl<C: ReportPart, S: ReportStamp> Unit for Report<C, S> {
     }
 
     fn write(&self, alloc: Global) -> Result<Vec<u8>, AllocError> {
-        let there = indicator_of(self.pid, self.dcs, &self.user);
         let room = room_for_parts(&self.user).saturating_add(FRONT_MAX);
         let mut out = Vec::with_capacity(alloc, room)?;
-        out.push(S::first_octet(self.has_header))?;
-        self.cause.put(&mut out)?;
-        out.push(there.to_octet())?;
-        self.stamp.put(&mut out)?;
-        put_parts(&mut out, self.pid, self.dcs, &self.user)?;
+        self.write_to(&mut out)?;
         Ok(out)
+    }
+
+    fn write_to(&self, out: &mut Vec<u8>) -> Result<(), AllocError> {
+        let there = indicator_of(self.pid, self.dcs, &self.user);
+        out.push(S::first_octet(self.has_header))?;
+        self.cause.put(out)?;
+        out.push(there.to_octet())?;
+        self.stamp.put(out)?;
+        put_parts(out, self.pid, self.dcs, &self.user)?;
+        Ok(())
     }
 
     ghost laws = { report_laws S.first C.part S.part S.first_laws C.part_laws S.part_laws };

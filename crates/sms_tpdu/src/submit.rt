@@ -131,9 +131,14 @@ impl Unit for Submit {
     fn write(&self, alloc: Global) -> Result<Vec<u8>, AllocError> {
         let room = room_for_user_data(&self.user).saturating_add(FRONT_MAX);
         let mut out = Vec::with_capacity(alloc, room)?;
-        self.put_front(&mut out)?;
-        put_user_data(&mut out, &self.user)?;
+        self.write_to(&mut out)?;
         Ok(out)
+    }
+
+    fn write_to(&self, out: &mut Vec<u8>) -> Result<(), AllocError> {
+        self.put_front(out)?;
+        put_user_data(out, &self.user)?;
+        Ok(())
     }
 
     ghost laws = { submit_laws };

@@ -1,6 +1,6 @@
 //! What every unit has: it is read and written, and what is written is read back.
 
-ghost use Rattle.std.specs.Prelude.{◌≡◌, ℕ, List, [], IfOk, IfErr};
+ghost use Rattle.std.specs.Prelude.{◌≡◌, ◌++◌, ℕ, List, [], IfOk, IfErr, OnOk};
 ghost use Rattle.sms_field.specs.Field.{Field};
 ghost use Rattle.sms_field.specs.Reading.Answer.{Takes};
 ghost use Rattle.sms_field.specs.Reading.{Reads, IsRefused};
@@ -34,6 +34,16 @@ pub trait Unit: Sized + Drop {
     /// The octets of the unit. Only want of memory can prevent it.
     fn write(&self, alloc: Global) -> Result<Vec<u8>, AllocError>
         ensures { IfOk result (λ octets. spells self.now octets.items) };
+
+    /// Adds the octets of the unit. Only want of memory can prevent it; some may have been added
+    /// then.
+    fn write_to(&self, out: &mut Vec<u8>) -> Result<(), AllocError>
+        ensures { OnOk result ((octets : List ℕ) × spells self.now octets
+            × (out.new.items ≡ out.old.items ++ octets)) }
+    {
+        let octets = self.write(*out.allocator())?;
+        out.extend_from_slice(&octets)
+    }
 
     /// The field is lawful; what is written are octets, and is read back.
     ghost laws: { AreUnitLaws Self.Why.short field spells may_follow };

@@ -1,6 +1,6 @@
-//! One growth is refused, whichever it is (docs/CONTRIBUTING.md says how). Two tests ask once, and
-//! so fail for each growth that there is; two ask once more, and want the answer that ample memory
-//! gives.
+//! One growth is refused, whichever it is (docs/CONTRIBUTING.md says how). Three tests ask once,
+//! and so fail for each growth that there is; three ask once more, and want the answer that ample
+//! memory gives.
 
 ghost use Rattle.std.specs.Prelude.{IfOk};
 ghost use Rattle.sms_field.specs.Coding.{alphabet_at};
@@ -80,10 +80,10 @@ fn is_submission(octets: &[u8]) -> bool {
     }
 }
 
-/// Whether the submission is written, from a telephone number and a text.
-fn is_written(alloc: Global) -> Result<bool, AllocError> {
+/// The submission, of a telephone number and a text.
+fn submission(alloc: Global) -> Result<Submit, AllocError> {
     let target = Address::from_text(alloc, "+46708251358").map_err(|_| AllocError)?;
-    let submit = Submit {
+    Ok(Submit {
         reject: false,
         validity: Validity::Relative(170),
         report: false,
@@ -93,9 +93,25 @@ fn is_written(alloc: Global) -> Result<bool, AllocError> {
         pid: 0,
         dcs: 0,
         user: letters(alloc)?,
-    };
+    })
+}
+
+/// Whether the submission is written.
+fn is_written(alloc: Global) -> Result<bool, AllocError> {
+    let submit = submission(alloc)?;
     let octets = submit.write(alloc)?;
     Ok(is_submission(&octets))
+}
+
+/// Whether the submission is added to an octet, which stays.
+fn is_added(alloc: Global) -> Result<bool, AllocError> {
+    let submit = submission(alloc)?;
+    let mut octets = Vec::from_slice(alloc, &[7])?;
+    submit.write_to(&mut octets)?;
+    match octets.split_first() {
+        Some((first, added)) => Ok(*first == 7 && is_submission(added)),
+        None => Ok(false),
+    }
 }
 
 #[test]
@@ -129,5 +145,22 @@ fn writes_160_letters_after_a_refused_growth(rt: HostRuntime) -> Result<(), Fail
         Err(_) => is_written(rt.alloc())?,
     };
     holds(&rt, &"160 letters", written);
+    Ok(())
+}
+
+#[test]
+fn adds_160_letters(rt: HostRuntime) -> Result<(), Fail> {
+    let added = is_added(rt.alloc())?;
+    holds(&rt, &"160 letters", added);
+    Ok(())
+}
+
+#[test]
+fn adds_160_letters_after_a_refused_growth(rt: HostRuntime) -> Result<(), Fail> {
+    let added = match is_added(rt.alloc()) {
+        Ok(added) => added,
+        Err(_) => is_added(rt.alloc())?,
+    };
+    holds(&rt, &"160 letters", added);
     Ok(())
 }

@@ -10,7 +10,7 @@ use Rattle.sms_party.specs.Sent.{Place, Centre, Phone, Sent}
 use Rattle.sms_script.specs.Transcript.Lines.{PacketValue}
 use Rattle.sms_world.specs.declared.fault.WorldFault.{WorldFault}
 use Rattle.sms_world.specs.declared.fault.WorldFault.TheVariants.{NoSuchPacket, NoSuchPhone, ClockEnd, Party}
-use Rattle.sms_world.specs.declared.world.sent_packet.Way.{Way}
+use Rattle.sms_world.specs.declared.world.way.Way.{Way}
 use Rattle.sms_world.specs.Told.{Told}
 use Rattle.sms_world.specs.Ledger.{Mark, Submits, Delivers, Neither, mark_at, called, Ledger, AreAlike}
 use Rattle.sms_world.specs.Noted.{Facts, neithers, with_marks, sender_noted, delivery_noted, other_noted, carry_noted, noted}

@@ -17,7 +17,7 @@ use Rattle.sms_centre.specs.Centre.State.{Acceptance}
 use Rattle.sms_centre.specs.Centre.Held.{next_stamp}
 use Rattle.sms_party.specs.Sent.{nth, Place, Centre, Phone, Sent}
 use Rattle.sms_party.specs.Sender.Texts.{Text, Sender, size_of}
-use Rattle.sms_world.specs.declared.world.sent_packet.Way.{Way}
+use Rattle.sms_world.specs.declared.world.way.Way.{Way}
 use Rattle.sms_world.specs.Claims.Pieces.{IsUnderWay, EachHasItsPiece}
 use Rattle.sms_world.specs.Ledger.{Mark, mark_of, message_mark, mark_at, TextNote, note_of, SenderNote, SenderNoted, Ledger, IsLedgerOf}
 use Rattle.sms_world.specs.Machine.{Machine}

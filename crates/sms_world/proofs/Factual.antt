@@ -20,7 +20,7 @@ use Rattle.sms_party.specs.Sender.Putting.{Puts, puts, puts_first, puts_text, se
 use Rattle.sms_party.specs.Sender.Calls.{appended, composes, typed}
 use Rattle.sms_script.specs.Transcript.Lines.{PacketValue}
 use Rattle.sms_world.specs.declared.fault.WorldFault.TheVariants.{NoSuchPhone}
-use Rattle.sms_world.specs.declared.world.sent_packet.Way.{Way}
+use Rattle.sms_world.specs.declared.world.way.Way.{Way}
 use Rattle.sms_world.specs.Told.{Told, of_party}
 use Rattle.sms_world.specs.Ledger.{TextNote, note_of}
 use Rattle.sms_world.specs.Noted.{Facts, AreFacts}

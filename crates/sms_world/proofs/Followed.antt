@@ -12,7 +12,7 @@ use Rattle.sms_world.specs.declared.fault.WorldFault.TheVariants.{Party}
 use Rattle.sms_world.specs.declared.order.Breach.{Breach}
 use Rattle.sms_world.specs.declared.order.Disorder.{Disorder}
 use Rattle.sms_world.specs.declared.order.TextSegment.{TextSegment}
-use Rattle.sms_world.specs.declared.world.sent_packet.Way.{Way}
+use Rattle.sms_world.specs.declared.world.way.Way.{Way}
 use Rattle.sms_world.specs.Inside.Below.{Below}
 use Rattle.sms_world.specs.Breaches.{repeat_breach, marked_breach, breach_at, segment_at, IsTold, Watches, breach_after, WatchingGoesOn}
 use Rattle.sms_world.specs.Inside.Followed.{IsFollowed, ComesInOrder, Follows}

@@ -4,6 +4,7 @@ pub mod Aged
 pub mod Characters
 pub mod Replaced
 pub mod Ways
+pub mod Copied
 pub mod Answering
 pub mod Packets
 pub mod Happening

@@ -18,7 +18,7 @@ use Rattle.sms_world.specs.declared.doubt.Doubt.{Doubt}
 use Rattle.sms_world.specs.declared.doubt.Ground.{Ground}
 use Rattle.sms_world.specs.declared.doubt.Ground.TheVariants.{AnswerToAnother, ReferenceUsedAgain, Injected}
 use Rattle.sms_world.specs.declared.traces.TraceNotes.{TraceNotes}
-use Rattle.sms_world.specs.declared.world.sent_packet.Way.{Way}
+use Rattle.sms_world.specs.declared.world.way.Way.{Way}
 use Rattle.sms_world.specs.Accepted.{IsHonestAt}
 use Rattle.sms_world.specs.Determined.{RunsAreDetermined}
 use Rattle.sms_world.specs.Doubts.{IsHonest, HonestRun, Shakes, FirstDoubt, IsMeant}

@@ -3,7 +3,7 @@ use Rattle.std.proofs.Common.{◌≡◌, ℕ, zero, suc, ◌<◌, Bool, true, fa
 use Rattle.sms_join.specs.UnitsOfText.{IsText}
 use Rattle.sms_party.specs.Sender.Texts.{width_of}
 use Rattle.sms_party.specs.Sent.{Sent}
-use Rattle.sms_world.specs.declared.world.sent_packet.Way.{Way}
+use Rattle.sms_world.specs.declared.world.way.Way.{Way}
 use Rattle.sms_world.specs.Inside.Below.{Below}
 use Rattle.sms_world.specs.Machine.{Machine}
 use Rattle.sms_world.specs.Machine.Event.{Event, Compose, Carry, Timeout, Push, Tick, Inject, TypesText, MovesPacket, EndsWait, HandsOver}

@@ -6,6 +6,7 @@ pub mod NotesValue
 pub mod Parties
 pub mod Phones
 pub mod Rows
+pub mod SentPackets
 pub mod Tables
 pub mod TraceValue
 pub mod TraceFollowed

@@ -19,7 +19,7 @@ use crate::traces::TraceNotes;
 use crate::traces::trace::{Brought, brought_by};
 use crate::watched::WatchedWorld;
 use crate::world::World;
-use crate::world::sent_packet::Way;
+use crate::world::way::Way;
 use sms_field::Address;
 use sms_message::{Dropped, Outcome};
 use sms_script::{Event, Limits};

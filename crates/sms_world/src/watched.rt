@@ -23,7 +23,7 @@ use crate::notes::Notes;
 use crate::notes::mark::{Facts, TextNote};
 use crate::order::Breach;
 use crate::world::World;
-use crate::world::sent_packet::Way;
+use crate::world::way::Way;
 use sms_field::Address;
 use sms_message::Outcome;
 use sms_script::{Event, Limits};

@@ -1,14 +1,13 @@
 //! A world of phones, the centre, and all packets.
 
 mod parties;
-pub(crate) mod sent_packet;
+mod sent_packets;
+pub(crate) mod way;
 
 ghost use Rattle.std.specs.Prelude.{◌≡◌, ◌≢◌, ◌≤◌, ◌<◌, ◌-◌, ◌+◌, ◌++◌, IfOk, IfSome, OnErr, length, slice_get};
 ghost use Rattle.std.specs.Str.{chars};
-ghost use Rattle.std.specs.Vec.{vec_len, vec_capacity};
 ghost use Rattle.std.specs.Option.{option_map};
 ghost use Rattle.sms_field.specs.Time.Computed.{end_of_2099};
-ghost use Rattle.sms_message.specs.Does.{packets_of};
 ghost use Rattle.sms_party.specs.Sender.Value.{status_among};
 ghost use Rattle.sms_script.specs.Meaning.Known.{ArePhones};
 ghost use Rattle.sms_script.specs.Play.Runs.{IsTick};
@@ -23,7 +22,6 @@ ghost use Rattle.sms_message.specs.Address.{phone_at};
 ghost use Rattle.sms_world.specs.World.Asked.{newest_at};
 ghost use Rattle.sms_world.specs.Inside.Asked.{way_at, way_at_phone, way_of_packet};
 ghost use Rattle.sms_world.specs.World.Parties.{place_at};
-ghost use Rattle.sms_world.specs.Inside.Parties.{on_way};
 ghost use Rattle.sms_world.specs.World.Phones.{store_in, statuses_at};
 ghost use Rattle.sms_world.specs.World.Standing.{StandsFor, ComesOfRun};
 ghost use Rattle.sms_world.specs.World.Claims.{StoresAreWhole, RefusesOnlyWhereFull};
@@ -34,9 +32,10 @@ ghost use Rattle.sms_world.specs.World.Steps.{GivesPacket, GivesStore, GivesStat
 use crate::fault::WorldFault;
 use crate::laws::{claims_hold, deliveries_are_refused_only_where_full, laws_below};
 use crate::world::parties::Parties;
-use crate::world::sent_packet::{SentPacket, Way};
+use crate::world::sent_packets::SentPackets;
+use crate::world::way::Way;
 use sms_field::{Address, END_OF_2099};
-use sms_message::{Dropped, Outcome, Step};
+use sms_message::{Dropped, Outcome, Spare};
 use sms_party::{Entry, Status};
 use sms_script::{Event, Limits, Packet};
 use std::alloc::{AllocError, Global};
@@ -50,7 +49,9 @@ pub struct World {
     limits: Limits,
     clock: u64,
     parties: Parties,
-    packets: Vec<SentPacket>,
+    packets: SentPackets,
+    /// Lists that packets came in, for those that are put out next.
+    spare: Spare,
 }
 
 impl Model for World {
@@ -89,7 +90,8 @@ impl World {
             limits,
             clock: 0,
             parties: Parties::new(alloc, limits, phones)?,
-            packets: Vec::new(alloc),
+            packets: SentPackets::new(alloc),
+            spare: Spare::new(alloc),
         })
     }
 
@@ -162,9 +164,11 @@ impl World {
         if phone >= self.parties.count() {
             return Err(WorldFault::NoSuchPhone);
         }
-        make_room(&mut self.packets)?;
-        let step = self.parties.type_text(phone, target, text)?;
-        Ok(keep(&mut self.packets, true, phone, step))
+        self.packets.make_room()?;
+        let step = self
+            .parties
+            .type_text(&mut self.spare, phone, target, text)?;
+        Ok(self.packets.keep(&mut self.spare, true, phone, step))
     }
 
     /// A packet comes to its destination.
@@ -179,12 +183,13 @@ impl World {
         if number == 0 || number > self.packets.len() as u64 {
             return Err(WorldFault::NoSuchPacket);
         }
-        make_room(&mut self.packets)?;
-        let packet = &self.packets[number as usize - 1];
+        self.packets.make_room()?;
+        let packet = self.packets.at(number as usize - 1);
         let (up, phone) = (packet.up, packet.phone);
-        let octets = packet.octets.as_slice();
-        let step = self.parties.receive(self.clock, up, phone, octets)?;
-        Ok(keep(&mut self.packets, !up, phone, step))
+        let step = self
+            .parties
+            .receive(&mut self.spare, self.clock, up, phone, packet.octets)?;
+        Ok(self.packets.keep(&mut self.spare, !up, phone, step))
     }
 
     /// A phone has waited long enough for an answer.
@@ -199,9 +204,9 @@ impl World {
         if phone >= self.parties.count() {
             return Err(WorldFault::NoSuchPhone);
         }
-        make_room(&mut self.packets)?;
-        let step = self.parties.timeout(phone)?;
-        Ok(keep(&mut self.packets, true, phone, step))
+        self.packets.make_room()?;
+        let step = self.parties.timeout(&mut self.spare, phone)?;
+        Ok(self.packets.keep(&mut self.spare, true, phone, step))
     }
 
     /// The centre hands a message to a phone.
@@ -216,9 +221,9 @@ impl World {
         if phone >= self.parties.count() {
             return Err(WorldFault::NoSuchPhone);
         }
-        make_room(&mut self.packets)?;
-        let step = self.parties.push(self.clock, phone)?;
-        Ok(keep(&mut self.packets, false, phone, step))
+        self.packets.make_room()?;
+        let step = self.parties.push(&mut self.spare, self.clock, phone)?;
+        Ok(self.packets.keep(&mut self.spare, false, phone, step))
     }
 
     /// The clock moves on by some seconds. It takes no memory.
@@ -248,9 +253,11 @@ impl World {
         if phone >= self.parties.count() {
             return Err(WorldFault::NoSuchPhone);
         }
-        make_room(&mut self.packets)?;
-        let step = self.parties.receive(self.clock, up, phone, octets)?;
-        Ok(keep(&mut self.packets, !up, phone, step))
+        self.packets.make_room()?;
+        let step = self
+            .parties
+            .receive(&mut self.spare, self.clock, up, phone, octets)?;
+        Ok(self.packets.keep(&mut self.spare, !up, phone, step))
     }
 
     /// The octets of the packet of this number, if as many were put out. It takes no memory.
@@ -263,7 +270,7 @@ impl World {
         if number == 0 || number > self.packets.len() as u64 {
             return None;
         }
-        Some(self.packets[number as usize - 1].octets.as_slice())
+        Some(self.packets.at(number as usize - 1).octets)
     }
 
     /// How many packets were ever put out.
@@ -278,12 +285,7 @@ impl World {
         requires { 1 ≤ number }
         ensures { option_map shown result ≡ slice_get self.now.packets (number - 1) }
     {
-        let packet = self.packets.get(number - 1)?;
-        Some(Packet {
-            up: packet.up,
-            phone: packet.phone,
-            octets: packet.octets.as_slice(),
-        })
+        self.packets.get(number - 1)
     }
 
     /// The texts that came to a phone, in order of completion. The phone must be one of the
@@ -352,7 +354,7 @@ impl World {
         if number == 0 || number > self.packets.len() as u64 {
             return None;
         }
-        let packet = &self.packets[number as usize - 1];
+        let packet = self.packets.at(number as usize - 1);
         Some(Way {
             up: packet.up,
             phone: packet.phone,
@@ -403,24 +405,4 @@ impl World {
         claims_hold();
         self.parties.status(phone, number)
     }
-}
-
-/// Makes room for the packets of a step, two at most. If memory runs out, nothing has changed.
-fn make_room(packets: &mut Vec<SentPacket>) -> Result<(), AllocError>
-    ensures items { packets.new.items ≡ packets.old.items }
-    ensures room { IfOk result (λ _. vec_len packets.new + 2 ≤ vec_capacity packets.new) }
-{
-    packets.reserve(2)
-}
-
-/// Keeps the packets of a step, for which there is room.
-fn keep(packets: &mut Vec<SentPacket>, up: bool, phone: usize, step: Step) -> Outcome
-    requires { vec_len packets.old + length step.packets.items ≤ vec_capacity packets.old }
-    ensures outcome { result ≡ step.outcome }
-    ensures packets { packets.new.items ≡ packets.old.items ++ on_way up phone (packets_of step) }
-{
-    for octets in step.packets {
-        packets.push_reserved(SentPacket { up, phone, octets });
-    }
-    step.outcome
 }

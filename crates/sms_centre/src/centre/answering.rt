@@ -9,15 +9,14 @@ ghost use Rattle.sms_message.specs.Few.{FewPackets};
 ghost use Rattle.sms_message.specs.declared.outcome.Outcome.TheVariants.{Held, Refused};
 
 use crate::centre::stamping::stamp_of;
-use sms_message::packets::{answered, wrapped};
-use sms_message::{Dropped, Outcome, Step, Tag};
-use sms_relay::{Side, wrap_answer};
+use sms_message::packets::{answered_in, wrapped};
+use sms_message::{Dropped, Outcome, Spare, Step, Tag};
+use sms_relay::{Side, wrap_answer_in};
 use sms_tpdu::{SubmitAck, SubmitError};
-use std::alloc::Global;
 
 /// A CP-ACK, and an RP-ERROR with a report.
 pub(crate) fn refusal(
-    alloc: Global,
+    spare: &mut Spare,
     now: u64,
     tag: Tag,
     cause: u8,
@@ -38,8 +37,8 @@ pub(crate) fn refusal(
         dcs: None,
         user: None,
     };
-    let packet = wrap_answer(
-        alloc,
+    let packet = wrap_answer_in(
+        spare.room(),
         true,
         tag.value,
         Side::ToPhone,
@@ -52,11 +51,11 @@ pub(crate) fn refusal(
         cause,
         failure: Some(failure),
     };
-    answered(alloc, outcome, tag, packet)
+    answered_in(spare, outcome, tag, packet)
 }
 
 /// A CP-ACK, and an RP-ACK with a report.
-pub(crate) fn approval(alloc: Global, tag: Tag, stamp: u64) -> Result<Step, Dropped>
+pub(crate) fn approval(spare: &mut Spare, tag: Tag, stamp: u64) -> Result<Step, Dropped>
     requires value { tag.value < 7 }
     requires moment { stamp < end_of_2099 }
     ensures puts { Puts Held (answers ToPhone tag None (Some (submit_ack_of stamp))) result }
@@ -70,8 +69,8 @@ pub(crate) fn approval(alloc: Global, tag: Tag, stamp: u64) -> Result<Step, Drop
         dcs: None,
         user: None,
     };
-    let packet = wrap_answer(
-        alloc,
+    let packet = wrap_answer_in(
+        spare.room(),
         true,
         tag.value,
         Side::ToPhone,
@@ -80,5 +79,5 @@ pub(crate) fn approval(alloc: Global, tag: Tag, stamp: u64) -> Result<Step, Drop
         Some(&report),
     );
     let packet = wrapped(packet)?;
-    answered(alloc, Outcome::Held, tag, packet)
+    answered_in(spare, Outcome::Held, tag, packet)
 }

@@ -1,8 +1,11 @@
 -- A reader may pass this by: contracts of private functions, and proofs, alone cite it.
 --
 -- The hashes of keys: numbers that keys of one message share, and that other keys seldom have.
-use Rattle.std.specs.Prelude.{ℕ, ◌/◌, ◌%◌, List, [], ◌∷◌, ◌++◌, Option, None, Some}
+use Rattle.std.specs.Prelude.{ℕ, ◌/◌, ◌%◌, ◌-◌, List, [], ◌∷◌, ◌++◌, Option, None, Some, if◌then◌else◌, drop, length, nat_le, nat_lt, replicate, slice_index, take}
+use Rattle.std.specs.List.{flat_map}
 use Rattle.sms_field.specs.Address.Value.{AddressValue}
+use Rattle.sms_tpdu.specs.declared.user_data.concat.Width.{Width}
+use Rattle.sms_tpdu.specs.declared.user_data.concat.Width.TheVariants.{Eight, Sixteen}
 use Rattle.sms_join.specs.declared.hashing.Hashing.{Hashing}
 use Rattle.sms_join.specs.declared.hashing.KeyHasher.{KeyHasher}
 use Rattle.sms_join.specs.declared.key.Key.{Key}
@@ -15,35 +18,75 @@ use Rattle.sms_join.specs.Inside.KeyTags.{symbols_of}
 abbrev pub single : List ℕ → List ℕ
 single stamp = stamp ++ 0 ∷ []
 
--- the low and the high octet of a reference, a maximum, and five octets that are 0
-abbrev pub segmented : ℕ → ℕ → List ℕ
-segmented reference maximum = reference % 256 ∷ reference / 256 ∷ maximum ∷ 0 ∷ 0 ∷ 0 ∷ 0 ∷ 0 ∷ []
+-- how many bits a reference has
+abbrev pub width_mark : Width → ℕ
+width_mark Eight = 8
+width_mark Sixteen = 16
+
+-- the low and the high octet of a reference, a maximum, four octets that are 0, and the width
+abbrev pub segmented : Width → ℕ → ℕ → List ℕ
+segmented width reference maximum =
+    reference % 256 ∷ reference / 256 ∷ maximum ∷ 0 ∷ 0 ∷ 0 ∷ 0 ∷ width_mark width ∷ []
 
 -- what tells the messages of an origin apart: of those in one piece the time stamp, of those in
--- segments their reference and maximum
+-- segments their reference, its width, and their maximum
 abbrev pub numbers_of : Key → List ℕ
 numbers_of (Single origin stamp) = single stamp
-numbers_of (Segmented origin width reference maximum) = segmented reference maximum
+numbers_of (Segmented origin width reference maximum) = segmented width reference maximum
 numbers_of (SingleTo recipient origin stamp) = single stamp
-numbers_of (SegmentedTo recipient origin width reference maximum) = segmented reference maximum
+numbers_of (SegmentedTo recipient origin width reference maximum) =
+    segmented width reference maximum
 
--- the symbols of a recipient, where there is one
-abbrev pub symbols_to : Option AddressValue → List (List ℕ)
-symbols_to None = []
-symbols_to (Some recipient) = symbols_of recipient ∷ []
+-- up to eight symbols, and octets that are 0
+abbrev pub padded : List ℕ → List ℕ
+padded symbols = symbols ++ replicate (8 - length symbols) 0
 
--- these, the symbols of the origin, and those of the recipient
+-- the first eight symbols; where there are fewer, these and octets that are 0
+abbrev pub front_of : List ℕ → List ℕ
+front_of symbols = if nat_le 8 (length symbols) then take 8 symbols else padded symbols
+
+-- the last eight symbols; where there are fewer, octets that are 0
+abbrev pub back_of : List ℕ → List ℕ
+back_of symbols =
+    if nat_le 8 (length symbols) then drop (length symbols - 8) symbols
+    else 0 ∷ 0 ∷ 0 ∷ 0 ∷ 0 ∷ 0 ∷ 0 ∷ 0 ∷ []
+
+-- of more than sixteen symbols four from the ninth on, else octets that are 0
+abbrev pub middle_of : List ℕ → List ℕ
+middle_of symbols =
+    if nat_lt 16 (length symbols)
+    then slice_index symbols 8 ∷ slice_index symbols 9 ∷ slice_index symbols 10
+    ∷ slice_index symbols 11 ∷ []
+    else 0 ∷ 0 ∷ 0 ∷ 0 ∷ []
+
+-- an address in three words: how many symbols there are, the type of number, the plan, an octet that
+-- is 0 and the middle; the front; the back
+abbrev pub words_of : AddressValue → List (List ℕ)
+words_of address =
+    let symbols : List ℕ = symbols_of address in
+    (length symbols % 256 ∷ address.kind ∷ address.plan ∷ 0 ∷ middle_of symbols)
+    ∷ front_of symbols ∷ back_of symbols ∷ []
+
+abbrev pub words_alone : List ℕ → AddressValue → List (List ℕ)
+words_alone numbers origin = numbers ∷ words_of origin
+
+abbrev pub words_to : List ℕ → AddressValue → AddressValue → List (List ℕ)
+words_to numbers origin recipient = words_alone numbers origin ++ words_of recipient
+
+-- what tells them apart, the origin, and the recipient, where there is one
+abbrev pub words : Option AddressValue → AddressValue → List ℕ → List (List ℕ)
+words None origin numbers = words_alone numbers origin
+words (Some recipient) origin numbers = words_to numbers origin recipient
+
+abbrev pub octets_in : List (List ℕ) → List ℕ
+octets_in words = flat_map (λ word. word) words
+
 abbrev pub hash_writes : Key → List (List ℕ)
-hash_writes key = numbers_of key ∷ symbols_of (origin_of key) ∷ symbols_to (recipient_of key)
-
--- a hasher that the symbols of a recipient were written to, where there is one
-abbrev pub written_to : Option AddressValue → KeyHasher → KeyHasher
-written_to None hasher = hasher
-written_to (Some recipient) hasher = write hasher (symbols_of recipient)
+hash_writes key = octets_in (words (recipient_of key) (origin_of key) (numbers_of key)) ∷ []
 
 abbrev pub hashed : Hashing → Option AddressValue → AddressValue → List ℕ → ℕ
 hashed hashing recipient origin numbers =
-    finish (written_to recipient (write (write (hasher_of hashing) numbers) (symbols_of origin)))
+    finish (write (hasher_of hashing) (octets_in (words recipient origin numbers)))
 
 abbrev pub hash_of : Hashing → Key → ℕ
 hash_of hashing key = hashed hashing (recipient_of key) (origin_of key) (numbers_of key)

@@ -82,4 +82,12 @@ impl Gateway {
         self.keeper.remember(key);
         note_finishing(&mut self.finishings, moment);
     }
+
+    /// Makes ready for so many keys to be remembered, so that those that are there need not be
+    /// found room for anew as they come. Nothing is held or told otherwise. It takes no memory.
+    pub fn expect(&mut self, keys: usize)
+        ensures { self.new ≡ self.old }
+    {
+        self.keeper.expect(keys);
+    }
 }

@@ -62,4 +62,11 @@ impl Keeper {
     {
         self.finished.push(key);
     }
+
+    /// Makes ready for so many keys to be remembered.
+    pub(crate) fn expect(&mut self, keys: usize)
+        ensures { self.new ≡ self.old }
+    {
+        self.finished.expect(keys);
+    }
 }

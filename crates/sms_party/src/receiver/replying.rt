@@ -10,14 +10,13 @@ ghost use Rattle.sms_relay.specs.declared.side.Side.TheVariants.{FromPhone};
 ghost use Rattle.sms_message.specs.declared.outcome.Dropped.TheVariants.{Memory};
 ghost use Rattle.sms_message.specs.declared.outcome.Outcome.TheVariants.{Refused};
 
-use sms_message::packets::{acknowledgement, answered, both, wrapped};
-use sms_message::{Dropped, Outcome, Packets, Step, Tag, failure_cause, rp_cause};
-use sms_relay::{Side, wrap_answer};
+use sms_message::packets::{acknowledgement_in, answered_in, both, wrapped};
+use sms_message::{Dropped, Outcome, Packets, Spare, Step, Tag, failure_cause, rp_cause};
+use sms_relay::{Side, wrap_answer_in};
 use sms_tpdu::{DeliverAck, DeliverError};
-use std::alloc::Global;
 
 /// The RP-ERROR of a phone, with a report.
-fn error_packet(alloc: Global, tag: Tag, cause: u8, failure: u8) -> Result<Vec<u8>, Dropped>
+fn error_packet(spare: &mut Spare, tag: Tag, cause: u8, failure: u8) -> Result<Vec<u8>, Dropped>
     requires value { tag.value < 7 }
     requires cause { cause < 128 }
     ensures carries { IfOk result (λ p. Carries p.items
@@ -32,8 +31,8 @@ fn error_packet(alloc: Global, tag: Tag, cause: u8, failure: u8) -> Result<Vec<u
         dcs: None,
         user: None,
     };
-    wrapped(wrap_answer(
-        alloc,
+    wrapped(wrap_answer_in(
+        spare.room(),
         true,
         tag.value,
         Side::FromPhone,
@@ -44,7 +43,7 @@ fn error_packet(alloc: Global, tag: Tag, cause: u8, failure: u8) -> Result<Vec<u
 }
 
 /// The RP-ACK of a phone.
-fn ack_packet(alloc: Global, tag: Tag) -> Result<Vec<u8>, Dropped>
+fn ack_packet(spare: &mut Spare, tag: Tag) -> Result<Vec<u8>, Dropped>
     requires value { tag.value < 7 }
     ensures carries { IfOk result (λ p. Carries p.items
         (Data true tag (Answer FromPhone None (Some plain_ack)))) }
@@ -58,8 +57,8 @@ fn ack_packet(alloc: Global, tag: Tag) -> Result<Vec<u8>, Dropped>
         dcs: None,
         user: None,
     };
-    wrapped(wrap_answer(
-        alloc,
+    wrapped(wrap_answer_in(
+        spare.room(),
         true,
         tag.value,
         Side::FromPhone,
@@ -70,28 +69,28 @@ fn ack_packet(alloc: Global, tag: Tag) -> Result<Vec<u8>, Dropped>
 }
 
 /// A CP-ACK, and an RP-ERROR with a report.
-pub(crate) fn refusal(alloc: Global, tag: Tag, cause: u8, failure: u8) -> Result<Step, Dropped>
+pub(crate) fn refusal(spare: &mut Spare, tag: Tag, cause: u8, failure: u8) -> Result<Step, Dropped>
     requires value { tag.value < 7 }
     requires cause { cause < 128 }
     ensures { Puts (Refused cause (Some failure))
         (answers FromPhone tag (Some cause) (Some (deliver_error_of failure))) result }
 {
-    let packet = error_packet(alloc, tag, cause, failure)?;
+    let packet = error_packet(spare, tag, cause, failure)?;
     let outcome = Outcome::Refused {
         cause,
         failure: Some(failure),
     };
-    answered(alloc, outcome, tag, packet)
+    answered_in(spare, outcome, tag, packet)
 }
 
 /// The refusal of a message or a segment that no room is left for.
-pub(crate) fn no_room(alloc: Global, tag: Tag) -> Result<Step, Dropped>
+pub(crate) fn no_room(spare: &mut Spare, tag: Tag) -> Result<Step, Dropped>
     requires value { tag.value < 7 }
     ensures { Puts (Refused 22 (Some 0xD3))
         (answers FromPhone tag (Some 22) (Some (deliver_error_of 0xD3))) result }
 {
     refusal(
-        alloc,
+        spare,
         tag,
         rp_cause::MEMORY_CAPACITY_EXCEEDED,
         failure_cause::MEMORY_CAPACITY_EXCEEDED,
@@ -100,13 +99,13 @@ pub(crate) fn no_room(alloc: Global, tag: Tag) -> Result<Step, Dropped>
 
 /// A CP-ACK, and an RP-ACK with a report: what a piece that is taken is answered, whatever becomes
 /// of it.
-pub(crate) fn approval(alloc: Global, tag: Tag) -> Result<Packets, Dropped>
+pub(crate) fn approval(spare: &mut Spare, tag: Tag) -> Result<Packets, Dropped>
     requires value { tag.value < 7 }
     ensures carries { IfOk result (λ ps. CarriesEach (map (λ packet. packet.items) ps.items)
         (answers FromPhone tag None (Some plain_ack))) }
     ensures err { IfErr result (λ e. e ≡ Memory) }
 {
-    let packet = ack_packet(alloc, tag)?;
-    let note = acknowledgement(alloc, true, tag.value)?;
-    Ok(both(alloc, note, packet))
+    let packet = ack_packet(spare, tag)?;
+    let note = acknowledgement_in(spare, true, tag.value)?;
+    Ok(both(spare.alloc(), note, packet))
 }

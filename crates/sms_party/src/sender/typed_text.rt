@@ -15,10 +15,10 @@ ghost use Rattle.sms_tpdu.specs.Submit.{Submission, SpellsSubmit};
 use sms_field::{Address, Validity};
 use sms_join::{SegmentView, Segments};
 use sms_message::packets::{address_of_centre, wrapped};
-use sms_message::{Dropped, Tag};
-use sms_relay::{Side, wrap_written_transfer};
+use sms_message::{Dropped, Spare, Tag};
+use sms_relay::{Side, wrap_written_in};
 use sms_tpdu::{SubmitFront, Width};
-use std::alloc::{AllocError, Global};
+use std::alloc::AllocError;
 use std::marker::Model;
 
 /// A typed text that has not ended.
@@ -57,7 +57,7 @@ impl Model for TypedText {
 }
 
 /// The packet of a submission that is written so.
-fn submission_packet(alloc: Global, tag: Tag, octets: Vec<u8>) -> Result<Vec<u8>, Dropped>
+fn submission_packet(spare: &mut Spare, tag: Tag, octets: Vec<u8>) -> Result<Vec<u8>, Dropped>
     requires value { tag.value < 7 }
     requires few { length octets.items ≤ USER_DATA_MAX }
     ensures carries { (s : Submission) → SpellsSubmit s octets.items
@@ -66,22 +66,24 @@ fn submission_packet(alloc: Global, tag: Tag, octets: Vec<u8>) -> Result<Vec<u8>
     ensures err { IfErr result (λ e. e ≡ Memory) }
 {
     let address = address_of_centre();
-    wrapped(wrap_written_transfer(
-        alloc,
+    let packet = wrap_written_in(
+        spare.room(),
         false,
         tag.value,
         Side::FromPhone,
         tag.reference,
         Some(&address),
-        octets,
-    ))
+        octets.as_slice(),
+    );
+    spare.give(octets);
+    wrapped(packet)
 }
 
 impl TypedText {
     /// The submission of its segment at a place, counted from 0, as octets.
     fn submission(
         &self,
-        alloc: Global,
+        spare: &mut Spare,
         place: u8,
         segment: &SegmentView<'_>,
         reject: bool,
@@ -97,17 +99,17 @@ impl TypedText {
             report: false,
             reply: false,
             reference: self.reference.wrapping_add(place),
-            target: self.target.copy(alloc)?,
+            target: self.target.copy(spare.alloc())?,
             pid: 0,
             dcs: segment.coding_scheme(),
         };
-        segment.write_submit(alloc, &front, self.width, self.set_reference)
+        segment.write_submit_in(spare.room(), &front, self.width, self.set_reference)
     }
 
     /// The packet of the segment at a place, counted from 0, if there is one there.
     pub(crate) fn packet(
         &self,
-        alloc: Global,
+        spare: &mut Spare,
         tag: Tag,
         place: u8,
         reject: bool,
@@ -120,7 +122,7 @@ impl TypedText {
         let Some(segment) = self.segments.get(usize::from(place)) else {
             return Ok(None);
         };
-        let octets = self.submission(alloc, place, &segment, reject)?;
-        Ok(Some(submission_packet(alloc, tag, octets)?))
+        let octets = self.submission(spare, place, &segment, reject)?;
+        Ok(Some(submission_packet(spare, tag, octets)?))
     }
 }

@@ -146,8 +146,26 @@ impl SubmitFront {
         ensures { IfOk result (λ octets. SpellsSubmit
             (submission_of self.now (user_after place (units_body units.entry))) octets.items) }
     {
-        let room = FRONT_MAX + room_for_units(place, units);
-        let mut out = Vec::with_capacity(alloc, room)?;
+        self.write_with_in(Vec::new(alloc), place, units)
+    }
+
+    /// The octets of the SMS-SUBMIT with user data whose units are lent, as `write_with` has them,
+    /// written in the room of a list: whatever stood in it is gone.
+    pub fn write_with_in(
+        &self,
+        room: Vec<u8>,
+        place: Option<Concat>,
+        units: UnitsView<'_>,
+    ) -> Result<Vec<u8>, AllocError>
+        requires reference { IfSome place IsReferenceInRange }
+        requires fits { FitsAlphabet (alphabet_at self.now.dcs)
+            (user_after place (units_body units)) }
+        ensures { IfOk result (λ octets. SpellsSubmit
+            (submission_of self.now (user_after place (units_body units.entry))) octets.items) }
+    {
+        let mut out = room;
+        out.clear();
+        out.reserve(FRONT_MAX + room_for_units(place, units))?;
         self.put(&mut out, place.is_some())?;
         put_lent(&mut out, place, units)?;
         Ok(out)

@@ -8,7 +8,7 @@ use Rattle.sms_message.specs.declared.outcome.Outcome.{Outcome}
 use Rattle.sms_message.specs.declared.outcome.Outcome.TheVariants.{Typed}
 use Rattle.sms_centre.specs.Centre.Value.{phones_of}
 use Rattle.sms_script.specs.Transcript.Lines.{PacketValue}
-use Rattle.sms_world.specs.declared.world.sent_packet.Way.{Way}
+use Rattle.sms_world.specs.declared.world.way.Way.{Way}
 use Rattle.sms_world.specs.Ledger.{TextNote}
 use Rattle.sms_world.specs.Noted.{Facts}
 use Rattle.sms_world.specs.Machine.Event.{Event, Compose, Carry, Timeout, Push, Tick, Inject}

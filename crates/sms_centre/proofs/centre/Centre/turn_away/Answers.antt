@@ -18,11 +18,11 @@ returns-in-Unmatched-clause-steps c = λ limit phones s origin stands.
 
 pub returns-in-None-clause-steps : goal.returns-in-None-clause-steps
 returns-in-None-clause-steps c = λ limit phones s origin stands.
-    subst (λ (why : NotTaken). CentreAnswers limit phones c.args.now s (turned_away s c.args.now c.args.tag why) c.relay_refusal.result c.args.self.now) (sym (c.in-Refused.is ∙ ap (λ (f : Option _). untaken.Refused c.in-Refused.cause f) c.in-None.is))
-    (puts_answer limit phones c.args.now c.args.self.now s _ _ c.relay_refusal.result stands c.relay_refusal.ensures)
+    subst (λ (why : NotTaken). CentreAnswers limit phones c.args.now s (turned_away s c.args.now c.args.tag why) c.relay_refusal_in.result c.args.self.now) (sym (c.in-Refused.is ∙ ap (λ (f : Option _). untaken.Refused c.in-Refused.cause f) c.in-None.is))
+    (puts_answer limit phones c.args.now c.args.self.now s _ _ c.relay_refusal_in.result stands c.relay_refusal_in.ensures)
 
 pub returns-in-None-clause-few : goal.returns-in-None-clause-few
-returns-in-None-clause-few c = few_put (Refused c.in-Refused.cause None) (answers ToPhone c.args.tag (Some c.in-Refused.cause) None) c.relay_refusal.result (omega arith) c.relay_refusal.ensures
+returns-in-None-clause-few c = few_put (Refused c.in-Refused.cause None) (answers ToPhone c.args.tag (Some c.in-Refused.cause) None) c.relay_refusal_in.result (omega arith) c.relay_refusal_in.ensures
 
 pub returns-in-Some-clause-steps : goal.returns-in-Some-clause-steps
 returns-in-Some-clause-steps c = λ limit phones s origin stands.

@@ -25,6 +25,15 @@ give_room_back-self-inside-requires c =
 pub drop_old-self-inside-requires-clause-seats : goal.drop_old-self-inside-requires-clause-seats
 drop_old-self-inside-requires-clause-seats c = c.self.invariant.5
 
+pub earliest_left-self-inside-requires-clause-time : goal.earliest_left-self-inside-requires-clause-time
+earliest_left-self-inside-requires-clause-time c = λ e. (
+  c.self.inside.latest,
+  time_many c.args.age c.drop_old-self-inside.ensures.sets.count c.self.inside.latest (sets_of c.self.inside.slots.entries) (sets_of c.drop_old-self-inside.new.slots.entries) c.drop_old-self-inside.ensures.sets.many (c.self.invariant.3 e),
+)
+
+pub earliest_left-self-inside-requires-clause-line : goal.earliest_left-self-inside-requires-clause-line
+earliest_left-self-inside-requires-clause-line c = (c.self.inside.turns, c.drop_old-self-inside.ensures.line c.self.inside.turns c.self.invariant.2)
+
 given : (c : goal.After-self-4-1) → sets_of c.tidy-self-inside.new.slots.entries ≡ sets_of c.drop_old-self-inside.new.slots.entries
 given c = c.tidy-self-inside.ensures.sets ∙ ap sets_of c.give_room_back-self-inside.ensures.entries
 

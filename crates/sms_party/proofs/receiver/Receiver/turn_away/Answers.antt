@@ -14,8 +14,8 @@ returns-in-Unmatched c = λ limits s origin stands.
 
 pub returns-in-None : goal.returns-in-None
 returns-in-None c = λ limits s origin stands.
-    subst (λ (why : NotTaken). ReceiverAnswers limits s (turned_away s c.args.tag why) c.relay_refusal.result c.args.self.now) (sym (c.in-Refused.is ∙ ap (λ (f : Option _). untaken.Refused c.in-Refused.cause f) c.in-None.is))
-    (puts_answer limits c.args.self.now s _ _ c.relay_refusal.result stands c.relay_refusal.ensures)
+    subst (λ (why : NotTaken). ReceiverAnswers limits s (turned_away s c.args.tag why) c.relay_refusal_in.result c.args.self.now) (sym (c.in-Refused.is ∙ ap (λ (f : Option _). untaken.Refused c.in-Refused.cause f) c.in-None.is))
+    (puts_answer limits c.args.self.now s _ _ c.relay_refusal_in.result stands c.relay_refusal_in.ensures)
 
 pub returns-in-Some : goal.returns-in-Some
 returns-in-Some c = λ limits s origin stands.

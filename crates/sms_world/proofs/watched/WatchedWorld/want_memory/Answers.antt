@@ -8,7 +8,7 @@ use Rattle.sms_world.specs.Inside.Asked.{way_at}
 use Rattle.sms_world.specs.Machine.Event.{Event}
 use Rattle.sms_world.specs.World.Steps.{event_of, Steps}
 use Rattle.sms_world.specs.World.Value.{WorldValue}
-use Rattle.sms_world.specs.declared.world.sent_packet.Way.{Way}
+use Rattle.sms_world.specs.declared.world.way.Way.{Way}
 use Rattle.sms_world.proofs.Alike.{same}
 use Rattle.sms_world.proofs.Followed.{goes_on_watched, stays_watched, wants, wanted, in_order_now}
 use Rattle.sms_world.proofs.watched.WatchedWorld.want_memory.Goals as goal

@@ -23,7 +23,7 @@ returns-in_err-make_room-clause-steps c =
     let text = chars c.args.text.now in
     let is_text = text_is text (scalars-chars c.args.text.now c.utf8.text) in
     let within : c.args.phone < length v.parties.phones = subst (λ n. c.args.phone < n) c.count.ensures c.if-phone-count.false in
-    ends_badly v c.args.self.now (Compose c.args.phone c.args.target.now (chars c.args.text.now)) true (c.args.phone) v.parties c.make_room.new.packets.items c.self.view_is c.in_err-make_room.ensures.items c.from_residual.result Memory c.from_residual.ensures.1 (composed v c.args.phone c.args.target.now text v.parties (Err Memory) is_text within (not_composed v c.args.phone c.args.target.now text c.laws_below.ensures is_text))
+    ends_badly v c.args.self.now (Compose c.args.phone c.args.target.now (chars c.args.text.now)) true (c.args.phone) v.parties c.make_room.new.self.items c.self.view_is c.in_err-make_room.ensures.items c.from_residual.result Memory c.from_residual.ensures.1 (composed v c.args.phone c.args.target.now text v.parties (Err Memory) is_text within (not_composed v c.args.phone c.args.target.now text c.laws_below.ensures is_text))
 
 pub invariant_of-self-in_err-step : goal.invariant_of-self-in_err-step
 invariant_of-self-in_err-step c =
@@ -31,7 +31,7 @@ invariant_of-self-in_err-step c =
     let text = chars c.args.text.now in
     let is_text = text_is text (scalars-chars c.args.text.now c.utf8.text) in
     let within : c.args.phone < length v.parties.phones = subst (λ n. c.args.phone < n) c.count.ensures c.if-phone-count.false in
-    badly_a_world v c.args.self.now (Compose c.args.phone c.args.target.now (chars c.args.text.now)) true (c.args.phone) c.type_text.new.self c.make_room.new.packets.items c.self.view_is c.in_ok-make_room.ensures.items c.in_err-step.field-0.0 c.self.invariant (composed v c.args.phone c.args.target.now text c.type_text.new.self (Err c.in_err-step.field-0.0) is_text within c.in_err-step.ensures.types) c.in_err-step.ensures.phones
+    badly_a_world v c.args.self.now (Compose c.args.phone c.args.target.now (chars c.args.text.now)) true (c.args.phone) c.type_text.new.self c.make_room.new.self.items c.self.view_is c.in_ok-make_room.ensures.items c.in_err-step.field-0.0 c.self.invariant (composed v c.args.phone c.args.target.now text c.type_text.new.self (Err c.in_err-step.field-0.0) is_text within c.in_err-step.ensures.types) c.in_err-step.ensures.phones
 
 pub returns-in_err-step-clause-steps : goal.returns-in_err-step-clause-steps
 returns-in_err-step-clause-steps c =
@@ -39,7 +39,7 @@ returns-in_err-step-clause-steps c =
     let text = chars c.args.text.now in
     let is_text = text_is text (scalars-chars c.args.text.now c.utf8.text) in
     let within : c.args.phone < length v.parties.phones = subst (λ n. c.args.phone < n) c.count.ensures c.if-phone-count.false in
-    ends_badly v c.args.self.now (Compose c.args.phone c.args.target.now (chars c.args.text.now)) true (c.args.phone) c.type_text.new.self c.make_room.new.packets.items c.self.view_is c.in_ok-make_room.ensures.items c.from_residual-in_err-step.result c.in_err-step.field-0.0 c.from_residual-in_err-step.ensures.1 (composed v c.args.phone c.args.target.now text c.type_text.new.self (Err c.in_err-step.field-0.0) is_text within c.in_err-step.ensures.types)
+    ends_badly v c.args.self.now (Compose c.args.phone c.args.target.now (chars c.args.text.now)) true (c.args.phone) c.type_text.new.self c.make_room.new.self.items c.self.view_is c.in_ok-make_room.ensures.items c.from_residual-in_err-step.result c.in_err-step.field-0.0 c.from_residual-in_err-step.ensures.1 (composed v c.args.phone c.args.target.now text c.type_text.new.self (Err c.in_err-step.field-0.0) is_text within c.in_err-step.ensures.types)
 
 pub invariant_of-self-2 : goal.invariant_of-self-2
 invariant_of-self-2 c =
@@ -47,7 +47,7 @@ invariant_of-self-2 c =
     let text = chars c.args.text.now in
     let is_text = text_is text (scalars-chars c.args.text.now c.utf8.text) in
     let within : c.args.phone < length v.parties.phones = subst (λ n. c.args.phone < n) c.count.ensures c.if-phone-count.false in
-    well_a_world v c.args.self.now (Compose c.args.phone c.args.target.now (chars c.args.text.now)) true (c.args.phone) c.type_text.new.self c.make_room.new.packets.items c.self.view_is c.in_ok-make_room.ensures.items c.in_ok-step.step c.keep.new.packets.items c.keep.ensures.packets c.self.invariant (composed v c.args.phone c.args.target.now text c.type_text.new.self (Ok c.in_ok-step.step) is_text within c.in_ok-step.ensures.types) c.in_ok-step.ensures.phones within
+    well_a_world v c.args.self.now (Compose c.args.phone c.args.target.now (chars c.args.text.now)) true (c.args.phone) c.type_text.new.self c.make_room.new.self.items c.self.view_is c.in_ok-make_room.ensures.items c.in_ok-step.step c.keep.new.self.items c.keep.ensures.packets c.self.invariant (composed v c.args.phone c.args.target.now text c.type_text.new.self (Ok c.in_ok-step.step) is_text within c.in_ok-step.ensures.types) c.in_ok-step.ensures.phones within
 
 pub returns-clause-steps : goal.returns-clause-steps
 returns-clause-steps c =
@@ -55,12 +55,12 @@ returns-clause-steps c =
     let text = chars c.args.text.now in
     let is_text = text_is text (scalars-chars c.args.text.now c.utf8.text) in
     let within : c.args.phone < length v.parties.phones = subst (λ n. c.args.phone < n) c.count.ensures c.if-phone-count.false in
-    ends_well v c.args.self.now (Compose c.args.phone c.args.target.now (chars c.args.text.now)) true (c.args.phone) c.type_text.new.self c.make_room.new.packets.items c.self.view_is c.in_ok-make_room.ensures.items c.in_ok-step.step c.keep.new.packets.items c.keep.ensures.packets c.keep.result c.keep.ensures.outcome (composed v c.args.phone c.args.target.now text c.type_text.new.self (Ok c.in_ok-step.step) is_text within c.in_ok-step.ensures.types)
+    ends_well v c.args.self.now (Compose c.args.phone c.args.target.now (chars c.args.text.now)) true (c.args.phone) c.type_text.new.self c.make_room.new.self.items c.self.view_is c.in_ok-make_room.ensures.items c.in_ok-step.step c.keep.new.self.items c.keep.ensures.packets c.keep.result c.keep.ensures.outcome (composed v c.args.phone c.args.target.now text c.type_text.new.self (Ok c.in_ok-step.step) is_text within c.in_ok-step.ensures.types)
 
 pub returns-clause-packets : goal.returns-clause-packets
 returns-clause-packets c =
     let v : WorldValue = record { limits = c.self.inside.limits; clock = c.self.inside.clock; parties = c.self.inside.parties; packets = c.self.inside.packets.items } in
-    puts_more v c.args.self.now (Compose c.args.phone c.args.target.now (chars c.args.text.now)) true (c.args.phone) c.type_text.new.self c.make_room.new.packets.items c.self.view_is c.in_ok-make_room.ensures.items c.in_ok-step.step c.keep.new.packets.items c.keep.ensures.packets
+    puts_more v c.args.self.now (Compose c.args.phone c.args.target.now (chars c.args.text.now)) true (c.args.phone) c.type_text.new.self c.make_room.new.self.items c.self.view_is c.in_ok-make_room.ensures.items c.in_ok-step.step c.keep.new.self.items c.keep.ensures.packets
 
 pub returns-in_err-make_room-clause-unmoved : goal.returns-in_err-make_room-clause-unmoved
 returns-in_err-make_room-clause-unmoved c = dropped_somewhere _ c.from_residual.result Memory c.from_residual.ensures.1

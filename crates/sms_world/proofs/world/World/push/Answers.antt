@@ -16,36 +16,36 @@ pub returns-in_err-make_room-clause-steps : goal.returns-in_err-make_room-clause
 returns-in_err-make_room-clause-steps c =
     let v : WorldValue = record { limits = c.self.inside.limits; clock = c.self.inside.clock; parties = c.self.inside.parties; packets = c.self.inside.packets.items } in
     let within : c.args.phone < length v.parties.phones = subst (λ n. c.args.phone < n) c.count.ensures c.if-phone-count.false in
-    ends_badly v c.args.self.now (Push c.args.phone) false (c.args.phone) v.parties c.make_room.new.packets.items c.self.view_is c.in_err-make_room.ensures.items c.from_residual.result Memory c.from_residual.ensures.1 (handed v c.args.phone v.parties (Err Memory) within (λ m h e. h))
+    ends_badly v c.args.self.now (Push c.args.phone) false (c.args.phone) v.parties c.make_room.new.self.items c.self.view_is c.in_err-make_room.ensures.items c.from_residual.result Memory c.from_residual.ensures.1 (handed v c.args.phone v.parties (Err Memory) within (λ m h e. h))
 
 pub invariant_of-self-in_err-step : goal.invariant_of-self-in_err-step
 invariant_of-self-in_err-step c =
     let v : WorldValue = record { limits = c.self.inside.limits; clock = c.self.inside.clock; parties = c.self.inside.parties; packets = c.self.inside.packets.items } in
     let within : c.args.phone < length v.parties.phones = subst (λ n. c.args.phone < n) c.count.ensures c.if-phone-count.false in
-    badly_a_world v c.args.self.now (Push c.args.phone) false (c.args.phone) c.push.new.self c.make_room.new.packets.items c.self.view_is c.in_ok-make_room.ensures.items c.in_err-step.field-0.0 c.self.invariant (handed v c.args.phone c.push.new.self (Err c.in_err-step.field-0.0) within c.in_err-step.ensures.steps) c.in_err-step.ensures.phones
+    badly_a_world v c.args.self.now (Push c.args.phone) false (c.args.phone) c.push.new.self c.make_room.new.self.items c.self.view_is c.in_ok-make_room.ensures.items c.in_err-step.field-0.0 c.self.invariant (handed v c.args.phone c.push.new.self (Err c.in_err-step.field-0.0) within c.in_err-step.ensures.steps) c.in_err-step.ensures.phones
 
 pub returns-in_err-step-clause-steps : goal.returns-in_err-step-clause-steps
 returns-in_err-step-clause-steps c =
     let v : WorldValue = record { limits = c.self.inside.limits; clock = c.self.inside.clock; parties = c.self.inside.parties; packets = c.self.inside.packets.items } in
     let within : c.args.phone < length v.parties.phones = subst (λ n. c.args.phone < n) c.count.ensures c.if-phone-count.false in
-    ends_badly v c.args.self.now (Push c.args.phone) false (c.args.phone) c.push.new.self c.make_room.new.packets.items c.self.view_is c.in_ok-make_room.ensures.items c.from_residual-in_err-step.result c.in_err-step.field-0.0 c.from_residual-in_err-step.ensures.1 (handed v c.args.phone c.push.new.self (Err c.in_err-step.field-0.0) within c.in_err-step.ensures.steps)
+    ends_badly v c.args.self.now (Push c.args.phone) false (c.args.phone) c.push.new.self c.make_room.new.self.items c.self.view_is c.in_ok-make_room.ensures.items c.from_residual-in_err-step.result c.in_err-step.field-0.0 c.from_residual-in_err-step.ensures.1 (handed v c.args.phone c.push.new.self (Err c.in_err-step.field-0.0) within c.in_err-step.ensures.steps)
 
 pub invariant_of-self-2 : goal.invariant_of-self-2
 invariant_of-self-2 c =
     let v : WorldValue = record { limits = c.self.inside.limits; clock = c.self.inside.clock; parties = c.self.inside.parties; packets = c.self.inside.packets.items } in
     let within : c.args.phone < length v.parties.phones = subst (λ n. c.args.phone < n) c.count.ensures c.if-phone-count.false in
-    well_a_world v c.args.self.now (Push c.args.phone) false (c.args.phone) c.push.new.self c.make_room.new.packets.items c.self.view_is c.in_ok-make_room.ensures.items c.in_ok-step.step c.keep.new.packets.items c.keep.ensures.packets c.self.invariant (handed v c.args.phone c.push.new.self (Ok c.in_ok-step.step) within c.in_ok-step.ensures.steps) c.in_ok-step.ensures.phones within
+    well_a_world v c.args.self.now (Push c.args.phone) false (c.args.phone) c.push.new.self c.make_room.new.self.items c.self.view_is c.in_ok-make_room.ensures.items c.in_ok-step.step c.keep.new.self.items c.keep.ensures.packets c.self.invariant (handed v c.args.phone c.push.new.self (Ok c.in_ok-step.step) within c.in_ok-step.ensures.steps) c.in_ok-step.ensures.phones within
 
 pub returns-clause-steps : goal.returns-clause-steps
 returns-clause-steps c =
     let v : WorldValue = record { limits = c.self.inside.limits; clock = c.self.inside.clock; parties = c.self.inside.parties; packets = c.self.inside.packets.items } in
     let within : c.args.phone < length v.parties.phones = subst (λ n. c.args.phone < n) c.count.ensures c.if-phone-count.false in
-    ends_well v c.args.self.now (Push c.args.phone) false (c.args.phone) c.push.new.self c.make_room.new.packets.items c.self.view_is c.in_ok-make_room.ensures.items c.in_ok-step.step c.keep.new.packets.items c.keep.ensures.packets c.keep.result c.keep.ensures.outcome (handed v c.args.phone c.push.new.self (Ok c.in_ok-step.step) within c.in_ok-step.ensures.steps)
+    ends_well v c.args.self.now (Push c.args.phone) false (c.args.phone) c.push.new.self c.make_room.new.self.items c.self.view_is c.in_ok-make_room.ensures.items c.in_ok-step.step c.keep.new.self.items c.keep.ensures.packets c.keep.result c.keep.ensures.outcome (handed v c.args.phone c.push.new.self (Ok c.in_ok-step.step) within c.in_ok-step.ensures.steps)
 
 pub returns-clause-packets : goal.returns-clause-packets
 returns-clause-packets c =
     let v : WorldValue = record { limits = c.self.inside.limits; clock = c.self.inside.clock; parties = c.self.inside.parties; packets = c.self.inside.packets.items } in
-    puts_more v c.args.self.now (Push c.args.phone) false (c.args.phone) c.push.new.self c.make_room.new.packets.items c.self.view_is c.in_ok-make_room.ensures.items c.in_ok-step.step c.keep.new.packets.items c.keep.ensures.packets
+    puts_more v c.args.self.now (Push c.args.phone) false (c.args.phone) c.push.new.self c.make_room.new.self.items c.self.view_is c.in_ok-make_room.ensures.items c.in_ok-step.step c.keep.new.self.items c.keep.ensures.packets
 
 pub returns-in_err-make_room-clause-unmoved : goal.returns-in_err-make_room-clause-unmoved
 returns-in_err-make_room-clause-unmoved c = dropped_somewhere _ c.from_residual.result Memory c.from_residual.ensures.1

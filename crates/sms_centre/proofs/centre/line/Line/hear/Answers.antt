@@ -28,7 +28,7 @@ returns c =
     (subst (λ (o : Option Push). HearsFor c.args.now c.args.tag c.args.cause v o (Ok step) after) (sym c.in-Some.is) (
       sym c.is_awaited.ensures ∙ c.if-not-is_awaited.false,
       c.verdict.ensures,
-      rw c.alone.ensures.items (c.in_ok-packet.ensures.carries, tt),
+      rw c.alone.ensures.items (c.in_ok-note.ensures.carries, tt),
       is,
     )) in
     elim c.if-not-stays.branch [

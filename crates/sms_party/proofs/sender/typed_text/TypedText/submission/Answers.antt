@@ -35,7 +35,7 @@ pub returns-clause-spelled : goal.returns-clause-spelled
 returns-clause-spelled c =
     let target = c.in_ok-copy.ensures.copy in
     let dcs = c.coding_scheme.ensures.dcs in
-    subst (λ (s : Submission). IfOk c.write_submit.result (λ octets. SpellsSubmit s octets.items))
+    subst (λ (s : Submission). IfOk c.write_submit_in.result (λ octets. SpellsSubmit s octets.items))
     ((λ i. record {
       reject = c.args.reject;
       validity = Absent;
@@ -48,7 +48,7 @@ returns-clause-spelled c =
       user = user_of c.self.inside.width c.self.inside.set_reference c.args.segment.now;
     })
     ∙ ap (λ (t : TextValue). submission_in t c.args.place c.args.segment.now c.args.reject) c.self.view_is)
-    c.write_submit.ensures
+    c.write_submit_in.ensures
 
 pub returns-clause-few : goal.returns-clause-few
-returns-clause-few c = IfOk-weaker c.write_submit.result _ _ (λ octets h. few_written _ octets.items h) c.write_submit.ensures
+returns-clause-few c = IfOk-weaker c.write_submit_in.result _ _ (λ octets h. few_written _ octets.items h) c.write_submit_in.ensures

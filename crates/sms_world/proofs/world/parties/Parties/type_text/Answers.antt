@@ -15,6 +15,6 @@ returns-clause-types c =
     let text = chars c.args.text.now in
     let within : c.args.phone < c.self.inside.phones.len = subst (λ n. c.args.phone < n) (ap (λ (w : PartiesValue). length w.phones) (sym c.self.view_is) ∙ sym c.self.inside.phones.ok.0) c.requires in
     let there = slice_get_read v.phones c.self.inside.phones.len c.args.phone c.index_mut-phone.result.now c.self.inside.phones.ok.0 within c.index_mut-phone.ensures.value in
-    subst (λ (w : PartiesValue). Types c.args.phone c.args.target.now text w c.type_text.result (with_phone v c.args.phone c.type_text.new.self)) c.self.view_is
-    (types v c.args.phone c.index_mut-phone.result.now c.type_text.new.self c.args.target.now text c.type_text.result c.laws_below.ensures
-    (text_is text (scalars-chars c.args.text.now c.utf8.text)) there c.type_text.ensures.receiver c.type_text.ensures.types)
+    subst (λ (w : PartiesValue). Types c.args.phone c.args.target.now text w c.type_text_with.result (with_phone v c.args.phone c.type_text_with.new.self)) c.self.view_is
+    (types v c.args.phone c.index_mut-phone.result.now c.type_text_with.new.self c.args.target.now text c.type_text_with.result c.laws_below.ensures
+    (text_is text (scalars-chars c.args.text.now c.utf8.text)) there c.type_text_with.ensures.receiver c.type_text_with.ensures.types)

@@ -1,5 +1,0 @@
-use Rattle.std.proofs.Common.{rules}
-use Rattle.sms_message.proofs.packets.acknowledgement.Goals as goal
-
-pub returns-clause-carries : goal.returns-clause-carries
-returns-clause-carries c = search rules

@@ -1,5 +1,0 @@
-use Rattle.std.proofs.Common.{rules}
-use Rattle.sms_message.proofs.packets.answered.Goals as goal
-
-pub returns : goal.returns
-returns c = search rules

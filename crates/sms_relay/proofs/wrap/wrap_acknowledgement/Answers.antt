@@ -1,5 +1,0 @@
-use Rattle.std.proofs.Common.{rules}
-use Rattle.sms_relay.proofs.wrap.wrap_acknowledgement.Goals as goal
-
-pub returns : goal.returns
-returns c = search rules
