@@ -22,8 +22,8 @@ impl Hash for Key {
 
     ghost respects_eq = { λ k l e. ap hash_writes (key_eq_true k l e) };
 
-    /// One write of whole words: a hasher takes octets that end a word, or begin within one, each by
-    /// itself.
+    /// One write of whole words: a hasher takes octets that end a word, or begin within one, one by
+    /// one.
     #[inline(always)]
     fn hash<H: Hasher>(&self, state: &mut H) {
         let numbers = numbers_in(self);
@@ -131,7 +131,8 @@ fn middle_of(symbols: &[u8]) -> [u8; 4]
     }
 }
 
-/// An address in three words of eight octets. Those of another address are others.
+/// An address in three words of eight octets, in which all of it stands: it has twenty symbols at
+/// most.
 #[inline(always)]
 fn words_of(address: &Address) -> [[u8; 8]; 3]
     ensures { result ≡ words_of address.now }

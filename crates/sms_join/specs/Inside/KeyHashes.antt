@@ -59,8 +59,8 @@ middle_of symbols =
     ∷ slice_index symbols 11 ∷ []
     else 0 ∷ 0 ∷ 0 ∷ 0 ∷ []
 
--- an address in three words: how many symbols there are, the type of number, the plan, an octet that
--- is 0 and the middle; the front; the back
+-- an address in three words: how many symbols there are, the type of number, the plan, an octet
+-- that is 0 and the middle; the front; the back
 abbrev pub words_of : AddressValue → List (List ℕ)
 words_of address =
     let symbols : List ℕ = symbols_of address in

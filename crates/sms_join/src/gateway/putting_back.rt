@@ -83,8 +83,9 @@ impl Gateway {
         note_finishing(&mut self.finishings, moment);
     }
 
-    /// Makes ready for so many keys to be remembered, so that those that are there need not be
-    /// found room for anew as they come. Nothing is held or told otherwise. It takes no memory.
+    /// Makes the tables ready for so many keys, so that those that come are not put in order again
+    /// each time that they outgrow a table. What is held and told stays as it is. It takes no
+    /// memory.
     pub fn expect(&mut self, keys: usize)
         ensures { self.new ≡ self.old }
     {
