@@ -1,5 +1,6 @@
 -- SMS-DELIVER (3GPP TS 23.040, 9.2.2.1).
 pub mod Flags
+pub mod Front
 pub mod Spans
 use Rattle.std.specs.Prelude.{◌≡◌, ℕ, List, ◌∷◌, ◌++◌, ◌<◌, Bool}
 use Rattle.sms_field.specs.Field.{Field, ◌>>=◌, always, octet, octet_by, map_reason}

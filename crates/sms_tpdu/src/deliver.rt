@@ -6,10 +6,12 @@ ghost use Rattle.sms_tpdu.specs.Deliver.{deliver, flags_in};
 ghost use Rattle.sms_tpdu.specs.Deliver.Flags.{deliver_octet};
 
 pub mod flags;
+pub mod front;
 pub mod spans;
 pub mod view;
 
 use crate::deliver::flags::DeliverFlags;
+use crate::deliver::front::{FRONT_MAX, put_front};
 use crate::deliver::view::DeliverView;
 use crate::fault::UnitFault;
 use crate::unit::Unit;
@@ -75,9 +77,6 @@ impl Model for Deliver {
     }) };
 }
 
-/// The most octets before the user data.
-const FRONT_MAX: usize = 22;
-
 impl Deliver {
     /// The flags in the first octet.
     fn flags(&self) -> DeliverFlags
@@ -98,10 +97,14 @@ impl Deliver {
             (deliver_octet (flags_in self.now) ∷ (address_octets self.now.origin ++
             (self.now.pid ∷ self.now.dcs ∷ self.now.stamp)))) }
     {
-        out.push(self.flags().to_octet())?;
-        self.origin.write_to(out)?;
-        out.extend_from_slice(&[self.pid, self.dcs])?;
-        out.extend_from_slice(&self.stamp.octets())
+        put_front(
+            out,
+            self.flags(),
+            &self.origin,
+            self.pid,
+            self.dcs,
+            self.stamp,
+        )
     }
 }
 

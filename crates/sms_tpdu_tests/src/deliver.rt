@@ -3,7 +3,9 @@
 use crate::again::rewritten;
 use crate::found::{are, holds, same};
 use sms_field::alphabet_of;
-use sms_tpdu::{Body, Concat, Deliver, Header, Refusal, Unit, UnitFault, UserData, Width};
+use sms_tpdu::{
+    Body, Concat, Deliver, DeliverFront, Header, Refusal, Unit, UnitFault, UserData, Width,
+};
 use std::alloc::Global;
 use std::process::Abort;
 use std::test::Fail;
@@ -220,6 +222,43 @@ fn reads_a_delivery(rt: HostRuntime) -> Result<(), Fail> {
 fn writes_a_delivery(rt: HostRuntime) -> Result<(), Fail> {
     let written = written(rt.alloc(), &HELLO)?;
     are(&rt, &"written", &written, &HELLO);
+    Ok(())
+}
+
+/// What is written of the delivery that is read, its user data lent, in the room of three octets.
+fn written_in_room(alloc: Global, octets: &[u8]) -> Result<Vec<u8>, Refusal<UnitFault>> {
+    let (deliver, _) = Deliver::read(alloc, octets)?;
+    let front = DeliverFront {
+        more: deliver.more,
+        looped: deliver.looped,
+        report: deliver.report,
+        reply: deliver.reply,
+        origin: deliver.origin.copy(alloc)?,
+        pid: deliver.pid,
+        dcs: deliver.dcs,
+        stamp: deliver.stamp,
+    };
+    let room = Vec::from_slice(alloc, &[1, 2, 3])?;
+    Ok(front.write_with_in(room, &deliver.user)?)
+}
+
+#[test]
+fn writes_deliveries_whose_user_data_are_lent(rt: HostRuntime) -> Result<(), Fail> {
+    for row in DELIVERIES.as_slice() {
+        let written = written_in_room(rt.alloc(), row.octets)?;
+        are(&rt, &row.octets, &written, row.octets);
+    }
+    Ok(())
+}
+
+/// One growth is refused, whichever it is (docs/CONTRIBUTING.md says how).
+#[test]
+fn writes_lent_user_data_after_a_refused_growth(rt: HostRuntime) -> Result<(), Fail> {
+    let written = match written_in_room(rt.alloc(), &HELLO) {
+        Ok(written) => written,
+        Err(_) => written_in_room(rt.alloc(), &HELLO)?,
+    };
+    are(&rt, &"hellohello", &written, &HELLO);
     Ok(())
 }
 

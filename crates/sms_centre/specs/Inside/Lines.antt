@@ -6,6 +6,7 @@ use Rattle.std.specs.List.{filter}
 use Rattle.std.proofs.Math.ListN.{set}
 use Rattle.sms_field.specs.Address.Value.{AddressValue}
 use Rattle.sms_tpdu.specs.Deliver.{Delivery}
+use Rattle.sms_tpdu.specs.Deliver.Front.{Front, delivery_with}
 use Rattle.sms_relay.specs.declared.side.Side.TheVariants.{ToPhone}
 use Rattle.sms_field.specs.Time.Computed.{stamp_octets}
 use Rattle.sms_message.specs.Message.{tag_of, following, same_tag}
@@ -23,9 +24,9 @@ use Rattle.sms_message.specs.declared.outcome.Outcome.TheVariants.{Pushed, Nothi
 use Rattle.sms_message.specs.declared.outcome.Dropped.{Dropped}
 use Rattle.sms_message.specs.declared.outcome.Dropped.TheVariants as dropped
 
--- the delivery of a message that waits
-abbrev pub delivery_of : WaitingValue → Bool → Delivery
-delivery_of m more =
+-- what stands before the user data of a message that waits
+abbrev pub front_of : WaitingValue → Bool → Front
+front_of m more =
     record {
       more = more;
       looped = false;
@@ -35,8 +36,11 @@ delivery_of m more =
       pid = m.submission.pid;
       dcs = m.submission.dcs;
       stamp = stamp_octets m.stamp;
-      user = m.submission.user;
     }
+
+-- the delivery of a message that waits
+abbrev pub delivery_of : WaitingValue → Bool → Delivery
+delivery_of m more = delivery_with (front_of m more) m.submission.user
 
 abbrev pub new_line : AddressValue → LineValue
 new_line address =

@@ -1,12 +1,14 @@
 //! Messages that wait for their delivery.
 
-ghost use Rattle.std.specs.Prelude.{◌≡◌, IfOk};
-ghost use Rattle.sms_centre.specs.Inside.Lines.{delivery_of, is_awaited};
+ghost use Rattle.std.specs.Prelude.{◌≡◌, ◌≤◌, length, IfOk};
+ghost use Rattle.sms_tpdu.specs.Deliver.{SpellsDeliver};
+ghost use Rattle.sms_relay.specs.declared.user.TheConstants.{USER_DATA_MAX};
+ghost use Rattle.sms_centre.specs.Inside.Lines.{delivery_of, front_of, is_awaited};
 
 use crate::centre::stamping::stamp_of;
 use sms_field::Address;
-use sms_message::Tag;
-use sms_tpdu::{Deliver, Submit};
+use sms_message::{Spare, Tag};
+use sms_tpdu::{DeliverFront, Submit};
 use std::alloc::{AllocError, Global};
 use std::marker::Model;
 
@@ -59,11 +61,12 @@ impl Model for WaitingMessage {
 }
 
 impl WaitingMessage {
-    /// The message on its way to its recipient; `more` says whether another one waits.
-    pub(crate) fn delivery(&self, alloc: Global, more: bool) -> Result<Deliver, AllocError>
-        ensures { IfOk result (λ d. d ≡ delivery_of self.now more) }
+    /// What stands before the user data of the message on its way to its recipient; `more` says
+    /// whether another one waits.
+    fn front(&self, alloc: Global, more: bool) -> Result<DeliverFront, AllocError>
+        ensures { IfOk result (λ f. f ≡ front_of self.now more) }
     {
-        Ok(Deliver {
+        Ok(DeliverFront {
             more,
             looped: false,
             report: false,
@@ -72,7 +75,17 @@ impl WaitingMessage {
             pid: self.submission.pid,
             dcs: self.submission.dcs,
             stamp: stamp_of(self.stamp),
-            user: self.submission.user.copy(alloc)?,
         })
+    }
+
+    /// The octets of the message on its way to its recipient, in the room of a list that is spare;
+    /// `more` says whether another one waits.
+    pub(crate) fn delivery(&self, spare: &mut Spare, more: bool) -> Result<Vec<u8>, AllocError>
+        ensures spelled { IfOk result (λ octets.
+            SpellsDeliver (delivery_of self.now more) octets.items) }
+        ensures few { IfOk result (λ octets. length octets.items ≤ USER_DATA_MAX) }
+    {
+        let front = self.front(spare.alloc(), more)?;
+        front.write_with_in(spare.room(), &self.submission.user)
     }
 }

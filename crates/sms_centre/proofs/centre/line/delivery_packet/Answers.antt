@@ -1,7 +1,8 @@
-use Rattle.sms_tpdu.specs.Deliver.{SpellsDeliver}
-use Rattle.sms_tpdu.specs.Inside.SizeLaws.{deliver_within}
-use Rattle.sms_message.specs.Inside.Short.{not_long}
+use Rattle.std.proofs.Common.{◌≡◌, length, ap, arith, rules}
 use Rattle.sms_centre.proofs.centre.line.delivery_packet.Goals as goal
 
 pub wrapped-requires : goal.wrapped-requires
-wrapped-requires c = λ e. let h = c.wrap_transfer_in.ensures.too_long e in not_long SpellsDeliver deliver_within _ h.0 h.1 h.2
+wrapped-requires c = λ e.
+    let long = c.wrap_written_in-packet.ensures.too_long.0 e in
+    let same : length c.as_slice.result.now ≡ length c.in_ok-octets.octets.items = ap length c.as_slice.ensures.value in
+    absurd (omega (arith, long, same, c.in_ok-octets.ensures.few))
