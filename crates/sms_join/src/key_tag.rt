@@ -43,7 +43,7 @@ fn mark_to(to: Option<&Address>) -> u16
 
 /// A tag of two numbers, the recipient and the origin.
 #[inline(always)]
-fn mixed(high: u8, low: u16, to: Option<&Address>, origin: &Address) -> u16
+fn mixed(high: u16, low: u16, to: Option<&Address>, origin: &Address) -> u16
     ensures { result ≡ mixed high low (option_copied to.entry) origin.now }
 {
     let mark = u32::from(mark_of(symbols_of(origin))) + u32::from(mark_to(to));
@@ -56,8 +56,9 @@ fn mixed(high: u8, low: u16, to: Option<&Address>, origin: &Address) -> u16
 fn tag_of_single(to: Option<&Address>, origin: &Address, stamp: Stamp) -> u16
     ensures { result ≡ tag_of (key_to (option_copied to.entry) origin.now stamp None) }
 {
-    let [_, _, _, _, minute, second, _] = stamp.octets();
-    mixed(minute, u16::from(second), to, origin)
+    let [_, _, day, hour, minute, second, _] = stamp.octets();
+    let high = u16::from(day) + u16::from(hour) + u16::from(minute);
+    mixed(high, u16::from(second), to, origin)
 }
 
 /// The tag of the key of a message, or of the message that a segment is of.
@@ -72,7 +73,7 @@ pub(crate) fn tag_of(
 {
     match concat {
         None => tag_of_single(to, origin, stamp),
-        Some(concat) => mixed(concat.maximum, concat.reference, to, origin),
+        Some(concat) => mixed(u16::from(concat.maximum), concat.reference, to, origin),
     }
 }
 
@@ -92,13 +93,13 @@ pub(crate) fn key_tag(key: &Key) -> u16
             reference,
             maximum,
             ..
-        } => mixed(*maximum, *reference, None, origin),
+        } => mixed(u16::from(*maximum), *reference, None, origin),
         Key::SegmentedTo {
             recipient,
             origin,
             reference,
             maximum,
             ..
-        } => mixed(*maximum, *reference, Some(recipient), origin),
+        } => mixed(u16::from(*maximum), *reference, Some(recipient), origin),
     }
 }

@@ -32,13 +32,17 @@ abbrev pub mixed : ℕ → ℕ → Option AddressValue → AddressValue → ℕ
 mixed high low recipient origin =
     (256 * (high + mark_of (symbols_of origin) + mark_to recipient) + low) % 2 ^ 16
 
--- of a message in one piece by the minute and the second of its time stamp, of one in segments by
--- their maximum and reference
+-- the day, the hour and the minute of a time stamp, added up
+abbrev pub minute_of : List ℕ → ℕ
+minute_of stamp = slice_index stamp 2 + slice_index stamp 3 + slice_index stamp 4
+
+-- of a message in one piece by the day, the hour, the minute and the second of its time stamp, of
+-- one in segments by their maximum and reference
 abbrev pub tag_of : Key → ℕ
-tag_of (Single origin stamp) = mixed (slice_index stamp 4) (slice_index stamp 5) None origin
+tag_of (Single origin stamp) = mixed (minute_of stamp) (slice_index stamp 5) None origin
 tag_of (Segmented origin width reference maximum) = mixed maximum reference None origin
 tag_of (SingleTo recipient origin stamp) =
-    mixed (slice_index stamp 4) (slice_index stamp 5) (Some recipient) origin
+    mixed (minute_of stamp) (slice_index stamp 5) (Some recipient) origin
 tag_of (SegmentedTo recipient origin width reference maximum) =
     mixed maximum reference (Some recipient) origin
 
