@@ -1,13 +1,15 @@
 -- Digits of texts, and texts of digits, one after the other.
-use Rattle.std.proofs.Common.{◌≡◌, ℕ, ◌+◌, ◌<◌, ◌≤◌, Bool, true, false, leb, Ok, Err, List, [], ◌∷◌, ◌++◌, length, drop, get_or, Option, Some, None, refl, sym, ap, subst, ◌∙◌, append_assoc, arith, lit<, Bor, MatchOption, ◌≢◌}
+use Rattle.std.proofs.Common.{◌≡◌, ℕ, ◌+◌, ◌<◌, ◌≤◌, Bool, true, false, leb, Ok, Err, List, [], ◌∷◌, ◌++◌, length, drop, get_or, Option, Some, None, refl, sym, ap, subst, ◌∙◌, append_assoc, arith, rules, lit<, Bor, MatchOption, ◌≢◌}
 use Rattle.std.specs.Prelude.{◌==◌, ◌||◌, Result, is_err, IsOk, OnOk, OnErr}
-use Rattle.std.proofs.lemmas.Bool.{leb-true, le-leb}
+use Rattle.std.proofs.lemmas.Bool.{eqb-true, leb-true, le-leb}
 use Rattle.std.specs.List.{AllByRecursion}
+use Rattle.std.proofs.lemmas.List.Elements.{All-from_recursion}
 use Rattle.std.proofs.lemmas.List.Quantifiers.{position-Some}
 use Rattle.std.proofs.lemmas.List.{append-nil, at_drop_more, drop_all, length-append}
-use Rattle.std.proofs.lemmas.Str.{encodes-append, encodes-chars, chars_from_encodes, encode_ascii}
+use Rattle.std.proofs.lemmas.Str.{encodes-append, encodes-chars, chars_from_encodes, chars-IsAscii, encode_ascii}
 use Rattle.std.proofs.Math.Utf8.{encode, encodes}
-use Rattle.std.specs.Str.{chars, IsUtf8}
+use Rattle.std.specs.Str.{chars, IsAscii, IsUtf8}
+use Rattle.std.proofs.lemmas.Str.Ascii.{IsAscii-from_all}
 use Rattle.sms_field.specs.Address.Text.{few_digits}
 use Rattle.sms_field.specs.declared.fault.AddressFault.TheVariants.{AddressTooLong}
 use Rattle.sms_field.specs.Address.DigitText.{digit_characters, digit_of_character, character_of_digit, and_digits, digits_of_text, text_of_digits}
@@ -112,3 +114,32 @@ few_kept total read kept false e is are =
     let same : total ≡ Some kept = e ∙ ap (λ (l : List ℕ). let r : Option (List ℕ) = Some l in r) (sym are.0) in
     let t : leb (length kept) 20 ≡ true = le-leb (length kept) 20 few in
     (few, same, rw (same, t) refl)
+
+-- ---- texts of which each octet is a digit
+
+of_both : {P Q : Type 0} (o : Option ℕ) (more : Option (List ℕ)) (digits : List ℕ) → ((digit : ℕ) → o ≡ Some digit → P) → ((others : List ℕ) → more ≡ Some others → Q) → and_digits o more ≡ Some digits → P × Q
+of_both (Some digit) (Some others) digits one many e = (one digit refl, many others refl)
+of_both (Some digit) None digits one many e = absurd cc
+of_both None more digits one many e = absurd cc
+
+-- their characters are those of ASCII
+known_small : IsAscii digit_characters
+known_small = IsAscii-from_all digit_characters (search rules)
+
+small_digit : (c digit : ℕ) → digit_of_character c ≡ Some digit → c < 128
+unfolding digit_of_character
+small_digit c digit is =
+    let found = position-Some (λ known. known == c) digit_characters digit 0 is in
+    subst (λ (n : ℕ). n < 128) (eqb-true (get_or digit_characters digit 0) c found.1) (known_small digit)
+
+small_digits : (text digits : List ℕ) → digits_of_text text ≡ Some digits → AllByRecursion (λ c. c < 128) text
+unfolding digits_of_text
+small_digits [] digits e = tt
+small_digits (c ∷ text) digits e =
+    of_both (digit_of_character c) (digits_of_text text) digits (λ digit is. small_digit c digit is) (λ others is. small_digits text others is) e
+
+pub plain_text : (bs digits : List ℕ) → digits_of_text bs ≡ Some digits → length digits ≤ 20 → Ok digits ≡ few_digits (digits_of_text (chars bs))
+plain_text bs digits is few =
+    let same : chars bs ≡ bs = chars-IsAscii bs (IsAscii-from_all bs (All-from_recursion (λ b. b < 128) bs (small_digits bs digits is))) in
+    let t : leb (length digits) 20 ≡ true = le-leb (length digits) 20 few in
+    rw (same, is, t) refl

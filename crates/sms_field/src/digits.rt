@@ -1,6 +1,6 @@
 //! The digits of an address: in octets, two an octet, and in texts.
 
-ghost use Rattle.std.specs.Prelude.{◌≡◌, ℕ, ◌+◌, ◌*◌, ◌/◌, ◌<◌, ◌≤◌, List, ◌∷◌, ◌++◌, length, Some, None, IfOk, IfSome, MatchOption, OnOk, OnErr, All, vec_len, vec_capacity, position, ◌==◌};
+ghost use Rattle.std.specs.Prelude.{◌≡◌, ℕ, ◌+◌, ◌*◌, ◌/◌, ◌<◌, ◌≤◌, List, ◌∷◌, ◌++◌, length, take, Some, None, IfOk, IfSome, MatchOption, OnOk, OnErr, All, vec_len, vec_capacity, position, ◌==◌};
 ghost use Rattle.std.specs.List.{AllByRecursion};
 ghost use Rattle.std.specs.Str.{chars};
 ghost use Rattle.std.specs.String.{string_bytes};
@@ -17,28 +17,40 @@ ghost use Rattle.std.proofs.Common.{rules};
 use crate::fault::{AddressFault, FieldFault};
 use arrayvec::ArrayVec;
 use std::alloc::{AllocError, Global};
+use std::fmt::{self, Debug, Formatter};
 use std::hash::{Hash, Hasher};
 use std::marker::Model;
 
 /// The most digits of an address (3GPP TS 23.040, 9.1.2.5).
 pub const DIGITS_MAX: usize = 20;
 
-/// Up to 20 digits, each 0 to 14. They lie in the value itself.
-#[derive(Debug, Drop)]
+/// Up to 20 digits, each 0 to 14. They lie in the value itself, in 21 octets: addresses are parts
+/// of keys, which are kept by the thousand.
+#[derive(Drop)]
 pub struct Digits {
-    values: ArrayVec<u8, DIGITS_MAX>,
+    values: [u8; DIGITS_MAX],
+    /// How many of them there are.
+    count: u8,
 }
 
 impl Model for Digits {
-    ghost use Rattle.std.specs.Prelude.{ℕ, List};
+    ghost use Rattle.std.specs.Prelude.{◌≤◌, ℕ, List, take};
 
     ghost Value = { List ℕ };
 
     ghost use Rattle.sms_field.specs.Address.DigitValues.{AreDigits};
 
-    ghost view = { λ d. d.values.items };
+    ghost view = { λ d. take d.count d.values };
 
-    ghost invariant = { λ d. AreDigits d.values.items };
+    ghost invariant = { λ d. (d.count ≤ 20) × AreDigits (take d.count d.values) };
+}
+
+impl Debug for Digits {
+    fn fmt<W: fmt::Write>(&self, f: &mut Formatter<W>) -> fmt::Result {
+        f.debug_struct("Digits")
+            .field("values", &self.as_slice())
+            .finish()
+    }
 }
 
 impl PartialEq for Digits {
@@ -47,7 +59,7 @@ impl PartialEq for Digits {
     ghost laws = { Prim.search (comparing, rules) };
 
     fn eq(&self, other: &Digits) -> bool {
-        self.values.as_slice() == other.values.as_slice()
+        self.as_slice() == other.as_slice()
     }
 }
 
@@ -61,7 +73,7 @@ impl Hash for Digits {
     ghost respects_eq = { Prim.search (hashing, rules) };
 
     fn hash<H: Hasher>(&self, state: &mut H) {
-        self.values.as_slice().hash(state);
+        self.as_slice().hash(state);
     }
 }
 
@@ -71,10 +83,22 @@ impl Digits {
         requires { AreDigits values.now }
         ensures { result ≡ values.now }
     {
-        match ArrayVec::try_from(values) {
-            Ok(values) => Digits { values },
-            Err(_) => unreachable!(),
+        let mut room = [0; DIGITS_MAX];
+        room[..values.len()].copy_from_slice(values);
+        Digits {
+            values: room,
+            count: values.len() as u8,
         }
+    }
+
+    /// The first values, as many as are counted.
+    #[inline(always)]
+    pub(crate) fn lying(values: [u8; DIGITS_MAX], count: u8) -> Digits
+        requires few { count ≤ 20 }
+        requires digits { AreDigits (take count values) }
+        ensures { result ≡ take count values }
+    {
+        Digits { values, count }
     }
 
     /// The digits that lie in this room.
@@ -82,7 +106,7 @@ impl Digits {
         requires { AreDigits values.items }
         ensures { result ≡ values.items }
     {
-        Digits { values }
+        Digits::new(values.as_slice())
     }
 
     /// The digits, each 0 to 14.
@@ -91,14 +115,17 @@ impl Digits {
         ensures few { length result.now ≤ DIGITS_MAX }
         ensures each { All (λ digit. digit < 15) result.now }
     {
-        self.values.as_slice()
+        &self.values[..usize::from(self.count)]
     }
 
     /// The same digits.
     pub fn copy(&self) -> Digits
         ensures { result ≡ self.now }
     {
-        Digits::new(self.as_slice())
+        Digits {
+            values: self.values,
+            count: self.count,
+        }
     }
 }
 
@@ -196,9 +223,36 @@ fn character_of(digit: u8) -> char
     CHARACTERS[digit as usize]
 }
 
-/// The digits of a text, up to 20. A character that is no digit is found before too many. It takes
-/// no memory.
-pub fn digits_of(text: &str) -> Result<Digits, AddressFault>
+/// The digit that an octet is the character of, where it is `0` to `9`.
+#[inline(always)]
+#[tactic(auto, unfolding(crate::specs::Address::DigitText::digit_of_character))]
+fn plain_digit(octet: u8) -> Option<u8>
+    ensures is { IfSome result (λ digit. digit_of_character octet ≡ Some digit) }
+    ensures bound { IfSome result (λ digit. digit < 15) }
+{
+    if octet < 48 || octet > 57 {
+        return None;
+    }
+    Some(octet - 48)
+}
+
+/// The digits of up to 20 octets, where each is the character `0` to `9`.
+fn plain_digits(octets: &[u8]) -> Option<Digits>
+    ensures digits { IfSome result (λ digits. digits_of_text octets.now ≡ Some digits) }
+    ensures few { IfSome result (λ digits. length digits ≤ DIGITS_MAX) }
+{
+    if octets.len() > DIGITS_MAX {
+        return None;
+    }
+    let mut values = [0; DIGITS_MAX];
+    for place in 0..octets.len() {
+        values[place] = plain_digit(octets[place])?;
+    }
+    Some(Digits::lying(values, octets.len() as u8))
+}
+
+/// The digits of a text, up to 20, one character after the other.
+fn each_digit_of(text: &str) -> Result<Digits, AddressFault>
     ensures { result ≡ few_digits (digits_of_text (chars text.now)) }
 {
     let mut digits: ArrayVec<u8, DIGITS_MAX> = ArrayVec::new();
@@ -213,6 +267,17 @@ pub fn digits_of(text: &str) -> Result<Digits, AddressFault>
         return Err(AddressFault::AddressTooLong);
     }
     Ok(Digits::of(digits))
+}
+
+/// The digits of a text, up to 20. A character that is no digit is found before too many. It takes
+/// no memory. Of most texts each octet is a digit.
+pub fn digits_of(text: &str) -> Result<Digits, AddressFault>
+    ensures { result ≡ few_digits (digits_of_text (chars text.now)) }
+{
+    match plain_digits(text.as_bytes()) {
+        Some(digits) => Ok(digits),
+        None => each_digit_of(text),
+    }
 }
 
 /// Adds the characters of digits to a text.

@@ -12,6 +12,7 @@ ghost use Rattle.std.proofs.Common.{rules};
 use arrayvec::ArrayVec;
 use sms_text::pack_into;
 use std::alloc::{AllocError, Global};
+use std::fmt::{self, Debug, Formatter};
 use std::hash::{Hash, Hasher};
 use std::marker::Model;
 
@@ -19,21 +20,31 @@ use std::marker::Model;
 pub const NAME_MAX: usize = 11;
 
 /// A name: up to 11 septets of the 7-bit default alphabet. They lie in the value itself.
-#[derive(Debug, Drop)]
+#[derive(Drop)]
 pub struct Name {
-    septets: ArrayVec<u8, NAME_MAX>,
+    septets: [u8; NAME_MAX],
+    /// How many of them there are.
+    count: u8,
 }
 
 impl Model for Name {
-    ghost use Rattle.std.specs.Prelude.{ℕ, List};
+    ghost use Rattle.std.specs.Prelude.{◌≤◌, ℕ, List, take};
 
     ghost Value = { List ℕ };
 
     ghost use Rattle.sms_field.specs.Address.NameOctets.{IsName};
 
-    ghost view = { λ n. n.septets.items };
+    ghost view = { λ n. take n.count n.septets };
 
-    ghost invariant = { λ n. IsName n.septets.items };
+    ghost invariant = { λ n. (n.count ≤ 11) × IsName (take n.count n.septets) };
+}
+
+impl Debug for Name {
+    fn fmt<W: fmt::Write>(&self, f: &mut Formatter<W>) -> fmt::Result {
+        f.debug_struct("Name")
+            .field("septets", &self.as_slice())
+            .finish()
+    }
 }
 
 impl PartialEq for Name {
@@ -42,7 +53,7 @@ impl PartialEq for Name {
     ghost laws = { Prim.search (comparing, rules) };
 
     fn eq(&self, other: &Name) -> bool {
-        self.septets.as_slice() == other.septets.as_slice()
+        self.as_slice() == other.as_slice()
     }
 }
 
@@ -56,7 +67,7 @@ impl Hash for Name {
     ghost respects_eq = { Prim.search (hashing, rules) };
 
     fn hash<H: Hasher>(&self, state: &mut H) {
-        self.septets.as_slice().hash(state);
+        self.as_slice().hash(state);
     }
 }
 
@@ -66,9 +77,11 @@ impl Name {
         requires { IsName septets.now }
         ensures { result ≡ septets.now }
     {
-        match ArrayVec::try_from(septets) {
-            Ok(septets) => Name { septets },
-            Err(_) => unreachable!(),
+        let mut room = [0; NAME_MAX];
+        room[..septets.len()].copy_from_slice(septets);
+        Name {
+            septets: room,
+            count: septets.len() as u8,
         }
     }
 
@@ -77,7 +90,7 @@ impl Name {
         requires { IsName septets.items }
         ensures { result ≡ septets.items }
     {
-        Name { septets }
+        Name::new(septets.as_slice())
     }
 
     /// The septets, each below 128.
@@ -86,14 +99,17 @@ impl Name {
         ensures few { length result.now ≤ NAME_MAX }
         ensures each { AreSeptets result.now }
     {
-        self.septets.as_slice()
+        &self.septets[..usize::from(self.count)]
     }
 
     /// The same name.
     pub fn copy(&self) -> Name
         ensures { result ≡ self.now }
     {
-        Name::new(self.as_slice())
+        Name {
+            septets: self.septets,
+            count: self.count,
+        }
     }
 }
 

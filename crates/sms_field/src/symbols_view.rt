@@ -47,14 +47,13 @@ impl<'a> DigitsView<'a> {
     pub fn to_value(&self) -> Digits
         ensures { result ≡ self.now }
     {
-        let mut digits: ArrayVec<u8, DIGITS_MAX> = ArrayVec::new();
+        let mut values = [0; DIGITS_MAX];
         for place in 0..self.octets.len() {
             let octet = self.octets[place];
-            digits.push(octet % 16);
-            digits.push(octet / 16);
+            values[2 * place] = octet % 16;
+            values[2 * place + 1] = octet / 16;
         }
-        digits.truncate(usize::from(self.count));
-        Digits::of(digits)
+        Digits::lying(values, self.count)
     }
 
     /// How many digits there are.

@@ -2,7 +2,7 @@
 
 ghost use Rattle.std.specs.Prelude.{◌≡◌, ◌≤◌, ◌↔◌, length, IsSome, IfSome};
 
-use arrayvec::ArrayVec;
+use std::fmt::{self, Debug, Formatter};
 use std::marker::Model;
 
 /// The most octets of an address: its length, its type and ten of its value (3GPP TS 23.040,
@@ -11,20 +11,29 @@ pub const ADDRESS_MAX: usize = 12;
 
 /// The octets of an address in the form of TP-OA, at most `ADDRESS_MAX`, be they well formed or
 /// not. They lie in the value itself.
-#[derive(Debug, Drop)]
+#[derive(Drop)]
 pub struct AddressOctets {
-    octets: ArrayVec<u8, ADDRESS_MAX>,
+    octets: [u8; ADDRESS_MAX],
+    /// How many of them there are.
+    count: u8,
 }
 
 impl Model for AddressOctets {
-    ghost use Rattle.std.specs.Prelude.{ℕ, List, length, ◌≤◌};
-    ghost use Rattle.sms_saved.specs.declared.address.TheConstants.{ADDRESS_MAX};
+    ghost use Rattle.std.specs.Prelude.{ℕ, List, take, ◌≤◌};
 
     ghost Value = { List ℕ };
 
-    ghost view = { λ a. a.octets.items };
+    ghost view = { λ a. take a.count a.octets };
 
-    ghost invariant = { λ a. length a.octets.items ≤ ADDRESS_MAX };
+    ghost invariant = { λ a. a.count ≤ 12 };
+}
+
+impl Debug for AddressOctets {
+    fn fmt<W: fmt::Write>(&self, f: &mut Formatter<W>) -> fmt::Result {
+        f.debug_struct("AddressOctets")
+            .field("octets", &self.as_slice())
+            .finish()
+    }
 }
 
 impl AddressOctets {
@@ -33,10 +42,15 @@ impl AddressOctets {
         ensures few { IsSome result ↔ (length octets.now ≤ ADDRESS_MAX) }
         ensures value { IfSome result (λ a. a ≡ octets.now) }
     {
-        match ArrayVec::try_from(octets) {
-            Ok(octets) => Some(AddressOctets { octets }),
-            Err(_) => None,
+        if octets.len() > ADDRESS_MAX {
+            return None;
         }
+        let mut room = [0; ADDRESS_MAX];
+        room[..octets.len()].copy_from_slice(octets);
+        Some(AddressOctets {
+            octets: room,
+            count: octets.len() as u8,
+        })
     }
 
     /// The octets.
@@ -44,6 +58,6 @@ impl AddressOctets {
         ensures value { result.now ≡ self.now }
         ensures few { length result.now ≤ ADDRESS_MAX }
     {
-        self.octets.as_slice()
+        &self.octets[..usize::from(self.count)]
     }
 }

@@ -1,15 +1,30 @@
 //! The octets of a key, as they are told apart.
 
-ghost use Rattle.std.specs.Prelude.{◌≡◌, [], ◌∷◌, nat_eq};
+ghost use Rattle.std.specs.Prelude.{◌≡◌, ◌≤◌, ◌-◌, ◌++◌, [], ◌∷◌, length, nat_eq, replicate};
 ghost use Rattle.std.specs.Cmp.Lexicographic.{pointwise};
 ghost use Rattle.std.specs.Cmp.Rules.{comparing, hashing};
 ghost use Rattle.std.proofs.Common.{rules};
+ghost use Rattle.sms_saved.specs.Inside.KeyHashes.{hashed_octets};
 
 use std::hash::{Hash, Hasher};
 use std::marker::Model;
 
-/// The octets of a key, where they lie. A hasher gets them all at once: of a slice it would get
-/// each by itself.
+/// How many octets of whole words are hashed. No key has more than 35.
+const WORDS: usize = 40;
+
+/// Octets of which there are few, and octets that are 0.
+#[inline(always)]
+fn padded(octets: &[u8]) -> [u8; WORDS]
+    requires { length octets.now ≤ 40 }
+    ensures { result ≡ octets.now ++ replicate (40 - length octets.now) 0 }
+{
+    let mut words = [0; WORDS];
+    words[..octets.len()].copy_from_slice(octets);
+    words
+}
+
+/// The octets of a key, where they lie. A hasher gets them all at once, in whole words: of a slice
+/// it would get each by itself, and it takes octets that end a word one by one.
 #[derive(Drop)]
 pub(crate) struct KeyOctets<'a> {
     octets: &'a [u8],
@@ -38,12 +53,16 @@ impl<'a> Eq for KeyOctets<'a> {
 }
 
 impl<'a> Hash for KeyOctets<'a> {
-    ghost hash_input = { λ k. k ∷ [] };
+    ghost hash_input = { λ k. hashed_octets k ∷ [] };
 
     ghost respects_eq = { Prim.search (hashing, rules) };
 
     fn hash<H: Hasher>(&self, state: &mut H) {
-        state.write(self.octets);
+        if self.octets.len() <= WORDS {
+            state.write(&padded(self.octets));
+        } else {
+            state.write(self.octets);
+        }
     }
 }
 
