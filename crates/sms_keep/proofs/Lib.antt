@@ -13,3 +13,4 @@ mod PlainDigits
 mod PlainNames
 mod PlainAddress
 mod AddressBack
+mod TelephonesRead

@@ -11,6 +11,7 @@ ghost use Rattle.sms_keep.specs.Inside.Saving.{KeyIsSound};
 ghost use Rattle.sms_keep.specs.Inside.Restoring.{IsAddressOf, IsKeyOf};
 
 use crate::plain::is_plain;
+use crate::telephones::telephone_from;
 use sms_field::{Address, Stamp, address_laws};
 use sms_join::Key;
 use sms_saved::{AddressOctets, Key as SavedKey, Message, Width as SavedWidth};
@@ -102,8 +103,8 @@ pub(crate) fn key_of(room: &mut Vec<u8>, key: &Key) -> Result<SavedKey, AllocErr
     })
 }
 
-/// The address that is written as these octets.
-fn address_from(alloc: Global, octets: &AddressOctets) -> Result<Option<Address>, AllocError>
+/// The address that is written as these octets, be it of digits or a name.
+fn any_address_from(alloc: Global, octets: &AddressOctets) -> Result<Option<Address>, AllocError>
     ensures { IfOk result (IsAddressOf octets.now) }
 {
     address_laws();
@@ -115,6 +116,16 @@ fn address_from(alloc: Global, octets: &AddressOctets) -> Result<Option<Address>
         Ok(Some(address))
     } else {
         Ok(None)
+    }
+}
+
+/// The address that is written as these octets.
+fn address_from(alloc: Global, octets: &AddressOctets) -> Result<Option<Address>, AllocError>
+    ensures { IfOk result (IsAddressOf octets.now) }
+{
+    match telephone_from(octets.as_slice()) {
+        Some(address) => Ok(Some(address)),
+        None => any_address_from(alloc, octets),
     }
 }
 

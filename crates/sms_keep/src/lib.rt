@@ -11,6 +11,7 @@ mod restoring;
 mod saving;
 mod sets;
 mod sets_back;
+mod telephones;
 
 pub use fault::{Fault, HeldFault, ReadFault};
 pub use restoring::{Restored, read};

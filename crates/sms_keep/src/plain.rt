@@ -5,7 +5,7 @@ ghost use Rattle.sms_text.specs.Octets.{IsOctets};
 ghost use Rattle.sms_keep.specs.Inside.Plain.{are_needed, are_plain, is_clear, is_filled, is_plain};
 
 /// The type of number of names.
-const ALPHANUMERIC: u8 = 5;
+pub(crate) const ALPHANUMERIC: u8 = 5;
 
 /// Whether the high half after an odd last digit is 15.
 fn is_filled(count: u8, symbols: &[u8]) -> bool

@@ -5,7 +5,7 @@ use Rattle.sms_keep.specs.Held.{IsAddress}
 use Rattle.sms_keep.specs.Inside.Plain.{is_plain}
 use Rattle.sms_keep.proofs.PlainAddress.{plain_is_written}
 use Rattle.sms_keep.proofs.AddressBack.{refused_is_none, address_is_plain}
-use Rattle.sms_keep.proofs.keys.address_from.Goals as goal
+use Rattle.sms_keep.proofs.keys.any_address_from.Goals as goal
 
 pub returns-in_default : goal.returns-in_default
 returns-in_default c =
