@@ -1,6 +1,6 @@
 //! The octets of an address.
 
-ghost use Rattle.std.specs.Prelude.{◌≡◌, ◌≤◌, ◌↔◌, length, IsSome, IfSome};
+ghost use Rattle.std.specs.Prelude.{◌≡◌, ◌≤◌, ◌↔◌, length, take, IsSome, IfSome};
 
 use std::fmt::{self, Debug, Formatter};
 use std::marker::Model;
@@ -51,6 +51,29 @@ impl AddressOctets {
             octets: room,
             count: octets.len() as u8,
         })
+    }
+
+    /// The first of these octets, so many. Where there are enough, all that there is room for are
+    /// copied: that takes no call.
+    #[inline(always)]
+    pub(crate) fn in_front(octets: &[u8], count: u8) -> AddressOctets
+        requires few { count ≤ ADDRESS_MAX }
+        requires there { count ≤ length octets.now }
+        ensures { result ≡ take count octets.now }
+    {
+        let mut room = [0; ADDRESS_MAX];
+        if octets.len() >= ADDRESS_MAX {
+            room.copy_from_slice(&octets[..ADDRESS_MAX]);
+            return AddressOctets {
+                octets: room,
+                count,
+            };
+        }
+        room[..octets.len()].copy_from_slice(octets);
+        AddressOctets {
+            octets: room,
+            count,
+        }
     }
 
     /// The octets.

@@ -1,24 +1,27 @@
 //! The octets of a key, as they are told apart.
 
-ghost use Rattle.std.specs.Prelude.{◌≡◌, ◌≤◌, ◌-◌, ◌++◌, [], ◌∷◌, length, nat_eq, replicate};
+ghost use Rattle.std.specs.Prelude.{◌≡◌, ◌≤◌, [], ◌∷◌, length, nat_eq};
 ghost use Rattle.std.specs.Cmp.Lexicographic.{pointwise};
 ghost use Rattle.std.specs.Cmp.Rules.{comparing, hashing};
 ghost use Rattle.std.proofs.Common.{rules};
-ghost use Rattle.sms_saved.specs.Inside.KeyHashes.{hashed_octets};
+ghost use Rattle.sms_saved.specs.Inside.KeyHashes.{hashed_octets, padded};
 
 use std::hash::{Hash, Hasher};
 use std::marker::Model;
 
-/// How many octets of whole words are hashed. No key has more than 35.
+/// How many octets of whole words are hashed of most keys, whose addresses have few digits.
+const FEW_WORDS: usize = 24;
+
+/// How many are of the others. No key has more than 35.
 const WORDS: usize = 40;
 
 /// Octets of which there are few, and octets that are 0.
 #[inline(always)]
-fn padded(octets: &[u8]) -> [u8; WORDS]
-    requires { length octets.now ≤ 40 }
-    ensures { result ≡ octets.now ++ replicate (40 - length octets.now) 0 }
+fn padded<const N: usize>(octets: &[u8]) -> [u8; N]
+    requires { length octets.now ≤ N }
+    ensures { result ≡ padded N octets.now }
 {
-    let mut words = [0; WORDS];
+    let mut words = [0; N];
     words[..octets.len()].copy_from_slice(octets);
     words
 }
@@ -58,8 +61,10 @@ impl<'a> Hash for KeyOctets<'a> {
     ghost respects_eq = { Prim.search (hashing, rules) };
 
     fn hash<H: Hasher>(&self, state: &mut H) {
-        if self.octets.len() <= WORDS {
-            state.write(&padded(self.octets));
+        if self.octets.len() <= FEW_WORDS {
+            state.write(&padded::<FEW_WORDS>(self.octets));
+        } else if self.octets.len() <= WORDS {
+            state.write(&padded::<WORDS>(self.octets));
         } else {
             state.write(self.octets);
         }

@@ -56,19 +56,6 @@ pub(crate) fn seven_of(bytes: &[u8]) -> Result<([u8; 7], &[u8]), Stop>
     Ok((octets, rest))
 }
 
-/// Octets behind their number in one octet.
-#[tactic(auto, unfolding(crate::specs::Reading::Fields::string_at))]
-pub(crate) fn short_string_of(bytes: &[u8]) -> Result<(&[u8], &[u8]), Stop>
-    ensures { Gives (λ x. (x.0.now, x.1.now)) result (string_at octet_at bytes.now) }
-{
-    let (count, rest) = octet_of(bytes)?;
-    let count = usize::from(count);
-    if rest.len() < count {
-        return Err(halted(bytes, StateFault::Short));
-    }
-    Ok(rest.split_at(count))
-}
-
 /// Octets behind their number in eight octets.
 #[tactic(auto, unfolding(crate::specs::Reading::Fields::string_at))]
 pub(crate) fn long_string_of(bytes: &[u8]) -> Result<(&[u8], &[u8]), Stop>

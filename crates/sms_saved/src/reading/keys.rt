@@ -6,21 +6,25 @@ ghost use Rattle.sms_saved.specs.Spelling.{key};
 ghost use Rattle.sms_saved.specs.Reading.Fields.{Gives, optional_at};
 ghost use Rattle.sms_saved.specs.Reading.Keys.{address_at, segmented_at, message_at, key_at};
 
-use crate::address::AddressOctets;
+use crate::address::{ADDRESS_MAX, AddressOctets};
 use crate::fault::{StateFault, Stop, halted};
-use crate::reading::fields::{octet_of, seven_of, short_string_of, u16_of};
+use crate::reading::fields::{octet_of, seven_of, u16_of};
 use crate::state::{Key, Message, Width};
 
 /// An address.
-#[tactic(auto, unfolding(crate::specs::Reading::Fields::tested_at))]
+#[tactic(auto, unfolding(crate::specs::Reading::Fields::tested_at, crate::specs::Reading::Fields::string_at))]
 fn address_of(bytes: &[u8]) -> Result<(AddressOctets, &[u8]), Stop>
     ensures { Gives (λ x. (x.0, x.1.now)) result (address_at bytes.now) }
 {
-    let (octets, rest) = short_string_of(bytes)?;
-    match AddressOctets::new(octets) {
-        Some(octets) => Ok((octets, rest)),
-        None => Err(halted(bytes, StateFault::LongAddress)),
+    let (count, behind) = octet_of(bytes)?;
+    if behind.len() < usize::from(count) {
+        return Err(halted(bytes, StateFault::Short));
     }
+    if usize::from(count) > ADDRESS_MAX {
+        return Err(halted(bytes, StateFault::LongAddress));
+    }
+    let address = AddressOctets::in_front(behind, count);
+    Ok((address, &behind[usize::from(count)..]))
 }
 
 /// A recipient, or none.

@@ -1,4 +1,4 @@
-use Rattle.std.proofs.Common.{◌≡◌, ◌∙◌, ◌++◌, ◌∷◌, [], ap, not, sym, false, List, ℕ}
+use Rattle.std.proofs.Common.{◌≡◌, ◌∙◌, ◌++◌, ◌∷◌, [], ap, not, false, List, ℕ}
 use Rattle.sms_saved.specs.Fits.{is_among}
 use Rattle.sms_saved.proofs.SeenKeys.{noted}
 use Rattle.sms_saved.proofs.seen.Seen.note.Goals as goal
