@@ -9,6 +9,7 @@ ghost use Rattle.sms_c.specs.Answered.{Fails};
 ghost use Rattle.sms_c.specs.Status.{IsNotRoom};
 
 use crate::status::Failure;
+use crate::telephone::telephone_given;
 use sms_field::{Address, TextFault};
 use std::alloc::Global;
 
@@ -26,8 +27,8 @@ fn address_said(alloc: Global, text: &str) -> Result<Address, Failure>
     }
 }
 
-/// The address that a text in UTF-8 says.
-pub fn address_given(alloc: Global, text: &[u8]) -> Result<Address, Failure>
+/// The address that a text in UTF-8 says, be it a number or a name.
+fn any_address_given(alloc: Global, text: &[u8]) -> Result<Address, Failure>
     ensures given { MatchResult result (λ address. given.address_given text.now ≡ Ok address)
         (λ why. Fails (given.address_given text.now) why) }
     ensures room { IfErr result IsNotRoom }
@@ -35,5 +36,17 @@ pub fn address_given(alloc: Global, text: &[u8]) -> Result<Address, Failure>
     match str::from_utf8(text) {
         Ok(text) => address_said(alloc, text),
         Err(_) => Err(Failure::NotUtf8),
+    }
+}
+
+/// The address that a text in UTF-8 says.
+pub fn address_given(alloc: Global, text: &[u8]) -> Result<Address, Failure>
+    ensures given { MatchResult result (λ address. given.address_given text.now ≡ Ok address)
+        (λ why. Fails (given.address_given text.now) why) }
+    ensures room { IfErr result IsNotRoom }
+{
+    match telephone_given(text) {
+        Some(address) => Ok(address),
+        None => any_address_given(alloc, text),
     }
 }

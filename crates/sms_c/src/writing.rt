@@ -16,6 +16,7 @@ mod submit;
 
 use crate::class::SPARE;
 use crate::status::Failure;
+use crate::telephone::telephone_given;
 use crate::times::{StampOctets, ValidityOctets};
 use sms_field::Address;
 use sms_join::{Segments, cut_text};
@@ -89,13 +90,25 @@ pub fn is_set(octet: u8) -> bool
     if octet == 0 { false } else { true }
 }
 
+/// The address that a text spells, be it a number or a name.
+fn any_address_of(alloc: Global, text: &str) -> Result<Address, Failure>
+    ensures address { IfOk result (λ address. address_of_text (chars text.now) ≡ Ok address) }
+    ensures none { IfErr result (λ why. (why ≡ Memory)
+        ⊎ (why ≡ BadAddress) × SaysNoAddress text.now) }
+{
+    Ok(Address::from_text(alloc, text)?)
+}
+
 /// The address that a text spells.
 pub fn address_of(alloc: Global, text: &str) -> Result<Address, Failure>
     ensures address { IfOk result (λ address. address_of_text (chars text.now) ≡ Ok address) }
     ensures none { IfErr result (λ why. (why ≡ Memory)
         ⊎ (why ≡ BadAddress) × SaysNoAddress text.now) }
 {
-    Ok(Address::from_text(alloc, text)?)
+    match telephone_given(text.as_bytes()) {
+        Some(address) => Ok(address),
+        None => any_address_of(alloc, text),
+    }
 }
 
 /// The segments of a text, by a reference of this width.

@@ -1,6 +1,6 @@
 //! For whom what a joiner of C is offered is, and whom it is from.
 
-ghost use Rattle.std.specs.Prelude.{◌≡◌, ◌≢◌, ◌⊎◌, ◌↔◌, ◌<◌, IfOk, IfErr};
+ghost use Rattle.std.specs.Prelude.{◌≡◌, ◌≢◌, ◌⊎◌, ◌↔◌, ◌<◌, Some, IsSome, IfSome, IfOk, IfErr};
 ghost use Rattle.std.specs.Str.{IsUtf8};
 ghost use Rattle.sms_c.specs.DataOffers.{IsFrom};
 ghost use Rattle.sms_c.specs.GatewayOffers.{IsTo, SayNoAddress};
@@ -10,6 +10,7 @@ ghost use Rattle.sms_c.specs.declared.status.Failure.TheVariants.{BadAddress, Me
 
 use crate::handed_out::text_of;
 use crate::status::Failure;
+use crate::telephone::telephone_given;
 use crate::writing::address_of;
 use sms_field::Address;
 use std::alloc::Global;
@@ -36,8 +37,21 @@ fn recipient_said(alloc: Global, text: &str) -> Result<Option<Address>, Failure>
     Ok(Some(address_of(alloc, text)?))
 }
 
-/// The recipient that a text in UTF-8 says: none where it is empty.
-pub fn recipient_in(alloc: Global, text: &[u8]) -> Result<Option<Address>, Failure>
+/// The telephone number that a text says that is not empty, where it is one.
+#[inline(always)]
+fn telephone_to(text: &[u8]) -> Option<Address>
+    ensures to { IfSome result (λ address. IsTo text.now (Some address)) }
+    ensures text { IsSome result → IsUtf8 text.now }
+    ensures address { IsSome result → SaysNoAddress text.now → ⊥ }
+{
+    if text.is_empty() {
+        return None;
+    }
+    telephone_given(text)
+}
+
+/// The recipient that a text in UTF-8 says, be it a number or a name: none where it is empty.
+fn any_recipient_in(alloc: Global, text: &[u8]) -> Result<Option<Address>, Failure>
     ensures is_to { IfOk result (IsTo text.now) }
     ensures not_utf8 { (numbers.status_in result ≡ 4) ↔ (IsUtf8 text.now → ⊥) }
     ensures bad_address { numbers.status_in result ≡ 5
@@ -50,6 +64,27 @@ pub fn recipient_in(alloc: Global, text: &[u8]) -> Result<Option<Address>, Failu
 {
     let text = text_of(text)?;
     recipient_said(alloc, text)
+}
+
+/// The recipient that a text in UTF-8 says: none where it is empty.
+pub fn recipient_in(alloc: Global, text: &[u8]) -> Result<Option<Address>, Failure>
+    ensures is_to { IfOk result (IsTo text.now) }
+    ensures not_utf8 { (numbers.status_in result ≡ 4) ↔ (IsUtf8 text.now → ⊥) }
+    ensures bad_address { numbers.status_in result ≡ 5
+        → IsUtf8 text.now × SaysNoAddress text.now }
+    ensures address { IsUtf8 text.now → SaysNoAddress text.now
+        → (numbers.status_in result ≡ 5) ⊎ (numbers.status_in result ≡ 2) }
+    ensures memory { numbers.status_in result ≡ 2 → IsUtf8 text.now }
+    ensures answered { IfErr result (λ why.
+        (why ≡ NotUtf8) ⊎ (why ≡ Memory) ⊎ (why ≡ BadAddress)) }
+{
+    if text.is_empty() {
+        return Ok(None);
+    }
+    match telephone_to(text) {
+        Some(address) => Ok(Some(address)),
+        None => any_recipient_in(alloc, text),
+    }
 }
 
 /// For whom something is, and whom it is from, as two texts say.
