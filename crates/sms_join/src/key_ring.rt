@@ -49,7 +49,8 @@ impl Model for KeyRing {
     ghost view = { λ r. record { limit = r.keys.capacity; keys = reverse r.keys.items } };
 
     ghost invariant = { λ r. IsChained (hash_of r.hashing) r.keys.capacity r.oldest
-        (laid r.oldest r.keys.items) r.next.items r.heads.items × (vec_capacity r.next ≡ r.keys.capacity)
+        (laid r.oldest r.keys.items) r.next.items r.heads.items
+        × (vec_capacity r.next ≡ r.keys.capacity)
         × (2 * r.keys.capacity ≤ vec_capacity r.heads) };
 }
 
