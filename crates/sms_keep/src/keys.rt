@@ -5,6 +5,7 @@ ghost use Rattle.sms_field.specs.Address.{address_octets};
 ghost use Rattle.sms_field.specs.Address.Value.{HasSpelling};
 ghost use Rattle.sms_join.specs.Key.{origin_of, recipient_of};
 ghost use Rattle.sms_saved.specs.Fits.{AddressFits, MessageFits};
+ghost use Rattle.sms_saved.specs.Views.{seen_key};
 ghost use Rattle.sms_keep.specs.Saved.{saved_key, saved_message, saved_width};
 ghost use Rattle.sms_keep.specs.Held.{HasAddresses, IsAddress};
 ghost use Rattle.sms_keep.specs.Inside.Saving.{KeyIsSound};
@@ -14,7 +15,7 @@ use crate::plain::is_plain;
 use crate::telephones::telephone_from;
 use sms_field::{Address, Stamp, address_laws};
 use sms_join::Key;
-use sms_saved::{AddressOctets, Key as SavedKey, Message, Width as SavedWidth};
+use sms_saved::{AddressOctets, Key as SavedKey, KeyView, Message, Width as SavedWidth};
 use sms_tpdu::Width;
 use std::alloc::{AllocError, Global};
 
@@ -104,15 +105,15 @@ pub(crate) fn key_of(room: &mut Vec<u8>, key: &Key) -> Result<SavedKey, AllocErr
 }
 
 /// The address that is written as these octets, be it of digits or a name.
-fn any_address_from(alloc: Global, octets: &AddressOctets) -> Result<Option<Address>, AllocError>
+fn any_address_from(alloc: Global, octets: &[u8]) -> Result<Option<Address>, AllocError>
     ensures { IfOk result (IsAddressOf octets.now) }
 {
     address_laws();
-    let Ok((address, _)) = Address::read(alloc, octets.as_slice()) else {
+    let Ok((address, _)) = Address::read(alloc, octets) else {
         return Ok(None);
     };
     let _kind = address.type_of_number;
-    if is_plain(octets.as_slice()) {
+    if is_plain(octets) {
         Ok(Some(address))
     } else {
         Ok(None)
@@ -120,10 +121,10 @@ fn any_address_from(alloc: Global, octets: &AddressOctets) -> Result<Option<Addr
 }
 
 /// The address that is written as these octets.
-fn address_from(alloc: Global, octets: &AddressOctets) -> Result<Option<Address>, AllocError>
+fn address_from(alloc: Global, octets: &[u8]) -> Result<Option<Address>, AllocError>
     ensures { IfOk result (IsAddressOf octets.now) }
 {
-    match telephone_from(octets.as_slice()) {
+    match telephone_from(octets) {
         Some(address) => Ok(Some(address)),
         None => any_address_from(alloc, octets),
     }
@@ -190,17 +191,24 @@ fn key_to(recipient: Address, origin: Address, message: Message) -> Key
 }
 
 /// The key that is saved so; none where the octets of its addresses are none.
-pub(crate) fn key_from(alloc: Global, key: &SavedKey) -> Result<Option<Key>, AllocError>
-    ensures { IfOk result (IsKeyOf key.now) }
+pub(crate) fn key_in(alloc: Global, key: KeyView<'_>) -> Result<Option<Key>, AllocError>
+    ensures { IfOk result (IsKeyOf (seen_key key)) }
 {
-    let Some(origin) = address_from(alloc, &key.origin)? else {
+    let Some(origin) = address_from(alloc, key.origin)? else {
         return Ok(None);
     };
-    let Some(octets) = &key.recipient else {
+    let Some(octets) = key.recipient else {
         return Ok(Some(key_alone(origin, key.message)));
     };
     let Some(recipient) = address_from(alloc, octets)? else {
         return Ok(None);
     };
     Ok(Some(key_to(recipient, origin, key.message)))
+}
+
+/// The same of a key that owns its octets.
+pub(crate) fn key_from(alloc: Global, key: &SavedKey) -> Result<Option<Key>, AllocError>
+    ensures { IfOk result (IsKeyOf key.now) }
+{
+    key_in(alloc, key.as_view())
 }

@@ -2,6 +2,7 @@
 //! back.
 #![tactic(auto)]
 
+mod at_once;
 mod fault;
 mod keys;
 mod keys_back;

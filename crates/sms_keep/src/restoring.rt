@@ -12,6 +12,7 @@ ghost use Rattle.sms_keep.specs.Restored.{HoldsRestored, IsBadSet, Restores};
 ghost use Rattle.sms_keep.specs.Inside.Restoring.{FailsBy, TellsGateway, TellsOf, IsNew};
 ghost use Rattle.sms_keep.specs.declared.fault.ReadFault.TheVariants.{Memory};
 
+use crate::at_once::read_at_once;
 use crate::fault::{Fault, HeldFault, ReadFault};
 use crate::keys::key_from;
 use crate::keys_back::remember_keys;
@@ -62,7 +63,7 @@ fn check_sets(alloc: Global, state: &State) -> Result<(), ReadFault>
 }
 
 /// A joiner that holds nothing, whose tables hash with the seed, if there is one.
-fn new_gateway(
+pub(crate) fn new_gateway(
     alloc: Global,
     seed: Option<u128>,
     limits: GatewayLimits,
@@ -123,6 +124,9 @@ pub fn read(
         (placed (length octets.now) (state_at (saved_limits limits) octets.now)) }
 {
     let own = limits_of(limits);
+    if let Some(restored) = read_at_once(alloc, seed, limits, own, octets)? {
+        return Ok(restored);
+    }
     let state = match read_state(alloc, seed.unwrap_or(0), own, octets) {
         Ok(state) => state,
         Err(fault) => return Err(fault_from(fault)),

@@ -14,4 +14,5 @@ mod Noted
 mod LimitsRead
 mod Whole
 mod Told
+mod InParts
 mod Changed

@@ -34,7 +34,7 @@ version_takes (suc zero ∷ bytes) rest fits e =
     subst (λ (r : List ℕ). Takes (1 ∷ bytes) (1 ∷ []) r) (ok_is bytes rest e) (record { parts = refl; rest_fits = IsBytes-rest 1 bytes fits })
 version_takes (suc (suc v) ∷ bytes) rest fits e = absurd cc
 
-head_takes : (bytes rest : List ℕ) → IsBytes bytes → head_at bytes ≡ Ok rest → Takes bytes head rest
+pub head_takes : (bytes rest : List ℕ) → IsBytes bytes → head_at bytes ≡ Ok rest → Takes bytes head rest
 unfolding head_at
 head_takes bytes rest fits e =
     let fault : Halt = record { left = length bytes; why = NotAState } in
@@ -126,7 +126,7 @@ unfolding digest sha512_256
 length_digest octets = omega (arith, length-take 32 (digest_bytes (final_hash initial_hash_512_256 octets) 8), length_digest_bytes (final_hash initial_hash_512_256 octets))
 
 -- the octets before the last so many
-before_last : (front back : List ℕ) (n : ℕ) → length back ≡ n → take (length (front ++ back) - n) (front ++ back) ≡ front
+pub before_last : (front back : List ℕ) (n : ℕ) → length back ≡ n → take (length (front ++ back) - n) (front ++ back) ≡ front
 before_last front back n len = take_at front back (length (front ++ back) - n) (omega (arith, length-append front back))
 
 pub state_takes : (own : Limits) (bytes : List ℕ) (s : StateValue) → IsBytes bytes → state_at own bytes ≡ Ok s → OwnFits own s × (bytes ≡ spelling s)

@@ -3,4 +3,5 @@ pub mod Views
 pub mod Spelling
 pub mod Fits
 pub mod Reading
+pub mod Parts
 pub mod Inside

@@ -45,34 +45,19 @@ impl AddressOctets {
         if octets.len() > ADDRESS_MAX {
             return None;
         }
-        let mut room = [0; ADDRESS_MAX];
-        room[..octets.len()].copy_from_slice(octets);
-        Some(AddressOctets {
-            octets: room,
-            count: octets.len() as u8,
-        })
+        Some(AddressOctets::of(octets))
     }
 
-    /// The first of these octets, so many. Where there are enough, all that there is room for are
-    /// copied: that takes no call.
-    #[inline(always)]
-    pub(crate) fn in_front(octets: &[u8], count: u8) -> AddressOctets
-        requires few { count ≤ ADDRESS_MAX }
-        requires there { count ≤ length octets.now }
-        ensures { result ≡ take count octets.now }
+    /// These octets, of which there are few enough.
+    pub(crate) fn of(octets: &[u8]) -> AddressOctets
+        requires { length octets.now ≤ ADDRESS_MAX }
+        ensures { result ≡ octets.now }
     {
         let mut room = [0; ADDRESS_MAX];
-        if octets.len() >= ADDRESS_MAX {
-            room.copy_from_slice(&octets[..ADDRESS_MAX]);
-            return AddressOctets {
-                octets: room,
-                count,
-            };
-        }
         room[..octets.len()].copy_from_slice(octets);
         AddressOctets {
             octets: room,
-            count,
+            count: octets.len() as u8,
         }
     }
 

@@ -2,7 +2,10 @@
 
 ghost use Rattle.std.specs.Prelude.{◌≡◌, ◌≢◌, ◌≤◌, ◌++◌, ◌∷◌, [], ℕ, List, length};
 ghost use Rattle.sms_saved.specs.declared.state.Key.{Key};
+ghost use Rattle.sms_saved.specs.declared.state.Limits.{Limits};
+ghost use Rattle.sms_saved.specs.declared.state.Remembered.{Remembered};
 ghost use Rattle.sms_saved.specs.Value.{StateValue};
+ghost use Rattle.sms_saved.specs.Parts.{FrontValue, IsFront, HasKeys, AreRead, state_of};
 ghost use Rattle.sms_saved.specs.Fits.{KeyFits, StateFits};
 ghost use Rattle.sms_saved.specs.Spelling.{key, spelling, body, digest};
 
@@ -46,4 +49,11 @@ pub fn one_octet_more()
     ensures collision { (s t : StateValue) (front back : List ℕ) (a : ℕ) → StateFits s
         → StateFits t → spelling s ≡ front ++ back → spelling t ≡ front ++ a ∷ back
         → (body s ≢ body t) × (digest (body s) ≡ digest (body t)) }
+{}
+
+/// A state may be taken in parts: octets that begin as one, and then have its keys and the checksum
+/// of all, are read as it.
+pub fn parts_make_a_state()
+    ensures { (own : Limits) (bytes : List ℕ) (f : FrontValue) (keys : List Remembered)
+        → IsFront own bytes f → HasKeys bytes f keys → AreRead own bytes (state_of own f keys) }
 {}

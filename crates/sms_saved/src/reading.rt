@@ -1,6 +1,7 @@
 //! Octets as a state.
 
 mod fields;
+mod front;
 mod keys;
 mod lists;
 mod sets;
@@ -14,6 +15,8 @@ ghost use Rattle.sms_saved.specs.Fits.{StateFits};
 ghost use Rattle.sms_saved.specs.Reading.Whole.{Tells, placed, state_at};
 
 use crate::fault::ReadFault;
+pub(crate) use crate::reading::front::front_of;
+pub(crate) use crate::reading::sets::remembered_view_of;
 use crate::reading::whole::told;
 use crate::state::{Limits, State};
 use std::alloc::Global;

@@ -1,20 +1,24 @@
 //! Keys.
 
-ghost use Rattle.std.specs.Prelude.{◌≡◌, IfOk};
+ghost use Rattle.std.specs.Prelude.{◌≡◌, IfOk, option_map};
 ghost use Rattle.sms_saved.specs.declared.state.Width.TheVariants as widths;
+ghost use Rattle.sms_saved.specs.Fits.{KeyFits};
 ghost use Rattle.sms_saved.specs.Spelling.{key};
+ghost use Rattle.sms_saved.specs.Views.{seen_key};
 ghost use Rattle.sms_saved.specs.Reading.Fields.{Gives, optional_at};
 ghost use Rattle.sms_saved.specs.Reading.Keys.{address_at, segmented_at, message_at, key_at};
 
-use crate::address::{ADDRESS_MAX, AddressOctets};
+use crate::address::ADDRESS_MAX;
 use crate::fault::{StateFault, Stop, halted};
+use crate::key_view::KeyView;
 use crate::reading::fields::{octet_of, seven_of, u16_of};
 use crate::state::{Key, Message, Width};
 
-/// An address.
+/// The octets of an address.
 #[tactic(auto, unfolding(crate::specs::Reading::Fields::tested_at, crate::specs::Reading::Fields::string_at))]
-fn address_of(bytes: &[u8]) -> Result<(AddressOctets, &[u8]), Stop>
-    ensures { Gives (λ x. (x.0, x.1.now)) result (address_at bytes.now) }
+#[inline(always)]
+fn address_of(bytes: &[u8]) -> Result<(&[u8], &[u8]), Stop>
+    ensures { Gives (λ x. (x.0.now, x.1.now)) result (address_at bytes.now) }
 {
     let (count, behind) = octet_of(bytes)?;
     if behind.len() < usize::from(count) {
@@ -23,14 +27,15 @@ fn address_of(bytes: &[u8]) -> Result<(AddressOctets, &[u8]), Stop>
     if usize::from(count) > ADDRESS_MAX {
         return Err(halted(bytes, StateFault::LongAddress));
     }
-    let address = AddressOctets::in_front(behind, count);
-    Ok((address, &behind[usize::from(count)..]))
+    Ok(behind.split_at(usize::from(count)))
 }
 
-/// A recipient, or none.
+/// The octets of a recipient, or none.
 #[tactic(auto, unfolding(crate::specs::Reading::Fields::optional_at))]
-fn recipient_of(bytes: &[u8]) -> Result<(Option<AddressOctets>, &[u8]), Stop>
-    ensures { Gives (λ x. (x.0, x.1.now)) result (optional_at address_at bytes.now) }
+#[inline(always)]
+fn recipient_of(bytes: &[u8]) -> Result<(Option<&[u8]>, &[u8]), Stop>
+    ensures { Gives (λ x. (option_map (λ octets. octets.now) x.0, x.1.now)) result
+        (optional_at address_at bytes.now) }
 {
     match bytes {
         [] => Err(halted(bytes, StateFault::Short)),
@@ -75,15 +80,16 @@ fn message_of(bytes: &[u8]) -> Result<(Message, &[u8]), Stop>
     }
 }
 
-/// A key.
+/// A key, whose addresses are lent.
 #[tactic(auto, unfolding(crate::specs::Reading::Keys::key_at))]
-fn bare_key_of(bytes: &[u8]) -> Result<(Key, &[u8]), Stop>
-    ensures { Gives (λ x. (x.0, x.1.now)) result (key_at bytes.now) }
+pub(crate) fn key_view_of(bytes: &[u8]) -> Result<(KeyView<'_>, &[u8]), Stop>
+    ensures read { Gives (λ x. (seen_key x.0, x.1.now)) result (key_at bytes.now) }
+    ensures fits { IfOk result (λ x. KeyFits (seen_key x.0)) }
 {
     let (origin, rest) = address_of(bytes)?;
     let (recipient, rest) = recipient_of(rest)?;
     let (message, rest) = message_of(rest)?;
-    let key = Key {
+    let key = KeyView {
         origin,
         recipient,
         message,
@@ -96,7 +102,7 @@ pub(crate) fn key_of(bytes: &[u8]) -> Result<(Key, &[u8], &[u8]), Stop>
     ensures read { Gives (λ x. (x.0, x.2.now)) result (key_at bytes.now) }
     ensures octets { IfOk result (λ x. x.1.now ≡ key x.0) }
 {
-    let (key, rest) = bare_key_of(bytes)?;
+    let (view, rest) = key_view_of(bytes)?;
     let count = bytes.len().saturating_sub(rest.len());
-    Ok((key, &bytes[..count], rest))
+    Ok((view.to_key(), &bytes[..count], rest))
 }

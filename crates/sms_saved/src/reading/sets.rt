@@ -6,13 +6,15 @@ ghost use Rattle.std.specs.List.{list_any};
 ghost use Rattle.sms_saved.specs.Value.{maximum_of, view_place, view_places, view_set};
 ghost use Rattle.sms_saved.specs.Fits.{is_open};
 ghost use Rattle.sms_saved.specs.Spelling.{key};
+ghost use Rattle.sms_saved.specs.Views.{seen_remembered};
 ghost use Rattle.sms_saved.specs.Inside.Places.{lies_there, lies_not_there};
 ghost use Rattle.sms_saved.specs.Reading.Fields.{Gives, number_at, items_at};
 ghost use Rattle.sms_saved.specs.Reading.Sets.{are_septets, septets_at, wide_at, place_at, any_set_at, set_at, remembered_at};
 
 use crate::fault::{StateFault, Stop, halted};
+use crate::key_view::RememberedView;
 use crate::reading::fields::{long_string_of, u16_of, u64_of};
-use crate::reading::keys::key_of;
+use crate::reading::keys::{key_of, key_view_of};
 use crate::state::{Message, OpenSet, Remembered, Units};
 use std::alloc::Global;
 
@@ -167,4 +169,14 @@ pub(crate) fn remembered_of(bytes: &[u8]) -> Result<(Remembered, &[u8], &[u8]), 
     let (key, octets, rest) = key_of(bytes)?;
     let (moment, rest) = u64_of(rest)?;
     Ok((Remembered { key, moment }, octets, rest))
+}
+
+/// A remembered key, whose addresses are lent.
+#[tactic(auto, unfolding(crate::specs::Reading::Sets::remembered_at))]
+pub(crate) fn remembered_view_of(bytes: &[u8]) -> Result<(RememberedView<'_>, &[u8]), Stop>
+    ensures { Gives (λ x. (seen_remembered x.0, x.1.now)) result (remembered_at bytes.now) }
+{
+    let (key, rest) = key_view_of(bytes)?;
+    let (moment, rest) = u64_of(rest)?;
+    Ok((RememberedView { key, moment }, rest))
 }

@@ -65,7 +65,7 @@ fn is_same_limits(one: Limits, other: Limits) -> bool
 
 /// The limits, which have to be these.
 #[tactic(auto, unfolding(crate::specs::Reading::Fields::tested_at))]
-fn limits_of(own: Limits, bytes: &[u8]) -> Result<(Limits, &[u8]), Stop>
+pub(crate) fn limits_of(own: Limits, bytes: &[u8]) -> Result<(Limits, &[u8]), Stop>
     ensures { Gives (λ x. (x.0, x.1.now)) result (limits_at own bytes.now) }
 {
     let (limits, rest) = any_limits_of(bytes)?;
@@ -90,7 +90,7 @@ fn version_of(bytes: &[u8]) -> Result<&[u8], Stop>
 
 /// What a state begins with.
 #[tactic(auto, unfolding(crate::specs::Reading::Whole::head_at))]
-fn head_of(bytes: &[u8]) -> Result<&[u8], Stop>
+pub(crate) fn head_of(bytes: &[u8]) -> Result<&[u8], Stop>
     ensures { Gives (λ rest. rest.now) result (head_at bytes.now) }
 {
     if bytes.len() < 8 {

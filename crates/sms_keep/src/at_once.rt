@@ -1,0 +1,123 @@
+//! A state that is held as it is read: each remembered key is looked up once, where it is put.
+
+ghost use Rattle.std.specs.Prelude.{◌≡◌, ◌≤◌, ◌-◌, [], true, drop, length, IfOk, IfSome};
+ghost use Rattle.sms_saved.specs.Value.{view_sets};
+ghost use Rattle.sms_keep.specs.Saved.{saved_limits};
+ghost use Rattle.sms_keep.specs.Inside.AtOnce.{AreTaken, IsNext, IsReadAs, SetsAreNew};
+ghost use Rattle.sms_keep.specs.Inside.Restoring.{Remembers};
+
+use crate::keys::{key_from, key_in};
+use crate::restoring::{Restored, new_gateway};
+use crate::sets_back::put_sets_back;
+use sms_join::{Gateway, GatewayLimits, Key};
+use sms_saved::laws::{keys_have_own_octets, parts_make_a_state};
+use sms_saved::{Limits, OpenSet, is_sealed, read_front, read_remembered};
+use std::alloc::{AllocError, Global};
+
+/// How many octets a remembered key takes at least (docs/SAVED.md).
+const KEY_MIN: usize = 14;
+
+/// The key at the front of the octets, its moment, and the octets after it, where it can be
+/// remembered after one that finished at this moment.
+fn next_key(
+    alloc: Global,
+    last: u64,
+    octets: &[u8],
+) -> Result<Option<(Key, u64, &[u8])>, AllocError>
+    ensures { IfOk result (λ next. IfSome next (λ x. IsNext last octets.now x.0 x.1 x.2.now)) }
+{
+    let Some((own, rest)) = read_remembered(octets) else {
+        return Ok(None);
+    };
+    if own.moment < last {
+        return Ok(None);
+    }
+    let Some(key) = key_in(alloc, own.key)? else {
+        return Ok(None);
+    };
+    Ok(Some((key, own.moment, rest)))
+}
+
+/// Remembers so many keys from the front of the octets, in a joiner that holds nothing, and hands
+/// on the octets after them; none where one of them cannot be remembered.
+fn take_keys<'a>(
+    alloc: Global,
+    gateway: &mut Gateway,
+    count: u64,
+    octets: &'a [u8],
+) -> Result<Option<&'a [u8]>, AllocError>
+    requires none { Remembers gateway.old [] }
+    requires few { count ≤ gateway.old.limits.remembered }
+    ensures taken { IfOk result (λ behind. IfSome behind
+        (λ rest. AreTaken gateway.new count octets.now rest.now)) }
+    ensures limits { gateway.new.limits ≡ gateway.old.limits }
+{
+    gateway.expect((count as usize).min(octets.len() / KEY_MIN));
+    let mut rest = octets;
+    let mut last = 0;
+    for _ in 0..count {
+        let Some((key, moment, after)) = next_key(alloc, last, rest)? else {
+            return Ok(None);
+        };
+        if !gateway.remember_new(key, moment) {
+            return Ok(None);
+        }
+        last = moment;
+        rest = after;
+    }
+    Ok(Some(rest))
+}
+
+/// Whether these sets have keys that a joiner can hold, none of which it remembers.
+fn are_new(alloc: Global, gateway: &Gateway, sets: &[OpenSet]) -> Result<bool, AllocError>
+    ensures { IfOk result (λ are. are ≡ true → SetsAreNew gateway.now (view_sets sets.now)) }
+{
+    for own in sets {
+        let Some(key) = key_from(alloc, &own.key)? else {
+            return Ok(false);
+        };
+        if gateway.remembers(&key) {
+            return Ok(false);
+        }
+    }
+    Ok(true)
+}
+
+/// Whether these are the last 32 octets.
+fn are_last(octets: &[u8], rest: &[u8]) -> bool
+    ensures { result ≡ true → rest.now ≡ drop (length octets.now - 32) octets.now }
+{
+    rest == &octets[octets.len().saturating_sub(32)..]
+}
+
+/// The joiner that holds what the octets spell; none where they are no state that it can hold, and
+/// `read` tells why.
+pub(crate) fn read_at_once(
+    alloc: Global,
+    seed: Option<u128>,
+    limits: GatewayLimits,
+    own: Limits,
+    octets: &[u8],
+) -> Result<Option<Restored>, AllocError>
+    requires { own ≡ saved_limits limits }
+    ensures { IfOk result (λ back. IfSome back (IsReadAs own octets.now)) }
+{
+    keys_have_own_octets();
+    parts_make_a_state();
+    let Some(front) = read_front(alloc, seed.unwrap_or(0), own, octets)? else {
+        return Ok(None);
+    };
+    if !is_sealed(octets) {
+        return Ok(None);
+    }
+    let mut gateway = new_gateway(alloc, seed, limits)?;
+    let Some(rest) = take_keys(alloc, &mut gateway, front.count, front.rest)? else {
+        return Ok(None);
+    };
+    if !are_last(octets, rest) || !are_new(alloc, &gateway, &front.sets)? {
+        return Ok(None);
+    }
+    let taken = front.taken;
+    put_sets_back(alloc, &mut gateway, front.sets)?;
+    Ok(Some(Restored { gateway, taken }))
+}
