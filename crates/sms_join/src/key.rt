@@ -178,6 +178,38 @@ impl Key {
         self.is_to(to) && self.origin().is_same(origin)
     }
 
+    /// A time stamp and a place of its pieces: a message or segment with these, from its origin and
+    /// for its recipient, has this key.
+    #[inline(always)]
+    pub(crate) fn piece(&self) -> (Stamp, Option<Concat>)
+        ensures { key_to (recipient_of self.now) (origin_of self.now) result.0 result.1
+            ≡ self.now }
+    {
+        match self {
+            Key::Single { stamp, .. } | Key::SingleTo { stamp, .. } => (*stamp, None),
+            Key::Segmented {
+                width,
+                reference,
+                maximum,
+                ..
+            }
+            | Key::SegmentedTo {
+                width,
+                reference,
+                maximum,
+                ..
+            } => {
+                let place = Concat {
+                    width: *width,
+                    reference: *reference,
+                    maximum: *maximum,
+                    sequence: 1,
+                };
+                (Stamp::new([0; 7]), Some(place))
+            }
+        }
+    }
+
     /// Whom its pieces are from (TP-OA).
     pub fn origin(&self) -> &Address
         ensures { result.now ≡ origin_of self.now }

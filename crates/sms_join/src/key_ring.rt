@@ -1,6 +1,6 @@
 //! Keys in a ring, and chains of the places of those that share a head.
 
-ghost use Rattle.std.specs.Prelude.{◌≡◌, ◌+◌, ◌-◌, ◌<◌, ◌≤◌, ◌^◌, ◌==◌, [], ◌∷◌, take, if◌then◌else◌, IfOk, bit_and, length, replicate, option_copied, slice_set, slice_index, slice_index_or, slice_get};
+ghost use Rattle.std.specs.Prelude.{◌≡◌, ◌+◌, ◌-◌, ◌<◌, ◌≤◌, ◌^◌, ◌==◌, true, false, not, [], ◌∷◌, take, if◌then◌else◌, IfOk, bit_and, length, replicate, option_copied, slice_set, slice_index, slice_index_or, slice_get};
 ghost use Rattle.sms_join.specs.Joiner.{is_among};
 ghost use Rattle.sms_join.specs.Piece.{key_to};
 ghost use Rattle.sms_join.specs.Inside.KeyHashes.{hash_of};
@@ -40,13 +40,17 @@ pub(crate) struct KeyRing {
 impl Model for KeyRing {
     ghost use Rattle.std.specs.Prelude.{◌≡◌, ◌*◌, ◌≤◌, reverse};
     ghost use Rattle.std.specs.Vec.{vec_capacity};
-    ghost use Rattle.sms_join.specs.Inside.LastKeys.{LastKeysValue};
+    ghost use Rattle.sms_join.specs.Inside.LastKeys.{HashedKeysValue};
     ghost use Rattle.sms_join.specs.Inside.KeyHashes.{hash_of};
     ghost use Rattle.sms_join.specs.Inside.KeyRings.{laid, IsChained};
 
-    ghost Value = { LastKeysValue };
+    ghost Value = { HashedKeysValue };
 
-    ghost view = { λ r. record { limit = r.keys.capacity; keys = reverse r.keys.items } };
+    ghost view = { λ r. record {
+      limit = r.keys.capacity;
+      keys = reverse r.keys.items;
+      hashing = r.hashing;
+    } };
 
     ghost invariant = { λ r. IsChained (hash_of r.hashing) r.keys.capacity r.oldest
         (laid r.oldest r.keys.items) r.next.items r.heads.items
@@ -162,7 +166,11 @@ impl KeyRing {
     pub(crate) fn new(alloc: Global, limit: usize, hashing: Hashing) -> Result<KeyRing, AllocError>
         requires some { 0 < limit }
         requires few { limit ≤ PLACES_MAX }
-        ensures { IfOk result (λ ring. ring ≡ record { limit = limit; keys = [] }) }
+        ensures { IfOk result (λ ring. ring ≡ record {
+          limit = limit;
+          keys = [];
+          hashing = hashing;
+        }) }
     {
         let keys = HeapCircularBuffer::with_capacity(alloc, limit)?;
         let next = Vec::with_capacity(alloc, limit)?;
@@ -178,9 +186,6 @@ impl KeyRing {
     }
 
     /// Whether the key of such a message or segment is among the last so many.
-    ///
-    /// Where the hashers are all alike, whoever picks keys of one head makes it look through them
-    /// one by one.
     pub(crate) fn contains(
         &self,
         last: usize,
@@ -192,11 +197,31 @@ impl KeyRing {
         ensures { result ≡ is_among (take last self.now.keys)
             (key_to (option_copied to.entry) origin.now stamp concat) }
     {
+        let hash = hash_of(self.hashing, to, origin, stamp, concat);
+        self.contains_hashed(hash, last, to, origin, stamp, concat)
+    }
+
+    /// The same by the hash of that key.
+    ///
+    /// Where the hashers are all alike, whoever picks keys of one head makes it look through them
+    /// one by one.
+    #[inline(always)]
+    fn contains_hashed(
+        &self,
+        hash: u64,
+        last: usize,
+        to: Option<&Address>,
+        origin: &Address,
+        stamp: Stamp,
+        concat: Option<Concat>,
+    ) -> bool
+        requires { hash ≡ hash_of self.now.hashing
+            (key_to (option_copied to) origin.now stamp concat) }
+        ensures { result ≡ is_among (take last self.now.keys)
+            (key_to (option_copied to.entry) origin.now stamp concat) }
+    {
         let count = self.keys.len();
-        let mut place = self.heads[head_of(
-            hash_of(self.hashing, to, origin, stamp, concat),
-            self.heads.len(),
-        )];
+        let mut place = self.heads[head_of(hash, self.heads.len())];
         while place != NONE {
             let at = place as usize;
             let key = key_at(&self.keys, self.oldest, at);
@@ -221,9 +246,43 @@ impl KeyRing {
         ensures { self.new ≡ record {
           limit = self.old.limit;
           keys = take self.old.limit (key ∷ self.old.keys);
+          hashing = self.old.hashing;
         } }
     {
-        let head = head_of(key_hash(self.hashing, &key), self.heads.len());
+        let hash = key_hash(self.hashing, &key);
+        self.push_hashed(hash, key);
+    }
+
+    /// Adds a key, unless it is among the last so many: whether it was not. It is hashed once.
+    pub(crate) fn push_new(&mut self, last: usize, key: Key) -> bool
+        ensures is_new { result ≡ not (is_among (take last self.old.keys) key) }
+        ensures added { result ≡ true → self.new ≡ record {
+          limit = self.old.limit;
+          keys = take self.old.limit (key ∷ self.old.keys);
+          hashing = self.old.hashing;
+        } }
+        ensures kept { result ≡ false → self.new ≡ self.old }
+    {
+        let hash = key_hash(self.hashing, &key);
+        let (stamp, concat) = key.piece();
+        if self.contains_hashed(hash, last, key.recipient(), key.origin(), stamp, concat) {
+            return false;
+        }
+        self.push_hashed(hash, key);
+        true
+    }
+
+    /// Adds a key of this hash.
+    #[inline(always)]
+    fn push_hashed(&mut self, hash: u64, key: Key)
+        requires { hash ≡ hash_of self.old.hashing key }
+        ensures { self.new ≡ record {
+          limit = self.old.limit;
+          keys = take self.old.limit (key ∷ self.old.keys);
+          hashing = self.old.hashing;
+        } }
+    {
+        let head = head_of(hash, self.heads.len());
         let limit = self.keys.capacity();
         let count = self.keys.len();
         if count < limit {

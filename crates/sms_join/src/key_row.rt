@@ -1,6 +1,6 @@
 //! Keys in a row that are looked through where one has the tag of the key that is asked for.
 
-ghost use Rattle.std.specs.Prelude.{◌≡◌, [], ◌∷◌, ◌==◌, length, drop, take, slice_get, option_copied, IfOk};
+ghost use Rattle.std.specs.Prelude.{◌≡◌, true, false, not, [], ◌∷◌, ◌==◌, length, drop, take, slice_get, option_copied, IfOk};
 ghost use Rattle.std.specs.List.{list_any};
 ghost use Rattle.sms_join.specs.Key.{same_key};
 ghost use Rattle.sms_join.specs.Joiner.{is_among};
@@ -117,5 +117,22 @@ impl KeyRow {
         tags[1..].copy_from_slice(&self.tags[..TAGS - 1]);
         self.tags = tags;
         self.keys.push_back(key);
+    }
+
+    /// Adds a key, unless it is among the last so many: whether it was not.
+    pub(crate) fn push_new(&mut self, last: usize, key: Key) -> bool
+        ensures is_new { result ≡ not (is_among (take last self.old.keys) key) }
+        ensures added { result ≡ true → self.new ≡ record {
+          limit = self.old.limit;
+          keys = take self.old.limit (key ∷ self.old.keys);
+        } }
+        ensures kept { result ≡ false → self.new ≡ self.old }
+    {
+        let (stamp, concat) = key.piece();
+        if self.contains(last, key.recipient(), key.origin(), stamp, concat) {
+            return false;
+        }
+        self.push(key);
+        true
     }
 }

@@ -1,6 +1,6 @@
 //! The keys of the last sets that finished.
 
-ghost use Rattle.std.specs.Prelude.{◌≡◌, ◌<◌, [], ◌∷◌, take, slice_get, option_copied, IfOk};
+ghost use Rattle.std.specs.Prelude.{◌≡◌, ◌<◌, true, false, not, [], ◌∷◌, take, slice_get, option_copied, IfOk};
 ghost use Rattle.sms_join.specs.Inside.Remembered.{last_keys};
 ghost use Rattle.sms_join.specs.Joiner.{is_among};
 ghost use Rattle.sms_join.specs.Piece.{key_to};
@@ -66,6 +66,21 @@ impl Remembered {
         match self {
             Remembered::Few(row) => row.push(key),
             Remembered::Many(ring) => ring.push(key),
+        }
+    }
+
+    /// Adds a key, unless it is among the last so many: whether it was not.
+    fn push_new(&mut self, last: usize, key: Key) -> bool
+        ensures is_new { result ≡ not (is_among (take last (last_keys self.old).keys) key) }
+        ensures added { result ≡ true → last_keys self.new ≡ record {
+          limit = (last_keys self.old).limit;
+          keys = take (last_keys self.old).limit (key ∷ (last_keys self.old).keys);
+        } }
+        ensures kept { result ≡ false → last_keys self.new ≡ last_keys self.old }
+    {
+        match self {
+            Remembered::Few(row) => row.push_new(last, key),
+            Remembered::Many(ring) => ring.push_new(last, key),
         }
     }
 
@@ -162,6 +177,24 @@ impl LastKeys {
         if self.count < self.limit {
             self.count += 1;
         }
+    }
+
+    /// Adds a key, unless it is among them: whether it was not. It takes no memory.
+    pub(crate) fn push_new(&mut self, key: Key) -> bool
+        ensures is_new { result ≡ not (is_among self.old.keys key) }
+        ensures added { result ≡ true → self.new ≡ record {
+          limit = self.old.limit;
+          keys = take self.old.limit (key ∷ self.old.keys);
+        } }
+        ensures kept { result ≡ false → self.new ≡ self.old }
+    {
+        if !self.keys.push_new(self.count, key) {
+            return false;
+        }
+        if self.count < self.limit {
+            self.count += 1;
+        }
+        true
     }
 
     /// Makes ready for so many keys.

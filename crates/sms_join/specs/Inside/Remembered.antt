@@ -7,4 +7,4 @@ use Rattle.sms_join.specs.declared.last_keys.Remembered.TheVariants.{Few, Many}
 
 abbrev pub last_keys : Remembered → LastKeysValue
 last_keys (Few row) = row
-last_keys (Many ring) = ring
+last_keys (Many ring) = record { limit = ring.limit; keys = ring.keys }

@@ -1,6 +1,6 @@
 //! What a joiner held before, put back.
 
-ghost use Rattle.std.specs.Prelude.{◌≡◌, ℕ, ◌<◌, false, [], ◌∷◌, ◌++◌, length, take, OnOk, OnErr};
+ghost use Rattle.std.specs.Prelude.{◌≡◌, ℕ, ◌<◌, true, false, not, [], ◌∷◌, ◌++◌, length, take, OnOk, OnErr};
 ghost use Rattle.sms_join.specs.Key.{maximum_of};
 ghost use Rattle.sms_join.specs.Joiner.{is_among};
 ghost use Rattle.sms_join.specs.Gateway.Finishings.{not_before};
@@ -60,6 +60,13 @@ impl Gateway {
         done
     }
 
+    /// Whether the key is that of a message that finished, and is remembered. It takes no memory.
+    pub fn remembers(&self, key: &Key) -> bool
+        ensures { result ≡ is_among self.now.holds.finished key.now }
+    {
+        self.keeper.remembers(key)
+    }
+
     /// Remembers the key of a message that finished before, at this moment in seconds from the
     /// start of 2000, as that of the last one: in place of the oldest, where as many are remembered
     /// as may be. It counts at no earlier moment than the one before it. The key is neither open
@@ -81,6 +88,31 @@ impl Gateway {
         self.keeper.have_kept();
         self.keeper.remember(key);
         note_finishing(&mut self.finishings, moment);
+    }
+
+    /// Remembers the key as `remember` does, unless it is remembered: whether it was not. The key is
+    /// not open. It takes no memory.
+    pub fn remember_new(&mut self, key: Key, moment: u64) -> bool
+        requires closed { has_set self.old.told key ≡ false }
+        ensures is_new { result ≡ not (is_among self.old.holds.finished key) }
+        ensures remembered { result ≡ true → self.new ≡ record {
+          limits = self.old.limits;
+          holds = record {
+            kept = self.old.holds.kept;
+            finished = take self.old.limits.remembered (key ∷ self.old.holds.finished);
+          };
+          told = self.old.told;
+          finishings = take self.old.limits.remembered
+              (not_before self.old.finishings moment ∷ self.old.finishings);
+        } }
+        ensures kept { result ≡ false → self.new ≡ self.old }
+    {
+        self.keeper.have_kept();
+        if !self.keeper.remember_new(key) {
+            return false;
+        }
+        note_finishing(&mut self.finishings, moment);
+        true
     }
 
     /// Makes the tables ready for so many keys, so that those that come are not put in order again

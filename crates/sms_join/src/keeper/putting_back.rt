@@ -1,7 +1,8 @@
 //! What was kept before, put back.
 
-ghost use Rattle.std.specs.Prelude.{◌≡◌, ℕ, ◌<◌, false, [], ◌∷◌, ◌++◌, length, take, OnOk, OnErr};
+ghost use Rattle.std.specs.Prelude.{◌≡◌, ℕ, ◌<◌, true, false, not, [], ◌∷◌, ◌++◌, length, take, OnOk, OnErr};
 ghost use Rattle.sms_join.specs.Key.{maximum_of};
+ghost use Rattle.sms_join.specs.Joiner.{is_among};
 ghost use Rattle.sms_join.specs.Joiner.Value.{SameLimits};
 ghost use Rattle.sms_join.specs.OpenSets.{has_set};
 ghost use Rattle.sms_join.specs.OpenSets.Places.{filled, set_by};
@@ -48,6 +49,15 @@ impl Keeper {
         self.sets.put_back(key, moment, places)
     }
 
+    /// Whether a key is remembered.
+    pub(crate) fn remembers(&self, key: &Key) -> bool
+        ensures { result ≡ is_among self.now.holds.finished key.now }
+    {
+        let (stamp, concat) = key.piece();
+        self.finished
+            .contains(key.recipient(), key.origin(), stamp, concat)
+    }
+
     /// Remembers a key, as that of the message that finished last.
     pub(crate) fn remember(&mut self, key: Key)
         ensures { self.new ≡ record {
@@ -61,6 +71,23 @@ impl Keeper {
         } }
     {
         self.finished.push(key);
+    }
+
+    /// The same, unless the key is remembered: whether it was not.
+    pub(crate) fn remember_new(&mut self, key: Key) -> bool
+        ensures is_new { result ≡ not (is_among self.old.holds.finished key) }
+        ensures remembered { result ≡ true → self.new ≡ record {
+          open_max = self.old.open_max;
+          remembered = self.old.remembered;
+          holds = record {
+            kept = self.old.holds.kept;
+            finished = take self.old.remembered (key ∷ self.old.holds.finished);
+          };
+          told = self.old.told;
+        } }
+        ensures kept { result ≡ false → self.new ≡ self.old }
+    {
+        self.finished.push_new(key)
     }
 
     /// Makes ready for so many keys to be remembered.

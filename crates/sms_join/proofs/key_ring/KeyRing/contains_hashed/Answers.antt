@@ -3,25 +3,26 @@ use Rattle.std.specs.Prelude.{option_copied}
 use Rattle.sms_join.specs.declared.key.Key.{Key}
 use Rattle.sms_join.specs.Piece.{key_to}
 use Rattle.sms_join.specs.Joiner.{is_among}
-use Rattle.sms_join.specs.Inside.LastKeys.{LastKeysValue}
+use Rattle.sms_join.specs.Inside.LastKeys.{HashedKeysValue}
 use Rattle.sms_join.specs.Inside.KeyHashes.{hash_of}
 use Rattle.sms_join.specs.Inside.KeyRings.{laid, came_after}
 use Rattle.sms_join.proofs.RingPlaces.{head_at}
 use Rattle.sms_join.proofs.RingKeys.{length-laid, oldest_there, keys_in}
 use Rattle.sms_join.proofs.MetKeys.{met_is}
 use Rattle.sms_join.proofs.RingSearch.{Asked, is_met, met_both, met_early, met_other, sought_first, sought_within, sought_found, sought_next, sought_end}
-use Rattle.sms_join.proofs.key_ring.KeyRing.contains.Goals.{else-found-via-then-found+else-came_after-last, else-found-via-else-found}
-use Rattle.sms_join.proofs.key_ring.KeyRing.contains.Goals as goal
+use Rattle.sms_join.proofs.key_ring.KeyRing.contains_hashed.Goals.{else-found-via-then-found+else-came_after-last, else-found-via-else-found}
+use Rattle.sms_join.proofs.key_ring.KeyRing.contains_hashed.Goals as goal
 
 pub loop-place-init : goal.loop-place-init
 loop-place-init c =
     let s = c.self.inside in
     sought_first (hash_of c.self.inside.hashing) s.keys.capacity s.oldest (laid s.oldest s.keys.items) s.next.items s.heads.items c.self.invariant.0
     (is_among (take c.args.last c.args.self.now.keys) (key_to (option_copied c.args.to) c.args.origin.now c.args.stamp c.args.concat)) (record { key = (key_to (option_copied c.args.to) c.args.origin.now c.args.stamp c.args.concat); last = c.args.last; after = came_after c.self.inside.oldest (length (laid c.self.inside.oldest c.self.inside.keys.items)) }) c.head_of.result c.len.result c.index-place.result.now
-    (ap (λ (v : LastKeysValue). is_among (take c.args.last v.keys) (key_to (option_copied c.args.to) c.args.origin.now c.args.stamp c.args.concat)) (sym c.self.view_is)
+    (ap (λ (v : HashedKeysValue). is_among (take c.args.last v.keys) (key_to (option_copied c.args.to) c.args.origin.now c.args.stamp c.args.concat)) (sym c.self.view_is)
     ∙ (ap (λ (ks : List Key). is_among (take c.args.last ks) (key_to (option_copied c.args.to) c.args.origin.now c.args.stamp c.args.concat)) (sym (keys_in s.keys.items c.self.invariant.0))
     ∙ met_is s.oldest (laid s.oldest s.keys.items) (omega (arith, length-laid s.oldest s.keys.items, oldest_there s.keys.items c.self.invariant.0)) (key_to (option_copied c.args.to) c.args.origin.now c.args.stamp c.args.concat) c.args.last))
-    (head_at c.head_of.result c.len.result c.hash_of.result (hash_of c.self.inside.hashing (key_to (option_copied c.args.to) c.args.origin.now c.args.stamp c.args.concat)) c.head_of.ensures.is c.hash_of.ensures) c.head_of.ensures.within (c.len.ensures ∙ s.heads.ok.0) c.index-place.ensures
+    (head_at c.head_of.result c.len.result c.args.hash (hash_of c.self.inside.hashing (key_to (option_copied c.args.to) c.args.origin.now c.args.stamp c.args.concat)) c.head_of.ensures.is
+    (c.requires ∙ ap (λ (v : HashedKeysValue). hash_of v.hashing (key_to (option_copied c.args.to) c.args.origin.now c.args.stamp c.args.concat)) (sym c.self.view_is))) c.head_of.ensures.within (c.len.ensures ∙ s.heads.ok.0) c.index-place.ensures
 
 pub key_at-key-requires-clause-oldest : goal.key_at-key-requires-clause-oldest
 key_at-key-requires-clause-oldest c = oldest_there c.self.inside.keys.items c.self.invariant.0

@@ -5,7 +5,7 @@ use Rattle.sms_join.specs.Joiner.{is_among}
 use Rattle.sms_join.specs.Inside.KeyRings.{laid, came_after}
 use Rattle.sms_join.proofs.RingChains.{left}
 use Rattle.sms_join.proofs.RingSearch.{Sought}
-use Rattle.sms_join.proofs.key_ring.KeyRing.contains.Given as goal
+use Rattle.sms_join.proofs.key_ring.KeyRing.contains_hashed.Given as goal
 
 abbrev pub invariant-loop-place : goal.invariant-loop-place
 invariant-loop-place l =
