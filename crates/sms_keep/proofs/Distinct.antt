@@ -26,12 +26,12 @@ use Rattle.sms_keep.proofs.OneSaved.{one_key}
 -- ---- lists of octets
 
 -- none stands twice
-abbrev Distinct : List (List ℕ) → Type 0
+abbrev pub Distinct : List (List ℕ) → Type 0
 Distinct [] = Unit {0}
 Distinct (x ∷ xs) = (is_among xs x ≡ false) × Distinct xs
 
 -- none is in both
-abbrev AreDisjoint : List (List ℕ) → List (List ℕ) → Type 0
+abbrev pub AreDisjoint : List (List ℕ) → List (List ℕ) → Type 0
 AreDisjoint xs ys = (t : List ℕ) → is_among xs t ≡ true → is_among ys t ≡ true → ⊥
 
 among_parts : (xs ys : List (List ℕ)) (t : List ℕ) → is_among (xs ++ ys) t ≡ true → (is_among xs t ≡ true) ⊎ (is_among ys t ≡ true)
@@ -50,7 +50,7 @@ among_one x t h = by (bytes_eq t x) refl h where
 among_first : (x : List ℕ) (xs : List (List ℕ)) → is_among (x ∷ xs) x ≡ true
 among_first x xs = ap (λ (b : Bool). b || is_among xs x) (bytes_refl x)
 
-apart_from : (before texts : List (List ℕ)) → Distinct texts → AreDisjoint before texts → AreApart before texts
+pub apart_from : (before texts : List (List ℕ)) → Distinct texts → AreDisjoint before texts → AreApart before texts
 apart_from before [] d n = tt
 apart_from before (x ∷ texts) d n = (
   false_from_ne_true _ (λ h. n x h (among_first x texts)),
@@ -114,7 +114,7 @@ sets_distinct law (s ∷ ss) all are = (
 keys_more : (ks : List Key) (ms : List ℕ) (k : Key) (m : ℕ) → remembered_keys (saved_finishings (k ∷ ks) (m ∷ ms)) ≡ remembered_keys (saved_finishings ks ms) ++ key (saved_key k) ∷ []
 keys_more ks ms k m = map-append (λ (q : SavedFinishing). key q.key) (saved_finishings ks ms) (record { key = saved_key k; moment = m } ∷ [])
 
-among_finished : HaveOwnOctets → (ks : List Key) (ms : List ℕ) (k : Key) → AllByRecursion KeyIsSound ks → KeyIsSound k
+pub among_finished : HaveOwnOctets → (ks : List Key) (ms : List ℕ) (k : Key) → AllByRecursion KeyIsSound ks → KeyIsSound k
     → is_among (remembered_keys (saved_finishings ks ms)) (key (saved_key k)) ≡ true → is_remembered ks k ≡ true
 among_finished law [] ms k all own h = absurd cc
 among_finished law (x ∷ ks) [] k all own h = absurd cc
@@ -133,7 +133,7 @@ among_finished law (x ∷ ks) (m ∷ ms) k all own h =
         let e : bytes_eq (key (saved_key k)) (key (saved_key x)) ≡ true = ap (λ o. bytes_eq o (key (saved_key x))) (sym (among_one (key (saved_key x)) (key (saved_key k)) h)) ∙ bytes_refl (key (saved_key x)) in
         ap (λ (b : Bool). b || is_remembered ks k) (same_of_octets law x k all.0 own e)
 
-finished_distinct : HaveOwnOctets → (ks : List Key) (ms : List ℕ) → AllByRecursion KeyIsSound ks → NoneTwice ks → Distinct (remembered_keys (saved_finishings ks ms))
+pub finished_distinct : HaveOwnOctets → (ks : List Key) (ms : List ℕ) → AllByRecursion KeyIsSound ks → NoneTwice ks → Distinct (remembered_keys (saved_finishings ks ms))
 finished_distinct law [] ms all once = tt
 finished_distinct law (k ∷ ks) [] all once = tt
 finished_distinct law (k ∷ ks) (m ∷ ms) all once =

@@ -8,6 +8,7 @@ mod SetsBack
 mod OneSaved
 mod ReadBack
 mod Distinct
+mod AtOnce
 mod Savable
 mod PlainDigits
 mod PlainNames

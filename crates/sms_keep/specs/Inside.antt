@@ -1,4 +1,5 @@
 -- What a reader may pass by: no public contract cites it.
 pub mod Plain
 pub mod Restoring
+pub mod AtOnce
 pub mod Saving

@@ -1,6 +1,8 @@
 //! A state that is held as it is read: each remembered key is looked up once, where it is put.
 
-ghost use Rattle.std.specs.Prelude.{◌≡◌, ◌≤◌, ◌-◌, [], true, drop, length, IfOk, IfSome};
+ghost use Rattle.std.specs.Prelude.{◌≡◌, ◌≤◌, [], true, drop, IfOk, IfSome};
+ghost use Rattle.std.specs.Str.{bytes_eq};
+ghost use Rattle.sms_saved.specs.Parts.{unsealed};
 ghost use Rattle.sms_saved.specs.Value.{view_sets};
 ghost use Rattle.sms_keep.specs.Saved.{saved_limits};
 ghost use Rattle.sms_keep.specs.Inside.AtOnce.{AreTaken, IsNext, IsReadAs, SetsAreNew};
@@ -72,8 +74,8 @@ fn take_keys<'a>(
 fn are_new(alloc: Global, gateway: &Gateway, sets: &[OpenSet]) -> Result<bool, AllocError>
     ensures { IfOk result (λ are. are ≡ true → SetsAreNew gateway.now (view_sets sets.now)) }
 {
-    for own in sets {
-        let Some(key) = key_from(alloc, &own.key)? else {
+    for before in 0..sets.len() {
+        let Some(key) = key_from(alloc, &sets[before].key)? else {
             return Ok(false);
         };
         if gateway.remembers(&key) {
@@ -85,9 +87,10 @@ fn are_new(alloc: Global, gateway: &Gateway, sets: &[OpenSet]) -> Result<bool, A
 
 /// Whether these are the last 32 octets.
 fn are_last(octets: &[u8], rest: &[u8]) -> bool
-    ensures { result ≡ true → rest.now ≡ drop (length octets.now - 32) octets.now }
+    ensures { result ≡ bytes_eq rest.now (drop (unsealed octets.now) octets.now) }
 {
-    rest == &octets[octets.len().saturating_sub(32)..]
+    let (_, last) = octets.split_at(octets.len().saturating_sub(32));
+    rest == last
 }
 
 /// The joiner that holds what the octets spell; none where they are no state that it can hold, and
@@ -117,7 +120,10 @@ pub(crate) fn read_at_once(
     if !are_last(octets, rest) || !are_new(alloc, &gateway, &front.sets)? {
         return Ok(None);
     }
+    let _remembered = gateway.remembered_count();
     let taken = front.taken;
     put_sets_back(alloc, &mut gateway, front.sets)?;
+    let _open = gateway.open_sets();
+    let _count = gateway.remembered_count();
     Ok(Some(Restored { gateway, taken }))
 }

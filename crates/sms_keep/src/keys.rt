@@ -192,7 +192,7 @@ fn key_to(recipient: Address, origin: Address, message: Message) -> Key
 
 /// The key that is saved so; none where the octets of its addresses are none.
 pub(crate) fn key_in(alloc: Global, key: KeyView<'_>) -> Result<Option<Key>, AllocError>
-    ensures { IfOk result (IsKeyOf (seen_key key)) }
+    ensures { IfOk result (IsKeyOf (seen_key key.entry)) }
 {
     let Some(origin) = address_from(alloc, key.origin)? else {
         return Ok(None);

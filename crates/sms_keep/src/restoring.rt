@@ -20,6 +20,7 @@ use crate::places::place_of_set;
 use crate::saving::limits_of;
 use crate::sets_back::put_sets_back;
 use sms_join::{Gateway, GatewayLimits};
+use sms_saved::laws::states_have_own_octets;
 use sms_saved::{State, read as read_state};
 use std::alloc::{AllocError, Global};
 
@@ -123,6 +124,7 @@ pub fn read(
     ensures exact { Restores result
         (placed (length octets.now) (state_at (saved_limits limits) octets.now)) }
 {
+    states_have_own_octets();
     let own = limits_of(limits);
     if let Some(restored) = read_at_once(alloc, seed, limits, own, octets)? {
         return Ok(restored);

@@ -108,4 +108,4 @@ parts_made own bytes f keys is has =
       keys = has.fit;
       apart = apart_joined [] (set_keys f.sets) (remembered_keys keys) is.apart has.apart;
     } in
-    record { fits = fits; spelled = spelled; read = ap (state_at own) spelled ∙ state_again own s (fits, refl) }
+    record { fits = fits; limits = refl; spelled = spelled; read = ap (state_at own) spelled ∙ state_again own s (fits, refl) }

@@ -1,5 +1,5 @@
 -- A state in parts: what stands before its remembered keys, these, and the checksum.
-use Rattle.std.specs.Prelude.{◌≡◌, ℕ, ◌-◌, ◌<◌, ◌≤◌, ◌^◌, Bool, List, [], ◌++◌, length, take, drop}
+use Rattle.std.specs.Prelude.{◌≡◌, ℕ, ◌-◌, ◌<◌, ◌≤◌, ◌^◌, Bool, List, [], ◌++◌, length, take, drop, Ok}
 use Rattle.std.specs.List.{AllByRecursion, flat_map}
 use Rattle.std.specs.Str.{bytes_eq}
 use Rattle.sms_saved.specs.declared.parts.Front.{Front}
@@ -9,7 +9,6 @@ use Rattle.sms_saved.specs.Value.{SetValue, StateValue, view_sets}
 use Rattle.sms_saved.specs.Fits.{LimitsFit, SetFits, RememberedFits, StateFits, AreRising, AreApart, set_keys, remembered_keys}
 use Rattle.sms_saved.specs.Spelling.{eight, counted, set, remembered, front, digest, spelling}
 use Rattle.sms_saved.specs.Reading.Whole.{state_at}
-use Rattle.std.specs.Prelude.{Ok}
 
 pub record FrontValue : Type 0 where
   pub taken : ℕ
@@ -55,8 +54,9 @@ pub record HasKeys (bytes : List ℕ) (f : FrontValue) (keys : List Remembered) 
 abbrev pub state_of : Limits → FrontValue → List Remembered → StateValue
 state_of own f keys = record { limits = own; taken = f.taken; next = f.next; sets = f.sets; keys = keys }
 
--- The octets spell this state, and are read as it.
+-- The octets spell this state of a joiner with these limits, and are read as it.
 pub record AreRead (own : Limits) (bytes : List ℕ) (s : StateValue) : Type 0 where
   pub fits : StateFits s
+  pub limits : s.limits ≡ own
   pub spelled : bytes ≡ spelling s
   pub read : state_at own bytes ≡ Ok s
