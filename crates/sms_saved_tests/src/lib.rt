@@ -10,6 +10,8 @@ mod growths;
 #[cfg(test)]
 mod hostile;
 #[cfg(test)]
+mod parts;
+#[cfg(test)]
 mod rows;
 #[cfg(test)]
 mod seen;

@@ -54,7 +54,7 @@ fn has_wide(place: &Option<Units>, wanted: &[u16]) -> bool {
 }
 
 /// The first set: the second of three pieces.
-fn first_is_so(rt: &impl Abort, set: &OpenSet) {
+pub fn first_is_so(rt: &impl Abort, set: &OpenSet) {
     let message = Message::Segmented {
         width: Width::Sixteen,
         reference: 515,
@@ -82,7 +82,7 @@ fn first_is_so(rt: &impl Abort, set: &OpenSet) {
 }
 
 /// The second set: the first of two pieces.
-fn second_is_so(rt: &impl Abort, set: &OpenSet) {
+pub fn second_is_so(rt: &impl Abort, set: &OpenSet) {
     let message = Message::Segmented {
         width: Width::Eight,
         reference: 7,
