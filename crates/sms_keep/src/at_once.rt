@@ -5,40 +5,19 @@ ghost use Rattle.std.specs.Str.{bytes_eq};
 ghost use Rattle.sms_saved.specs.Parts.{unsealed};
 ghost use Rattle.sms_saved.specs.Value.{view_sets};
 ghost use Rattle.sms_keep.specs.Saved.{saved_limits};
-ghost use Rattle.sms_keep.specs.Inside.AtOnce.{AreTaken, IsNext, IsReadAs, SetsAreNew};
+ghost use Rattle.sms_keep.specs.Inside.AtOnce.{AreTaken, IsReadAs, SetsAreNew};
 ghost use Rattle.sms_keep.specs.Inside.Restoring.{Remembers};
 
 use crate::keys::{key_from, key_in};
 use crate::restoring::{Restored, new_gateway};
 use crate::sets_back::put_sets_back;
-use sms_join::{Gateway, GatewayLimits, Key};
+use sms_join::{Gateway, GatewayLimits};
 use sms_saved::laws::{keys_have_own_octets, parts_make_a_state};
 use sms_saved::{Limits, OpenSet, is_sealed, read_front, read_remembered};
 use std::alloc::{AllocError, Global};
 
 /// How many octets a remembered key takes at least (docs/SAVED.md).
 const KEY_MIN: usize = 14;
-
-/// The key at the front of the octets, its moment, and the octets after it, where it can be
-/// remembered after one that finished at this moment.
-fn next_key(
-    alloc: Global,
-    last: u64,
-    octets: &[u8],
-) -> Result<Option<(Key, u64, &[u8])>, AllocError>
-    ensures { IfOk result (λ next. IfSome next (λ x. IsNext last octets.now x.0 x.1 x.2.now)) }
-{
-    let Some((own, rest)) = read_remembered(octets) else {
-        return Ok(None);
-    };
-    if own.moment < last {
-        return Ok(None);
-    }
-    let Some(key) = key_in(alloc, own.key)? else {
-        return Ok(None);
-    };
-    Ok(Some((key, own.moment, rest)))
-}
 
 /// Remembers so many keys from the front of the octets, in a joiner that holds nothing, and hands
 /// on the octets after them; none where one of them cannot be remembered.
@@ -58,13 +37,16 @@ fn take_keys<'a>(
     let mut rest = octets;
     let mut last = 0;
     for _ in 0..count {
-        let Some((key, moment, after)) = next_key(alloc, last, rest)? else {
+        let Some((own, after)) = read_remembered(rest) else {
             return Ok(None);
         };
-        if !gateway.remember_new(key, moment) {
+        let Some(key) = key_in(alloc, own.key)? else {
+            return Ok(None);
+        };
+        if own.moment < last || !gateway.remember_new(key, own.moment) {
             return Ok(None);
         }
-        last = moment;
+        last = own.moment;
         rest = after;
     }
     Ok(Some(rest))

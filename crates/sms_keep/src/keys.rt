@@ -141,6 +141,7 @@ fn width_from(width: SavedWidth) -> Width
 }
 
 /// The key without a recipient.
+#[inline(always)]
 fn key_alone(origin: Address, message: Message) -> Key
     ensures origin { origin_of result ≡ origin }
     ensures recipient { recipient_of result ≡ None }
@@ -165,6 +166,7 @@ fn key_alone(origin: Address, message: Message) -> Key
 }
 
 /// The key for a recipient.
+#[inline(always)]
 fn key_to(recipient: Address, origin: Address, message: Message) -> Key
     ensures origin { origin_of result ≡ origin }
     ensures recipient { recipient_of result ≡ Some recipient }
@@ -191,6 +193,7 @@ fn key_to(recipient: Address, origin: Address, message: Message) -> Key
 }
 
 /// The key that is saved so; none where the octets of its addresses are none.
+#[inline(always)]
 pub(crate) fn key_in(alloc: Global, key: KeyView<'_>) -> Result<Option<Key>, AllocError>
     ensures { IfOk result (IsKeyOf (seen_key key.entry)) }
 {

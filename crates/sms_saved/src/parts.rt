@@ -49,6 +49,7 @@ pub fn read_front(
 
 /// A remembered key at the front of the octets, and those after it; none where none stands there.
 /// It takes no memory.
+#[inline(always)]
 pub fn read_remembered(octets: &[u8]) -> Option<(RememberedView<'_>, &[u8])>
     ensures { IfSome result (λ x. (octets.now ≡ remembered (seen_remembered x.0) ++ x.1.now)
         × RememberedFits (seen_remembered x.0)) }

@@ -82,6 +82,7 @@ fn message_of(bytes: &[u8]) -> Result<(Message, &[u8]), Stop>
 
 /// A key, whose addresses are lent.
 #[tactic(auto, unfolding(crate::specs::Reading::Keys::key_at))]
+#[inline(always)]
 pub(crate) fn key_view_of(bytes: &[u8]) -> Result<(KeyView<'_>, &[u8]), Stop>
     ensures read { Gives (λ x. (seen_key x.0, x.1.now)) result (key_at bytes.now) }
     ensures fits { IfOk result (λ x. KeyFits (seen_key x.0)) }

@@ -22,7 +22,7 @@ use std::alloc::Global;
 fn are_septets(octets: &[u8]) -> bool
     ensures { result ≡ are_septets octets.now }
 {
-    octets.iter().all(|n| *n < 128)
+    octets.is_ascii()
 }
 
 /// Septets, one an octet.
@@ -130,6 +130,7 @@ fn maximum_of(message: Message) -> u8
 
 /// A set, be it open or not, and the octets of its key.
 #[tactic(auto, unfolding(crate::specs::Reading::Sets::any_set_at))]
+#[inline(always)]
 fn any_set_of(alloc: Global, bytes: &[u8]) -> Result<(OpenSet, &[u8], &[u8]), Stop>
     ensures read { Gives (λ x. (view_set x.0, x.2.now)) result (any_set_at bytes.now) }
     ensures octets { IfOk result (λ x. x.1.now ≡ key x.0.key) }
@@ -173,6 +174,7 @@ pub(crate) fn remembered_of(bytes: &[u8]) -> Result<(Remembered, &[u8], &[u8]), 
 
 /// A remembered key, whose addresses are lent.
 #[tactic(auto, unfolding(crate::specs::Reading::Sets::remembered_at))]
+#[inline(always)]
 pub(crate) fn remembered_view_of(bytes: &[u8]) -> Result<(RememberedView<'_>, &[u8]), Stop>
     ensures { Gives (λ x. (seen_remembered x.0, x.1.now)) result (remembered_at bytes.now) }
 {
