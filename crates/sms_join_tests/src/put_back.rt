@@ -1,6 +1,6 @@
 //! What a gateway's joiner held before, put back.
 
-ghost use Rattle.std.specs.Prelude.{◌≡◌, length, IfOk};
+ghost use Rattle.std.specs.Prelude.{◌≡◌, [], length, IfOk};
 ghost use Rattle.sms_join.specs.OpenSets.Places.{filled};
 
 use crate::found::same;
@@ -134,4 +134,55 @@ fn goes_on_after_a_refused_growth(rt: HostRuntime) -> Result<(), Fail> {
     let single = answer_again(rt.alloc(), &mut gateway, None, 0x63)?;
     same(&rt, &"message in one piece", &single, &Told::Repeat);
     Ok(())
+}
+
+/// The key of a message in one piece, by a number.
+fn single_of(alloc: Global, number: u8) -> Result<Key, AllocError> {
+    let origin = origin_of(alloc)?;
+    let stamp = Stamp::new([number; 7]);
+    Ok(Key::Single { origin, stamp })
+}
+
+/// Whether a key was remembered, and whether it was new then; how many are remembered, and the
+/// moment of the last one.
+type Remembered = (bool, bool, usize, Option<u64>);
+
+/// Remembers the key of a number, where no set is open.
+fn remember(gateway: &mut Gateway, key: Key, moment: u64) -> Remembered
+    requires { gateway.old.told ≡ [] }
+    ensures { gateway.new.told ≡ [] }
+{
+    let known = gateway.remembers(&key);
+    let new = gateway.remember_new(key, moment);
+    let last = gateway.remembered_at(0).map(|last| last.moment);
+    (known, new, gateway.remembered_count(), last)
+}
+
+/// A key is new once, as long as it is not forgotten: where it comes again, nothing changes.
+fn is_new_once(rt: &impl Abort, alloc: Global, gateway: &mut Gateway) -> Result<(), Fail>
+    requires { gateway.old.told ≡ [] }
+{
+    let first = remember(gateway, single_of(alloc, 1)?, 50);
+    same(rt, &"first", &first, &(false, true, 1, Some(50)));
+    let again = remember(gateway, single_of(alloc, 1)?, 90);
+    same(rt, &"again", &again, &(true, false, 1, Some(50)));
+    let other = remember(gateway, single_of(alloc, 2)?, 90);
+    same(rt, &"other", &other, &(false, true, 2, Some(90)));
+    gateway.age(100);
+    let forgotten = remember(gateway, single_of(alloc, 1)?, 120);
+    same(rt, &"forgotten", &forgotten, &(false, true, 2, Some(120)));
+    let known = remember(gateway, single_of(alloc, 2)?, 130);
+    same(rt, &"known", &known, &(true, false, 2, Some(120)));
+    Ok(())
+}
+
+/// With a few keys that are remembered, and with many.
+#[test]
+fn remembers_a_key_once(rt: HostRuntime) -> Result<(), Fail> {
+    let limits = GatewayLimits::new(4, 8).remember_for(50);
+    let mut few = Gateway::new(rt.alloc(), limits)?;
+    is_new_once(&rt, rt.alloc(), &mut few)?;
+    let limits = GatewayLimits::new(4, 100).remember_for(50);
+    let mut many = Gateway::with_seed(rt.alloc(), limits, 9)?;
+    is_new_once(&rt, rt.alloc(), &mut many)
 }
