@@ -92,14 +92,14 @@ pub(crate) fn read_at_once(
     let Some(front) = read_front(alloc, seed.unwrap_or(0), own, octets)? else {
         return Ok(None);
     };
-    if !is_sealed(octets) {
-        return Ok(None);
-    }
     let mut gateway = new_gateway(alloc, seed, limits)?;
     let Some(rest) = take_keys(alloc, &mut gateway, front.count, front.rest)? else {
         return Ok(None);
     };
-    if !are_last(octets, rest) || !are_new(alloc, &gateway, &front.sets)? {
+    if !are_last(octets, rest) || !is_sealed(octets) {
+        return Ok(None);
+    }
+    if !are_new(alloc, &gateway, &front.sets)? {
         return Ok(None);
     }
     let _remembered = gateway.remembered_count();
