@@ -307,6 +307,7 @@ impl KeyRing {
 
     /// Makes the heads four times as many where they are fewer than the keys, or twice where there
     /// is no room for that. A fourth of the keys, or half of them, have come since the last time.
+    #[inline(always)]
     fn spread(&mut self)
         ensures { self.new ≡ self.old }
     {

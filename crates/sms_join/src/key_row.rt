@@ -80,6 +80,7 @@ impl KeyRow {
     }
 
     /// Whether the key of such a message or segment is among the last so many.
+    #[inline(always)]
     pub(crate) fn contains(
         &self,
         last: usize,
@@ -107,6 +108,7 @@ impl KeyRow {
     }
 
     /// Adds a key. It takes no memory.
+    #[inline(always)]
     pub(crate) fn push(&mut self, key: Key)
         ensures { self.new ≡ record {
           limit = self.old.limit;
