@@ -7,7 +7,6 @@ mod Keys
 mod Places
 mod Loop
 mod Sets
-mod Septets
 mod Judged
 mod JudgedLoop
 mod Passed

@@ -27,11 +27,11 @@ and_true : (a b : Bool) → a && b ≡ true → (a ≡ true) × (b ≡ true)
 and_true true b e = (refl, e)
 and_true false b e = absurd cc
 
-pub each_below : (ns : List ℕ) → are_septets ns ≡ true → AllByRecursion (λ n. n < unit_limit false) ns
+each_below : (ns : List ℕ) → are_septets ns ≡ true → AllByRecursion (λ n. n < unit_limit false) ns
 each_below [] e = tt
 each_below (n ∷ ns) e = let p = and_true (ltb n 128) (are_septets ns) e in (ltb-true n 128 p.0, each_below ns p.1)
 
-pub all_below : (ns : List ℕ) → AllByRecursion (λ n. n < unit_limit false) ns → are_septets ns ≡ true
+all_below : (ns : List ℕ) → AllByRecursion (λ n. n < unit_limit false) ns → are_septets ns ≡ true
 all_below [] h = refl
 all_below (n ∷ ns) h = rw (lt-ltb n 128 h.0) (all_below ns h.1)
 

@@ -22,7 +22,7 @@ use std::alloc::Global;
 fn are_septets(octets: &[u8]) -> bool
     ensures { result ≡ are_septets octets.now }
 {
-    octets.is_ascii()
+    octets.iter().all(|n| *n < 128)
 }
 
 /// Septets, one an octet.
