@@ -40,6 +40,7 @@ pub mod RingSearch
 pub mod RingUnlinked
 pub mod RingPushed
 pub mod RingRelinked
+pub mod RingHashes
 pub mod KeyTags
 pub mod MostSets
 pub mod Swapped

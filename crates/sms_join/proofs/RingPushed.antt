@@ -4,11 +4,10 @@ use Rattle.std.proofs.Math.ListN.{set, length-set}
 use Rattle.std.proofs.lemmas.List.{get_or-set_same, get_or-set_other, get_or_push, get_or_default, take_at}
 use Rattle.std.proofs.lemmas.Bool.{eqb-true, eqb-false}
 use Rattle.circular_buffer.specs.Buffer.{Buffer, buffer, keep_last}
-use Rattle.sms_join.specs.Inside.KeyRings.{laid, entries, newer, of_head, head_of, IsChain, LieIn, IsFree, LieApart, AreLinked, IsChained}
+use Rattle.sms_join.specs.Inside.KeyRings.{entries, newer, of_head, head_of, IsChain, LieIn, IsFree, LieApart, AreLinked, IsChained}
 use Rattle.sms_join.proofs.RingPlaces.{below_from_lie, free_past, lie_push, lie_set, lie_front, apart_front, last_is_free, lie_of_head, free_of_head}
 use Rattle.sms_join.proofs.RingChains.{chain_set, chain_more}
 use Rattle.sms_join.proofs.RingTurns.{entries-push, entries_split, entries-turn}
-use Rattle.sms_join.proofs.RingKeys.{length-laid, laid-push, laid-turn}
 
 -- a place in front of the chain of a head
 linked_push : {K : Type 0} (head : K → ℕ) (ns heads : List ℕ) (es : List (ℕ × K)) (q : ℕ) (k : K) → ((h : ℕ) → h < length heads → IsChain ns (get_or heads h 0) (of_head head h es))
@@ -69,11 +68,11 @@ chained_push {K} hash limit n ms ns heads hs q h k rest turns small few full all
     as_many : length hs ≡ length heads
     as_many = ap (λ l. length l) hs_is ∙ length-set heads h q
 
--- where there is room
-in_room : {K : Type 0} {hash : K → ℕ} {limit : ℕ} {ks : List K} {next heads : List ℕ} (i : IsChained hash limit 0 ks next heads)
+-- where there is room, and the oldest is at the first place
+at_first : {K : Type 0} {hash : K → ℕ} {limit : ℕ} {ks : List K} {next heads : List ℕ} (i : IsChained hash limit 0 ks next heads)
     (k : K) (q h n v : ℕ) (ms : List K) (ns hs : List ℕ) → length ks < limit → q ≡ length ks → h ≡ bit_and (hash k) (n - 1) → h < n → n ≡ length heads → v ≡ get_or heads h v
     → ms ≡ ks ++ k ∷ [] → ns ≡ next ++ v ∷ [] → hs ≡ set heads h q → IsChained hash limit 0 ms ns hs
-in_room {K} {hash} {limit} {ks} {next} {heads} i k q h n v ms ns hs room q_is h_is below n_is v_is ms_is ns_is hs_is =
+at_first {K} {hash} {limit} {ks} {next} {heads} i k q h n v ms ns hs room q_is h_is below n_is v_is ms_is ns_is hs_is =
     chained_push hash limit 0 ms ns heads hs q h k (entries 0 ks) i.turns i.small (omega (arith, long)) (λ l. absurd (omega arith)) as_long are
     (omega (arith, long), at, subst (λ (l : List K). LieIn l (entries 0 ks)) (sym ms_is) (lie_push ks k (entries 0 ks) i.lie))
     (free_past q (entries 0 ks) (below_from_lie ks q (entries 0 ks) (omega arith) i.lie), i.apart)
@@ -107,12 +106,12 @@ in_room {K} {hash} {limit} {ks} {next} {heads} i k q h n v ms ns hs room q_is h_
     leads = v_is ∙ (get_or_default heads h v 0 there ∙ ap (λ m. get_or heads m 0) here)
 
 -- where there is none
-in_full : {K : Type 0} {hash : K → ℕ} {limit oldest : ℕ} {ks : List K} {next heads : List ℕ} (i : IsChained hash limit oldest ks next heads)
+pub pushed_full : {K : Type 0} {hash : K → ℕ} {limit oldest : ℕ} {ks : List K} {next heads : List ℕ} (i : IsChained hash limit oldest ks next heads)
     (k : K) (h n o : ℕ) (ms : List K) (next' heads' ns hs : List ℕ) → limit ≤ length ks → h ≡ bit_and (hash k) (n - 1) → h < n → n ≡ length heads
     → AreLinked (head_of hash (length heads)) next' heads' (newer oldest ks) → length next' ≡ length next → length heads' ≡ length heads
     → ms ≡ set ks oldest k → o ≡ cond (eqb (oldest + 1) limit) 0 (oldest + 1) → ns ≡ set next' oldest (get_or heads' h 0) → hs ≡ set heads' h oldest
     → IsChained hash limit o ms ns hs
-in_full {K} {hash} {limit} {oldest} {ks} {next} {heads} i k h n o ms next' heads' ns hs none h_is below n_is linked as_long as_many ms_is o_is ns_is hs_is =
+pushed_full {K} {hash} {limit} {oldest} {ks} {next} {heads} i k h n o ms next' heads' ns hs none h_is below n_is linked as_long as_many ms_is o_is ns_is hs_is =
     chained_push hash limit o ms ns heads' hs oldest h k (newer oldest ks) turned.0 i.small (omega (arith, long)) (λ l. long) all_next are
     (omega (arith, long), at, subst (λ (l : List K). LieIn l (newer oldest ks)) (sym ms_is) (lie_set ks oldest k (newer oldest ks) free lie))
     (free, apart) there hs_is
@@ -166,27 +165,14 @@ in_full {K} {hash} {limit} {oldest} {ks} {next} {heads} i k h n o ms next' heads
     here : h ≡ head_of hash (length heads') k
     here = h_is ∙ ap (λ m. bit_and (hash k) (m - 1)) (n_is ∙ sym as_many)
 
--- the same of the keys of a ring
-pub pushed_room : {K : Type 0} {hash : K → ℕ} {limit oldest : ℕ} (ks : List K) {next heads : List ℕ} (i : IsChained hash limit oldest (laid oldest ks) next heads)
+-- where there is room, the oldest is at the first place
+pub pushed_room : {K : Type 0} {hash : K → ℕ} {limit oldest : ℕ} {ks : List K} {next heads : List ℕ} (i : IsChained hash limit oldest ks next heads)
     (k : K) (q h n v : ℕ) (ms : List K) (ns hs : List ℕ) → length ks < limit → q ≡ length ks → h ≡ bit_and (hash k) (n - 1) → h < n → n ≡ length heads → v ≡ get_or heads h v
-    → ms ≡ keep_last limit (ks ++ k ∷ []) → ns ≡ next ++ v ∷ [] → hs ≡ set heads h q → IsChained hash limit oldest (laid oldest ms) ns hs
-pushed_room {K} {hash} {limit} {oldest = suc o} ks {next} {heads} i k q h n v ms ns hs room q_is h_is below n_is v_is ms_is ns_is hs_is =
-    let full : length (laid (suc o) ks) ≡ limit = i.full (omega arith) in absurd (omega (arith, length-laid (suc o) ks))
-pushed_room {K} {hash} {limit} {oldest = zero} ks {next} {heads} i k q h n v ms ns hs room q_is h_is below n_is v_is ms_is ns_is hs_is =
-    let none : length (ks ++ k ∷ []) - limit ≡ 0 = omega (arith, length-append ks (k ∷ [])) in
-    in_room i k q h n v (laid 0 ms) ns hs (omega (arith, length-laid 0 ks)) (omega (arith, length-laid 0 ks)) h_is below n_is v_is
-    (ap (laid 0) (ms_is ∙ ap (λ l. drop l (ks ++ k ∷ [])) none) ∙ laid-push ks k) ns_is hs_is
-
-pub pushed_full : {K : Type 0} {hash : K → ℕ} {limit oldest : ℕ} (ks : List K) {next heads : List ℕ} (i : IsChained hash limit oldest (laid oldest ks) next heads)
-    (k : K) (h n o : ℕ) (ms : List K) (next' heads' ns hs : List ℕ) → limit ≤ length ks → h ≡ bit_and (hash k) (n - 1) → h < n → n ≡ length heads
-    → AreLinked (head_of hash (length heads)) next' heads' (newer oldest (laid oldest ks)) → length next' ≡ length next → length heads' ≡ length heads
-    → ms ≡ keep_last limit (ks ++ k ∷ []) → o ≡ cond (eqb (oldest + 1) limit) 0 (oldest + 1) → ns ≡ set next' oldest (get_or heads' h 0) → hs ≡ set heads' h oldest
-    → IsChained hash limit o (laid o ms) ns hs
-pushed_full {K} {hash} {limit} {oldest} ks {next} {heads} i k h n o ms next' heads' ns hs none h_is below n_is linked as_long as_many ms_is o_is ns_is hs_is =
-    let few : length (laid oldest ks) ≤ limit = i.few in
-    let long : length ks ≡ limit = omega (arith, few, length-laid oldest ks) in
-    in_full i k h n o (laid o ms) next' heads' ns hs (omega (arith, length-laid oldest ks)) h_is below n_is linked as_long as_many
-    (ap (laid o) ms_is ∙ laid-turn limit oldest o ks k i.turns long o_is) o_is ns_is hs_is
+    → ms ≡ ks ++ k ∷ [] → ns ≡ next ++ v ∷ [] → hs ≡ set heads h q → IsChained hash limit oldest ms ns hs
+pushed_room {K} {hash} {limit} {oldest = suc o} {ks} {next} {heads} i k q h n v ms ns hs room q_is h_is below n_is v_is ms_is ns_is hs_is =
+    let full : length ks ≡ limit = i.full (omega arith) in absurd (omega arith)
+pushed_room {K} {hash} {limit} {oldest = zero} {ks} {next} {heads} i k q h n v ms ns hs room q_is h_is below n_is v_is ms_is ns_is hs_is =
+    at_first i k q h n v ms ns hs room q_is h_is below n_is v_is ms_is ns_is hs_is
 
 -- a slice after it was lent
 pub refilled : {X : Type 0} (n : ℕ) (xs ys : List X) → n ≡ length xs → length ys ≡ length xs → take n (ys ++ drop (length ys) xs) ≡ ys

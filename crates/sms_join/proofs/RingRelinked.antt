@@ -2,10 +2,9 @@
 use Rattle.std.proofs.Common.{◌≡◌, ℕ, zero, suc, length-append, ◌+◌, ◌-◌, ◌<◌, ◌≤◌, List, [], ◌∷◌, ◌++◌, take, length, get_or, replicate, bit_and, refl, sym, ap, ◌∙◌, subst, arith}
 use Rattle.std.proofs.Math.ListN.{set, length-set}
 use Rattle.std.proofs.lemmas.List.{get_or-replicate, take_more, take_all, length-take}
-use Rattle.sms_join.specs.Inside.KeyRings.{laid, entries, head_of, AreLinked, IsChained}
+use Rattle.sms_join.specs.Inside.KeyRings.{entries, head_of, AreLinked, IsChained}
 use Rattle.sms_join.proofs.RingPlaces.{AreBelow, free_past}
 use Rattle.sms_join.proofs.RingTurns.{entries-push}
-use Rattle.sms_join.proofs.RingKeys.{laid_first}
 use Rattle.sms_join.proofs.RingPushed.{linked_set}
 
 -- these keys are linked, among so many heads
@@ -49,31 +48,30 @@ relinked_more {K} hash n ks next heads k q h r q_is within is there =
       few = omega (arith, long, length-set next q (get_or heads h 0));
     }
 
--- the key that is read at the next place
+-- the one that is read at the next place
 pub relinked_next : {K : Type 0} (hash : K → ℕ) (n : ℕ) (ks : List K) (next heads ns hs : List ℕ) (k : K) (q h m : ℕ) → Relinked hash n (take q ks) next heads
-    → q < length ks → length next ≡ length ks → k ≡ get_or (laid 0 ks) q k → h ≡ bit_and (hash k) (m - 1) → h < m → m ≡ length heads
+    → q < length ks → length next ≡ length ks → h ≡ bit_and (hash (get_or ks q k)) (m - 1) → h < m → m ≡ length heads
     → ns ≡ set next q (get_or heads h 0) → hs ≡ set heads h q → Relinked hash n (take (q + 1) ks) ns hs
-relinked_next {K} hash n ks next heads ns hs k q h m r within all at is there m_is ns_is hs_is =
+relinked_next {K} hash n ks next heads ns hs k q h m r within all is there m_is ns_is hs_is =
     let many : length heads ≡ n = r.many in
-    let read : get_or ks q k ≡ k = sym (at ∙ ap (λ (l : List K). get_or l q k) (laid_first ks)) in
-    let more : take (q + 1) ks ≡ take q ks ++ k ∷ [] = take_more ks q k within ∙ ap (λ x. take q ks ++ x ∷ []) read in
     let shown : length (take q ks) ≡ q = omega (arith, length-take q ks) in
-    subst (λ (l : List K). Relinked hash n l ns hs) (sym more)
-    (subst (λ (l : List ℕ). Relinked hash n (take q ks ++ k ∷ []) l hs) (sym ns_is)
-    (subst (λ (l : List ℕ). Relinked hash n (take q ks ++ k ∷ []) (set next q (get_or heads h 0)) l) (sym hs_is)
-    (relinked_more hash n (take q ks) next heads k q h r (sym shown) (omega arith) (is ∙ ap (λ i. bit_and (hash k) (i - 1)) (m_is ∙ many)) (omega arith))))
+    subst (λ (l : List K). Relinked hash n l ns hs) (sym (take_more ks q k within))
+    (subst (λ (l : List ℕ). Relinked hash n (take q ks ++ get_or ks q k ∷ []) l hs) (sym ns_is)
+    (subst (λ (l : List ℕ). Relinked hash n (take q ks ++ get_or ks q k ∷ []) (set next q (get_or heads h 0)) l) (sym hs_is)
+    (relinked_more hash n (take q ks) next heads (get_or ks q k) q h r (sym shown) (omega arith)
+    (is ∙ ap (λ i. bit_and (hash (get_or ks q k)) (i - 1)) (m_is ∙ many)) (omega arith))))
 
 pub relinked_all : {K : Type 0} (hash : K → ℕ) (n q : ℕ) (ks : List K) (next heads : List ℕ) → Relinked hash n (take q ks) next heads → length ks ≤ q
     → AreLinked (head_of hash n) next heads (entries 0 ks)
 relinked_all {K} hash n q ks next heads r all =
     subst (λ (l : List K). AreLinked (head_of hash n) next heads (entries 0 l)) (take_all q ks all) r.linked
 
--- a ring whose keys are linked anew
-pub respread : {K : Type 0} {hash : K → ℕ} {limit oldest : ℕ} (ks : List K) {next heads : List ℕ} (i : IsChained hash limit oldest (laid oldest ks) next heads)
+-- a ring whose places are linked anew
+pub respread : {K : Type 0} {hash : K → ℕ} {limit oldest : ℕ} {ks : List K} {next heads : List ℕ} (i : IsChained hash limit oldest ks next heads)
     (ns hs : List ℕ) → oldest ≤ 0 → 0 < length hs → length ns ≡ length next → AreLinked (head_of hash (length hs)) ns hs (entries 0 ks)
-    → IsChained hash limit oldest (laid oldest ks) ns hs
-respread {K} {hash} {limit} {oldest = suc o} ks {next} {heads} i ns hs first some long linked = absurd (omega arith)
-respread {K} {hash} {limit} {oldest = zero} ks {next} {heads} i ns hs first some long linked = record {
+    → IsChained hash limit oldest ks ns hs
+respread {K} {hash} {limit} {oldest = suc o} i ns hs first some long linked = absurd (omega arith)
+respread {K} {hash} {limit} {oldest = zero} i ns hs first some long linked = record {
   turns = i.turns;
   small = i.small;
   few = i.few;
@@ -82,5 +80,5 @@ respread {K} {hash} {limit} {oldest = zero} ks {next} {heads} i ns hs first some
   some_heads = some;
   lie = i.lie;
   apart = i.apart;
-  linked = subst (λ (l : List K). AreLinked (head_of hash (length hs)) ns hs (entries 0 l)) (sym (laid_first ks)) linked;
+  linked = linked;
 }

@@ -4,7 +4,7 @@ use Rattle.std.proofs.lemmas.List.{get_or_default}
 use Rattle.std.proofs.lemmas.Bool.{eqb-false, and_parts, lt-ltb, ltb-true}
 use Rattle.sms_join.specs.declared.key.Key.{Key}
 use Rattle.sms_join.specs.Key.{same_key}
-use Rattle.sms_join.specs.Inside.KeyRings.{entries, of_head, head_of, IsChain, LieIn, IsChained}
+use Rattle.sms_join.specs.Inside.KeyRings.{laid, came_after, entries, of_head, head_of, IsChain, LieIn, IsChained}
 use Rattle.sms_join.proofs.SameKeys.{same_key_true}
 use Rattle.sms_join.proofs.RingPlaces.{AreBelow, below_from_lie, lie_of_head, length-of_head}
 use Rattle.sms_join.proofs.RingChains.{left, left_is}
@@ -15,6 +15,10 @@ pub record Asked : Type 0 where
   pub key : Key
   pub last : ℕ
   pub after : ℕ → ℕ
+
+-- among the last so many of a ring
+abbrev pub asked : Key → ℕ → ℕ → List Key → Asked
+asked key last oldest ks = record { key = key; last = last; after = came_after oldest (length (laid oldest ks)) }
 
 abbrev pub is_met : Asked → ℕ × Key → Bool
 is_met a e = same_key e.1 a.key && ltb (a.after e.0) a.last
@@ -40,6 +44,14 @@ met_early a p x n at early = ap (λ m. same_key x a.key && ltb m a.last) (sym at
 -- it is another one
 pub met_other : (a : Asked) (p : ℕ) (x : Key) → same_key x a.key ≡ false → is_met a (p, x) ≡ false
 met_other a p x other = ap (λ b. b && ltb (a.after p) a.last) other
+
+-- it has another hash
+pub met_elsewhere : (hash : Key → ℕ) (a : Asked) (p : ℕ) (x : Key) (own asked : ℕ) → own ≡ hash x → asked ≡ hash a.key → own ≢ asked → is_met a (p, x) ≡ false
+met_elsewhere hash a p x own asked own_is asked_is other = go (same_key x a.key) refl
+  where
+    go : (b : Bool) → same_key x a.key ≡ b → is_met a (p, x) ≡ false
+    go true e = absurd (other (own_is ∙ (ap hash (same_key_true x a.key e) ∙ sym asked_is)))
+    go false e = met_other a p x e
 
 module _ (head : Key → ℕ) (k : Asked) where
   -- a key that is the same has the same head

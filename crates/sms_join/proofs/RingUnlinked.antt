@@ -1,13 +1,12 @@
 -- How the oldest leaves the chain of its head.
-use Rattle.std.proofs.Common.{◌≡◌, ◌≢◌, ℕ, suc, ◌<◌, ◌≤◌, Bool, true, false, eqb, List, [], ◌∷◌, ◌++◌, length, get_or, refl, sym, ap, ◌∙◌, subst, arith, length-append}
+use Rattle.std.proofs.Common.{◌≡◌, ◌≢◌, ℕ, suc, ◌<◌, ◌≤◌, Bool, true, false, eqb, List, [], ◌∷◌, ◌++◌, ◌-◌, bit_and, length, get_or, refl, sym, ap, ◌∙◌, subst, arith, length-append}
 use Rattle.std.proofs.Math.ListN.{set, length-set}
-use Rattle.std.proofs.lemmas.List.{append-nil, append_assoc, get_or-set_same, get_or-set_other}
+use Rattle.std.proofs.lemmas.List.{append-nil, append_assoc, get_or_default, get_or-set_same, get_or-set_other}
 use Rattle.std.proofs.lemmas.Bool.{eqb-true, eqb-false}
-use Rattle.sms_join.specs.Inside.KeyRings.{laid, entries, newer, of_head, IsChain, LieIn, IsFree, LieApart, AreLinked}
+use Rattle.sms_join.specs.Inside.KeyRings.{entries, newer, head_of, of_head, IsChain, LieIn, IsFree, LieApart, AreLinked}
 use Rattle.sms_join.proofs.RingPlaces.{AreBelow, HaveHead, below_from_lie, lie_front, lie_back, free_back, apart_front, last_is_free, free_of_head, apart_of_head, lie_of_head, length-of_head, have_head, have_back, of_head-last, of_head-others, free_elsewhere}
 use Rattle.sms_join.proofs.RingChains.{left, left_is, chain_set, chain_end, chain_cut}
 use Rattle.sms_join.proofs.RingTurns.{entries_split, length-entries}
-use Rattle.sms_join.proofs.RingKeys.{length-laid}
 
 -- the oldest, with its key, is the last of all
 pub record Oldest {K : Type 0} (head : K → ℕ) (ks : List K) (next heads : List ℕ) (o : ℕ) (k : K) (rest : List (ℕ × K)) : Type 0 where
@@ -40,12 +39,14 @@ oldest_of {K} head ks next heads o k within at lie apart linked room small there
           );
     }
 
--- the same of the keys of a ring
-pub oldest_in : {K : Type 0} (head : K → ℕ) (ks : List K) (next heads : List ℕ) (o : ℕ) (k : K) → o < length ks → k ≡ get_or (laid o ks) o k
-    → LieIn (laid o ks) (entries o (laid o ks)) → LieApart (entries o (laid o ks)) → AreLinked head next heads (entries o (laid o ks)) → length ks ≤ length next → length next < 4294967295 → head k < length heads
-    → Oldest head (laid o ks) next heads o k (newer o (laid o ks))
-oldest_in head ks next heads o k within at lie apart linked room small there =
-    oldest_of head (laid o ks) next heads o k (omega (arith, length-laid o ks)) at lie apart linked (omega (arith, length-laid o ks)) small there
+-- the same of the hashes of a ring
+pub oldest_in : (hs next heads : List ℕ) (o h : ℕ) → o < length hs → LieIn hs (entries o hs) → LieApart (entries o hs)
+    → AreLinked (head_of (λ (hash : ℕ). hash) (length heads)) next heads (entries o hs) → length hs ≤ length next → length next < 4294967295
+    → h ≡ bit_and (get_or hs o 0) (length heads - 1) → h < length heads
+    → Oldest (head_of (λ (hash : ℕ). hash) (length heads)) hs next heads o (get_or hs o 0) (newer o hs)
+oldest_in hs next heads o h within lie apart linked room small is there =
+    oldest_of (head_of (λ (hash : ℕ). hash) (length heads)) hs next heads o (get_or hs o 0) within (get_or_default hs o 0 (get_or hs o 0) within) lie apart linked room small
+    (subst (λ (n : ℕ). n < length heads) is there)
 
 -- how far the chain was followed
 pub record Walked {K : Type 0} (next : List ℕ) (all : List (ℕ × K)) (o p : ℕ) : Type 0 where

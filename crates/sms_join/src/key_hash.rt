@@ -163,10 +163,10 @@ fn words_to(numbers: [u8; 8], origin: &Address, recipient: &Address) -> [[u8; 8]
     [numbers, head, front, back, own_head, own_front, own_back]
 }
 
-/// The hash of what tells the messages of an origin apart, of the origin, and of the recipient,
-/// where there is one.
+/// 32 bits of the hash of what tells the messages of an origin apart, of the origin, and of the
+/// recipient, where there is one.
 #[inline(always)]
-fn hashed(hashing: Hashing, to: Option<&Address>, origin: &Address, numbers: [u8; 8]) -> u64
+fn hashed(hashing: Hashing, to: Option<&Address>, origin: &Address, numbers: [u8; 8]) -> u32
     ensures { result ≡ hashed hashing (option_copied to.entry) origin.now numbers }
 {
     let mut hasher = hashing.build_hasher();
@@ -174,7 +174,7 @@ fn hashed(hashing: Hashing, to: Option<&Address>, origin: &Address, numbers: [u8
         None => hasher.write(words_alone(numbers, origin).as_flattened()),
         Some(recipient) => hasher.write(words_to(numbers, origin, recipient).as_flattened()),
     }
-    hasher.finish()
+    (hasher.finish() % (1 << 32)) as u32
 }
 
 /// The hash of the key of a message, or of the message that a segment is of.
@@ -184,7 +184,7 @@ pub(crate) fn hash_of(
     origin: &Address,
     stamp: Stamp,
     concat: Option<Concat>,
-) -> u64
+) -> u32
     ensures { result ≡ hash_of hashing (key_to (option_copied to.entry) origin.now stamp concat) }
 {
     let numbers = match concat {
@@ -195,7 +195,7 @@ pub(crate) fn hash_of(
 }
 
 /// The hash of a key.
-pub(crate) fn key_hash(hashing: Hashing, key: &Key) -> u64
+pub(crate) fn key_hash(hashing: Hashing, key: &Key) -> u32
     ensures { result ≡ hash_of hashing key.now }
 {
     hashed(hashing, key.recipient(), key.origin(), numbers_in(key))

@@ -31,6 +31,8 @@ pub(crate) struct KeyRing {
     keys: HeapCircularBuffer<Key>,
     /// The place of the oldest, once there are as many as the limit; 0 before.
     oldest: usize,
+    /// For each place that has been taken the hash of its key.
+    hashes: Vec<u32>,
     /// For each place that has been taken the next older one whose key has the same head.
     next: Vec<u32>,
     /// For each head the place of its newest key.
@@ -38,7 +40,7 @@ pub(crate) struct KeyRing {
 }
 
 impl Model for KeyRing {
-    ghost use Rattle.std.specs.Prelude.{◌≡◌, ◌*◌, ◌≤◌, reverse};
+    ghost use Rattle.std.specs.Prelude.{◌≡◌, ◌*◌, ◌≤◌, map, reverse};
     ghost use Rattle.std.specs.Vec.{vec_capacity};
     ghost use Rattle.sms_join.specs.Inside.LastKeys.{HashedKeysValue};
     ghost use Rattle.sms_join.specs.Inside.KeyHashes.{hash_of};
@@ -52,8 +54,10 @@ impl Model for KeyRing {
       hashing = r.hashing;
     } };
 
-    ghost invariant = { λ r. IsChained (hash_of r.hashing) r.keys.capacity r.oldest
-        (laid r.oldest r.keys.items) r.next.items r.heads.items
+    ghost invariant = { λ r. IsChained (λ hash. hash) r.keys.capacity r.oldest
+        r.hashes.items r.next.items r.heads.items
+        × (r.hashes.items ≡ map (hash_of r.hashing) (laid r.oldest r.keys.items))
+        × (vec_capacity r.hashes ≡ r.keys.capacity)
         × (vec_capacity r.next ≡ r.keys.capacity)
         × (2 * r.keys.capacity ≤ vec_capacity r.heads) };
 }
@@ -67,7 +71,7 @@ fn place_after(place: usize, limit: usize) -> usize
 }
 
 /// The head of a hash, of as many heads, which are a power of two.
-fn head_of(hash: u64, heads: usize) -> usize
+fn head_of(hash: u32, heads: usize) -> usize
     requires { 0 < heads }
     ensures is { result ≡ bit_and hash (heads - 1) }
     ensures within { result < heads }
@@ -115,26 +119,19 @@ fn link(heads: &mut [u32], next: &mut [u32], head: usize, place: usize)
 }
 
 /// Takes the place of the oldest key out of its chain, whose last it is.
-fn unlink(
-    hashing: Hashing,
-    keys: &HeapCircularBuffer<Key>,
-    oldest: usize,
-    heads: &mut [u32],
-    next: &mut [u32],
-)
-    requires there { oldest < length keys.now.items }
+fn unlink(hashes: &[u32], oldest: usize, heads: &mut [u32], next: &mut [u32])
+    requires there { oldest < length hashes.now }
     requires heads { 0 < length heads.old }
-    requires next { length keys.now.items ≤ length next.old }
+    requires next { length hashes.now ≤ length next.old }
     requires small { length next.old < NONE }
-    requires lie { LieIn (laid oldest keys.now.items)
-        (entries oldest (laid oldest keys.now.items)) }
-    requires apart { LieApart (entries oldest (laid oldest keys.now.items)) }
-    requires linked { AreLinked (rings.head_of (hash_of hashing) (length heads.old))
-        next.old heads.old (entries oldest (laid oldest keys.now.items)) }
-    ensures { AreLinked (rings.head_of (hash_of hashing) (length heads.old))
-        next.new heads.new (newer oldest (laid oldest keys.now.items)) }
+    requires lie { LieIn hashes.now (entries oldest hashes.now) }
+    requires apart { LieApart (entries oldest hashes.now) }
+    requires linked { AreLinked (rings.head_of (λ hash. hash) (length heads.old))
+        next.old heads.old (entries oldest hashes.now) }
+    ensures { AreLinked (rings.head_of (λ hash. hash) (length heads.old))
+        next.new heads.new (newer oldest hashes.now) }
 {
-    let head = head_of(key_hash(hashing, key_at(keys, oldest, oldest)), heads.len());
+    let head = head_of(hashes[oldest], heads.len());
     let mut place = heads[head] as usize;
     if place == oldest {
         heads[head] = next[oldest];
@@ -147,16 +144,16 @@ fn unlink(
 }
 
 /// Links all places anew, from that of the oldest on, where the oldest lies at the first.
-fn relink(hashing: Hashing, keys: &HeapCircularBuffer<Key>, heads: &mut [u32], next: &mut [u32])
+fn relink(hashes: &[u32], heads: &mut [u32], next: &mut [u32])
     requires some { 0 < length heads.old }
     requires none { heads.old ≡ replicate (length heads.old) NONE }
-    requires next { length next.old ≡ length keys.now.items }
+    requires next { length next.old ≡ length hashes.now }
     requires small { length next.old < NONE }
-    ensures { AreLinked (rings.head_of (hash_of hashing) (length heads.old))
-        next.new heads.new (entries 0 keys.now.items) }
+    ensures { AreLinked (rings.head_of (λ hash. hash) (length heads.old))
+        next.new heads.new (entries 0 hashes.now) }
 {
-    for place in 0..keys.len() {
-        let head = head_of(key_hash(hashing, key_at(keys, 0, place)), heads.len());
+    for place in 0..hashes.len() {
+        let head = head_of(hashes[place], heads.len());
         link(heads, next, head, place);
     }
 }
@@ -173,6 +170,7 @@ impl KeyRing {
         }) }
     {
         let keys = HeapCircularBuffer::with_capacity(alloc, limit)?;
+        let hashes = Vec::with_capacity(alloc, limit)?;
         let next = Vec::with_capacity(alloc, limit)?;
         let mut heads = Vec::with_capacity(alloc, 2 * limit)?;
         heads.push_reserved(NONE);
@@ -180,6 +178,7 @@ impl KeyRing {
             hashing,
             keys,
             oldest: 0,
+            hashes,
             next,
             heads,
         })
@@ -201,14 +200,14 @@ impl KeyRing {
         self.contains_hashed(hash, last, to, origin, stamp, concat)
     }
 
-    /// The same by the hash of that key.
+    /// The same by the hash of that key. A key of another hash is not looked at.
     ///
     /// Where the hashers are all alike, whoever picks keys of one head makes it look through them
     /// one by one.
     #[inline(always)]
     fn contains_hashed(
         &self,
-        hash: u64,
+        hash: u32,
         last: usize,
         to: Option<&Address>,
         origin: &Address,
@@ -224,10 +223,12 @@ impl KeyRing {
         let mut place = self.heads[head_of(hash, self.heads.len())];
         while place != NONE {
             let at = place as usize;
-            let key = key_at(&self.keys, self.oldest, at);
-            let found = key.is_of(to, origin, stamp, concat);
-            if found && came_after(self.oldest, count, at) < last {
-                return true;
+            if self.hashes[at] == hash {
+                let key = key_at(&self.keys, self.oldest, at);
+                let found = key.is_of(to, origin, stamp, concat);
+                if found && came_after(self.oldest, count, at) < last {
+                    return true;
+                }
             }
             place = self.next[at];
         }
@@ -274,7 +275,7 @@ impl KeyRing {
 
     /// Adds a key of this hash.
     #[inline(always)]
-    fn push_hashed(&mut self, hash: u64, key: Key)
+    fn push_hashed(&mut self, hash: u32, key: Key)
         requires { hash ≡ hash_of self.old.hashing key }
         ensures { self.new ≡ record {
           limit = self.old.limit;
@@ -286,6 +287,7 @@ impl KeyRing {
         let limit = self.keys.capacity();
         let count = self.keys.len();
         if count < limit {
+            self.hashes.push_reserved(hash);
             self.next.push_reserved(self.heads[head]);
             self.heads[head] = count as u32;
             self.keys.push_back(key);
@@ -293,13 +295,8 @@ impl KeyRing {
             return;
         }
         let place = self.oldest;
-        unlink(
-            self.hashing,
-            &self.keys,
-            place,
-            &mut self.heads,
-            &mut self.next,
-        );
+        unlink(&self.hashes, place, &mut self.heads, &mut self.next);
+        self.hashes[place] = hash;
         link(&mut self.heads, &mut self.next, head, place);
         self.keys.push_back(key);
         self.oldest = place_after(place, limit);
@@ -344,6 +341,6 @@ impl KeyRing {
         }
         self.heads.clear();
         self.heads.resize(wanted, NONE).unwrap();
-        relink(self.hashing, &self.keys, &mut self.heads, &mut self.next);
+        relink(&self.hashes, &mut self.heads, &mut self.next);
     }
 }

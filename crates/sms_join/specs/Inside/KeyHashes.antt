@@ -1,7 +1,7 @@
 -- A reader may pass this by: contracts of private functions, and proofs, alone cite it.
 --
 -- The hashes of keys: numbers that keys of one message share, and that other keys seldom have.
-use Rattle.std.specs.Prelude.{ℕ, ◌/◌, ◌%◌, ◌-◌, List, [], ◌∷◌, ◌++◌, Option, None, Some, if◌then◌else◌, drop, length, nat_le, nat_lt, replicate, slice_index, take}
+use Rattle.std.specs.Prelude.{ℕ, ◌/◌, ◌%◌, ◌-◌, ◌^◌, List, [], ◌∷◌, ◌++◌, Option, None, Some, if◌then◌else◌, drop, length, nat_le, nat_lt, replicate, slice_index, take}
 use Rattle.std.specs.List.{flat_map}
 use Rattle.sms_field.specs.Address.Value.{AddressValue}
 use Rattle.sms_tpdu.specs.declared.user_data.concat.Width.{Width}
@@ -84,9 +84,10 @@ octets_in words = flat_map (λ word. word) words
 abbrev pub hash_writes : Key → List (List ℕ)
 hash_writes key = octets_in (words (recipient_of key) (origin_of key) (numbers_of key)) ∷ []
 
+-- 32 bits of a hash
 abbrev pub hashed : Hashing → Option AddressValue → AddressValue → List ℕ → ℕ
 hashed hashing recipient origin numbers =
-    finish (write (hasher_of hashing) (octets_in (words recipient origin numbers)))
+    finish (write (hasher_of hashing) (octets_in (words recipient origin numbers))) % 2 ^ 32
 
 abbrev pub hash_of : Hashing → Key → ℕ
 hash_of hashing key = hashed hashing (recipient_of key) (origin_of key) (numbers_of key)
