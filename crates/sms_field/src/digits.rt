@@ -63,7 +63,7 @@ impl PartialEq for Digits {
     ghost laws = { Prim.search (comparing, rules) };
 
     fn eq(&self, other: &Digits) -> bool {
-        self.as_slice() == other.as_slice()
+        self.count == other.count && self.values == other.values
     }
 }
 

@@ -57,7 +57,7 @@ impl PartialEq for Name {
     ghost laws = { Prim.search (comparing, rules) };
 
     fn eq(&self, other: &Name) -> bool {
-        self.as_slice() == other.as_slice()
+        self.count == other.count && self.septets == other.septets
     }
 }
 
