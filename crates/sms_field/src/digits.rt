@@ -251,6 +251,7 @@ fn plain_digit(octet: u8) -> Option<u8>
 }
 
 /// The digits of up to 20 octets, where each is the character `0` to `9`.
+#[inline(always)]
 pub fn plain_digits(octets: &[u8]) -> Option<Digits>
     ensures digits { IfSome result (λ digits. digits_of_text octets.now ≡ Some digits) }
     ensures few { IfSome result (λ digits. length digits ≤ DIGITS_MAX) }
