@@ -1,12 +1,12 @@
 //! The digits of an address: in octets, two an octet, and in texts.
 
-ghost use Rattle.std.specs.Prelude.{◌≡◌, ℕ, ◌+◌, ◌*◌, ◌/◌, ◌<◌, ◌≤◌, List, ◌∷◌, ◌++◌, length, take, Some, None, IfOk, IfSome, MatchOption, OnOk, OnErr, All, vec_len, vec_capacity, position, ◌==◌};
+ghost use Rattle.std.specs.Prelude.{◌≡◌, ℕ, ◌+◌, ◌*◌, ◌/◌, ◌<◌, ◌≤◌, List, ◌∷◌, ◌++◌, length, take, Some, None, IfOk, IfSome, IsSome, MatchOption, OnOk, OnErr, All, vec_len, vec_capacity, position, ◌==◌};
 ghost use Rattle.std.specs.List.{AllByRecursion};
 ghost use Rattle.std.specs.Str.{chars, IsAscii};
 ghost use Rattle.std.specs.String.{string_bytes};
 ghost use Rattle.sms_field.specs.Address.DigitValues.{AreDigits};
 ghost use Rattle.sms_field.specs.Address.Padded.{padded};
-ghost use Rattle.sms_field.specs.Address.DigitText.{digit_characters, digit_of_character, character_of_digit, digits_of_text, text_of_digits};
+ghost use Rattle.sms_field.specs.Address.DigitText.{IsPlain, digit_characters, digit_of_character, character_of_digit, digits_of_text, text_of_digits};
 ghost use Rattle.sms_field.specs.Address.Text.{few_digits};
 ghost use Rattle.sms_field.specs.Address.DigitOctets.{low_digit, both_digits, digit_octets};
 ghost use Rattle.std.specs.Prelude.{nat_eq};
@@ -243,6 +243,7 @@ fn character_of(digit: u8) -> char
 fn plain_digit(octet: u8) -> Option<u8>
     ensures is { IfSome result (λ digit. digit_of_character octet ≡ Some digit) }
     ensures bound { IfSome result (λ digit. digit < 15) }
+    ensures only { IsPlain octet → IsSome result }
 {
     if octet < 48 || octet > 57 {
         return None;
@@ -250,13 +251,15 @@ fn plain_digit(octet: u8) -> Option<u8>
     Some(octet - 48)
 }
 
-/// The digits of up to 20 octets, where each is the character `0` to `9`.
+/// The digits of up to 20 octets, where each is the character `0` to `9`; none of others. It takes
+/// no memory.
 #[inline(always)]
 pub fn plain_digits(octets: &[u8]) -> Option<Digits>
     ensures digits { IfSome result (λ digits. digits_of_text octets.now ≡ Some digits) }
     ensures few { IfSome result (λ digits. length digits ≤ DIGITS_MAX) }
     ensures are { IfSome result (λ digits. AreDigits digits) }
     ensures ascii { IfSome result (λ digits. IsAscii octets.now) }
+    ensures only { length octets.now ≤ DIGITS_MAX → All IsPlain octets.now → IsSome result }
 {
     if octets.len() > DIGITS_MAX {
         return None;
