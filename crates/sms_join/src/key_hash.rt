@@ -1,15 +1,16 @@
 //! The hashes of keys: numbers that keys of one message share, and that other keys seldom have.
 
-ghost use Rattle.std.specs.Prelude.{◌≡◌, ◌<◌, None, length, option_copied};
+ghost use Rattle.std.specs.Prelude.{◌≡◌, option_copied};
 ghost use Rattle.sms_join.specs.Piece.{key_to};
-ghost use Rattle.sms_join.specs.Inside.KeyHashes.{back_of, front_of, hash_of, hashed, middle_of, padded};
-ghost use Rattle.sms_join.specs.Inside.KeyHashes.{numbers_of, segmented, single, width_mark};
+ghost use Rattle.sms_field.specs.Address.Padded.{padded};
+ghost use Rattle.sms_join.specs.Inside.KeyHashes.{hash_of, hashed, numbers_of, segmented, single, width_mark};
 ghost use Rattle.sms_join.specs.Inside.KeyHashes.{words_alone, words_of, words_to};
+ghost use Rattle.sms_join.specs.Inside.KeyTags.{symbols_of};
 
 use crate::hashing::Hashing;
 use crate::key::Key;
 use crate::key_tag::symbols_of;
-use sms_field::{Address, Stamp};
+use sms_field::{Address, DIGITS_MAX, Stamp, Symbols};
 use sms_tpdu::{Concat, Width};
 use std::hash::{BuildHasher, Hash, Hasher};
 
@@ -87,61 +88,35 @@ fn numbers_in(key: &Key) -> [u8; 8]
     }
 }
 
-/// Symbols of which there are fewer than eight, and octets that are 0.
-fn padded(symbols: &[u8]) -> [u8; 8]
-    requires { length symbols.now < 8 }
-    ensures { result ≡ padded symbols.now }
-{
-    let mut octets = [0; 8];
-    octets[..symbols.len()].copy_from_slice(symbols);
-    octets
-}
-
-/// The first eight symbols; where there are fewer, these and octets that are 0.
+/// The symbols of an address, of which there are twenty at most, and octets that are 0 behind them.
 #[inline(always)]
-fn front_of(symbols: &[u8]) -> [u8; 8]
-    ensures { result ≡ front_of symbols.now }
+fn room_of(address: &Address) -> [u8; DIGITS_MAX]
+    ensures { result ≡ padded 20 (symbols_of address.now) }
 {
-    match symbols.first_chunk::<8>() {
-        Some(front) => *front,
-        None => padded(symbols),
+    match &address.symbols {
+        Symbols::Digits(digits) => *digits.as_room(),
+        Symbols::Name(name) => {
+            let own = name.as_room();
+            let mut room = [0; DIGITS_MAX];
+            room[..own.len()].copy_from_slice(own);
+            room
+        }
     }
 }
 
-/// The last eight symbols; where there are fewer, octets that are 0.
-#[inline(always)]
-fn back_of(symbols: &[u8]) -> [u8; 8]
-    ensures { result ≡ back_of symbols.now }
-{
-    match symbols.last_chunk::<8>() {
-        Some(back) => *back,
-        None => [0; 8],
-    }
-}
-
-/// The symbols between the first eight and the last eight, and some of these; octets that are 0
-/// where there are none between them.
-#[inline(always)]
-fn middle_of(symbols: &[u8]) -> [u8; 4]
-    ensures { result ≡ middle_of symbols.now }
-{
-    match symbols {
-        [_, _, _, _, _, _, _, _, a, b, c, d, _, _, _, _, _, ..] => [*a, *b, *c, *d],
-        _ => [0; 4],
-    }
-}
-
-/// An address in three words of eight octets, in which all of it stands: it has twenty symbols at
-/// most.
+/// An address in three words of eight octets, in which all of it stands.
 #[inline(always)]
 fn words_of(address: &Address) -> [[u8; 8]; 3]
     ensures { result ≡ words_of address.now }
 {
-    let symbols = symbols_of(address);
-    let count = (symbols.len() % 256) as u8;
-    let [a, b, c, d] = middle_of(symbols);
-    let head = [count, address.type_of_number, address.plan, 0, a, b, c, d];
-    [head, front_of(symbols), back_of(symbols)]
+    let count = (symbols_of(address).len() % 256) as u8;
+    let room = room_of(address);
+    let mut head = [count, address.type_of_number, address.plan, 0, 0, 0, 0, 0];
+    let (mut front, mut middle) = ([0; 8], [0; 8]);
+    head[4..].copy_from_slice(&room[16..]);
+    front.copy_from_slice(&room[..8]);
+    middle.copy_from_slice(&room[8..16]);
+    [head, front, middle]
 }
 
 /// The words of a key without a recipient.
@@ -149,8 +124,8 @@ fn words_of(address: &Address) -> [[u8; 8]; 3]
 fn words_alone(numbers: [u8; 8], origin: &Address) -> [[u8; 8]; 4]
     ensures { result ≡ words_alone numbers origin.now }
 {
-    let [head, front, back] = words_of(origin);
-    [numbers, head, front, back]
+    let [head, front, middle] = words_of(origin);
+    [numbers, head, front, middle]
 }
 
 /// The words of a key for a recipient.
@@ -158,9 +133,11 @@ fn words_alone(numbers: [u8; 8], origin: &Address) -> [[u8; 8]; 4]
 fn words_to(numbers: [u8; 8], origin: &Address, recipient: &Address) -> [[u8; 8]; 7]
     ensures { result ≡ words_to numbers origin.now recipient.now }
 {
-    let [head, front, back] = words_of(origin);
-    let [own_head, own_front, own_back] = words_of(recipient);
-    [numbers, head, front, back, own_head, own_front, own_back]
+    let [head, front, middle] = words_of(origin);
+    let [own_head, own_front, own_middle] = words_of(recipient);
+    [
+        numbers, head, front, middle, own_head, own_front, own_middle,
+    ]
 }
 
 /// 32 bits of the hash of what tells the messages of an origin apart, of the origin, and of the

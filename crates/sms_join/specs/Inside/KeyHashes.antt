@@ -3,6 +3,7 @@
 -- The hashes of keys: numbers that keys of one message share, and that other keys seldom have.
 use Rattle.std.specs.Prelude.{ℕ, ◌/◌, ◌%◌, ◌-◌, ◌^◌, List, [], ◌∷◌, ◌++◌, Option, None, Some, if◌then◌else◌, drop, length, nat_le, nat_lt, replicate, slice_index, take}
 use Rattle.std.specs.List.{flat_map}
+use Rattle.sms_field.specs.Address.Padded.{padded}
 use Rattle.sms_field.specs.Address.Value.{AddressValue}
 use Rattle.sms_tpdu.specs.declared.user_data.concat.Width.{Width}
 use Rattle.sms_tpdu.specs.declared.user_data.concat.Width.TheVariants.{Eight, Sixteen}
@@ -37,35 +38,15 @@ numbers_of (SingleTo recipient origin stamp) = single stamp
 numbers_of (SegmentedTo recipient origin width reference maximum) =
     segmented width reference maximum
 
--- up to eight symbols, and octets that are 0
-abbrev pub padded : List ℕ → List ℕ
-padded symbols = symbols ++ replicate (8 - length symbols) 0
-
--- the first eight symbols; where there are fewer, these and octets that are 0
-abbrev pub front_of : List ℕ → List ℕ
-front_of symbols = if nat_le 8 (length symbols) then take 8 symbols else padded symbols
-
--- the last eight symbols; where there are fewer, octets that are 0
-abbrev pub back_of : List ℕ → List ℕ
-back_of symbols =
-    if nat_le 8 (length symbols) then drop (length symbols - 8) symbols
-    else 0 ∷ 0 ∷ 0 ∷ 0 ∷ 0 ∷ 0 ∷ 0 ∷ 0 ∷ []
-
--- of more than sixteen symbols four from the ninth on, else octets that are 0
-abbrev pub middle_of : List ℕ → List ℕ
-middle_of symbols =
-    if nat_lt 16 (length symbols)
-    then slice_index symbols 8 ∷ slice_index symbols 9 ∷ slice_index symbols 10
-    ∷ slice_index symbols 11 ∷ []
-    else 0 ∷ 0 ∷ 0 ∷ 0 ∷ []
-
 -- an address in three words: how many symbols there are, the type of number, the plan, an octet
--- that is 0 and the middle; the front; the back
+-- that is 0 and the last four of twenty places, in which the symbols stand, and octets that are 0
+-- behind them; the first eight places; the eight in the middle
 abbrev pub words_of : AddressValue → List (List ℕ)
 words_of address =
     let symbols : List ℕ = symbols_of address in
-    (length symbols % 256 ∷ address.kind ∷ address.plan ∷ 0 ∷ middle_of symbols)
-    ∷ front_of symbols ∷ back_of symbols ∷ []
+    let room : List ℕ = padded 20 symbols in
+    (length symbols % 256 ∷ address.kind ∷ address.plan ∷ 0 ∷ drop 16 room)
+    ∷ take 8 room ∷ take 8 (drop 8 room) ∷ []
 
 abbrev pub words_alone : List ℕ → AddressValue → List (List ℕ)
 words_alone numbers origin = numbers ∷ words_of origin
