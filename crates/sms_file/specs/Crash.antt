@@ -20,22 +20,28 @@ abbrev pub NoOther : {D : Type 0} → (D → File → Type 0) → D → D → Ty
 NoOther may_leave old new = (c : File) → may_leave new c → may_leave old c
 
 -- The file stands as before: a read gives the same, and so does a crash.
-pub record StandsAsBefore {D : Type 0} (named : D → File) (rights : D → Option ℕ) (may_leave : D → File → Type 0) (old new : D) : Type 0 where
+pub record StandsAsBefore {D : Type 0} (named : D → File) (rights : D → Option ℕ)
+    (may_leave : D → File → Type 0) (old new : D) : Type 0 where
   pub same_octets : named new ≡ named old
   pub same_rights : rights new ≡ rights old
   pub no_other : NoOther may_leave old new
 
 -- This file stands: a read gives it, and so does each crash from then on.
-pub record Stands {D : Type 0} (named : D → File) (may_leave : D → File → Type 0) (file : File) (new : D) : Type 0 where
+pub record Stands {D : Type 0} (named : D → File) (may_leave : D → File → Type 0)
+    (file : File) (new : D) : Type 0 where
   pub has_name : named new ≡ file
   pub only : Only file (may_leave new)
 
--- Time goes on: a crash since the moment t might have left what it might have left before, or what it may leave now.
-pub record Elapses {D : Type 0} (moment : D → ℕ) (left_since : D → ℕ → File → Type 0) (may_leave : D → File → Type 0) (old new : D) : Type 0 where
+-- Time goes on: a crash since the moment t might have left what it might have left before, or what
+-- it may leave now.
+pub record Elapses {D : Type 0} (moment : D → ℕ) (left_since : D → ℕ → File → Type 0)
+    (may_leave : D → File → Type 0) (old new : D) : Type 0 where
   pub later : moment old ≤ moment new
-  pub nothing_else : (t : ℕ) (c : File) → t ≤ moment old → left_since new t c → left_since old t c ⊎ may_leave new c
+  pub nothing_else : (t : ℕ) (c : File) → t ≤ moment old → left_since new t c
+      → left_since old t c ⊎ may_leave new c
 
 -- A crash at any moment from old to new leaves a file that has P.
-pub record LeavesOnly {D : Type 0} (moment : D → ℕ) (left_since : D → ℕ → File → Type 0) (old new : D) (P : File → Type 0) : Type 0 where
+pub record LeavesOnly {D : Type 0} (moment : D → ℕ) (left_since : D → ℕ → File → Type 0)
+    (old new : D) (P : File → Type 0) : Type 0 where
   pub later : moment old ≤ moment new
   pub each : (c : File) → left_since new (moment old) c → P c

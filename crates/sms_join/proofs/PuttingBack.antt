@@ -13,7 +13,7 @@ use Rattle.sms_join.specs.OpenSets.Places.{set_by}
 use Rattle.sms_join.specs.Gateway.Distinct.{NoneTwice, AreDistinct}
 use Rattle.sms_join.specs.Gateway.Finishings.{not_before}
 use Rattle.sms_join.specs.Inside.Gateways.{AreTimed}
-use Rattle.sms_join.specs.Inside.Keeping.{IsKept, in_order}
+use Rattle.sms_join.specs.Inside.Keeping.{IsKept, in_order, with_key}
 use Rattle.sms_join.specs.Inside.Turns.{arranged}
 use Rattle.sms_join.proofs.Arranged.{has_arranged}
 use Rattle.sms_join.proofs.DistinctKeys.{same_distinct, twice_taken}
@@ -71,17 +71,7 @@ distinct_back v w key moment ps (Ok x) ok err same before after fresh d =
 
 -- ---- a key
 
--- the joiner inside, which remembers one key more
-abbrev pub remembers : JoinerValue → Key → JoinerValue
-remembers v key =
-    record {
-      open_max = v.open_max;
-      remembered = v.remembered;
-      holds = record { kept = v.holds.kept; finished = take v.remembered (key ∷ v.holds.finished) };
-      told = v.told;
-    }
-
-pub timed_more : (v : JoinerValue) (key : Key) (now : ℕ) (ms : List ℕ) (room : ℕ) → AreTimed v ms room → AreTimed (remembers v key) (take room (not_before ms now ∷ ms)) room
+pub timed_more : (v : JoinerValue) (key : Key) (now : ℕ) (ms : List ℕ) (room : ℕ) → AreTimed v ms room → AreTimed (with_key v key) (take room (not_before ms now ∷ ms)) room
 timed_more v key now ms room timed =
     record {
       sets = timed.sets;
@@ -92,7 +82,7 @@ timed_more v key now ms room timed =
     }
 
 pub distinct_more : (v : JoinerValue) (key : Key) → IsKept v → has_set (arranged v.told) key ≡ false → is_among v.holds.finished key ≡ false → AreDistinct v.holds
-    → AreDistinct (remembers v key).holds
+    → AreDistinct (with_key v key).holds
 distinct_more v key kept closed fresh d =
     record {
       once = twice_taken v.remembered (key ∷ v.holds.finished) (fresh, d.once);

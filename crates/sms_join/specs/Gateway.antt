@@ -6,5 +6,6 @@ pub mod InTime
 pub mod Recalled
 pub mod Recipients
 pub mod Remembered
+pub mod Remembering
 pub mod Value
 pub mod WithoutRecipient

@@ -14,7 +14,8 @@ pub record Escapes : Type 0 where
 -- two digits, in lower case
 abbrev pub two_lower : ℕ → List ℕ
 two_lower octet =
-    slice_index (codes "0123456789abcdef") (octet / 16) ∷ slice_index (codes "0123456789abcdef") (octet % 16) ∷ []
+    slice_index (codes "0123456789abcdef") (octet / 16)
+    ∷ slice_index (codes "0123456789abcdef") (octet % 16) ∷ []
 
 -- how an octet stands there
 abbrev pub escape : Escapes → ℕ → List ℕ

@@ -25,7 +25,8 @@ octets_from has_blanks None at (x ∷ digits) =
     else if has_blanks && is_blank x then octets_from has_blanks None (at + 1) digits
     else Err at
 octets_from has_blanks (Some high) at (x ∷ digits) =
-    if is_hex_digit x then in_front (high * 16 + number_of x) (octets_from has_blanks None (at + 1) digits)
+    if is_hex_digit x then
+    in_front (high * 16 + number_of x) (octets_from has_blanks None (at + 1) digits)
     else Err at
 
 -- the octets of digits, or the place of the first octet that is wrong
@@ -35,5 +36,6 @@ octets_of has_blanks digits = octets_from has_blanks None 0 digits
 -- the answer is how many octets were read, which stand in front, or the place
 abbrev pub Reads : Result (List ℕ) ℕ → Result ℕ ℕ → List ℕ → Type 0
 Reads read answer room =
-    MatchResult read (λ octets. (answer ≡ Ok (length octets)) × (take (length octets) room ≡ octets))
+    MatchResult read
+    (λ octets. (answer ≡ Ok (length octets)) × (take (length octets) room ≡ octets))
     (λ place. answer ≡ Err place)

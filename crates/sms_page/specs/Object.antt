@@ -50,7 +50,8 @@ ends (value text) = true
 -- the text of tokens, behind a value or not
 unfoldable pub texts : Bool → List Token → List ℕ
 texts has_value [] = []
-texts has_value (token ∷ tokens) = maybe (has_value && begins token) 44 ++ token_text token ++ texts (ends token) tokens
+texts has_value (token ∷ tokens) =
+    maybe (has_value && begins token) 44 ++ token_text token ++ texts (ends token) tokens
 
 -- whether a value stands last behind them
 unfoldable pub after : Bool → List Token → Bool
@@ -84,6 +85,8 @@ separated (item ∷ next ∷ items) = texts false item ++ codes "," ++ separated
 
 -- an object or a list of items is an item, and its text has a comma between each item and the next
 pub record HasCommas (first last : Token) : Type 0 where
-  pub is_item : (items : List (List Token)) → AreItems items → IsItem (first ∷ (tokens_of items ++ last ∷ []))
+  pub is_item : (items : List (List Token)) → AreItems items
+      → IsItem (first ∷ (tokens_of items ++ last ∷ []))
   pub text : (items : List (List Token)) → AreItems items
-      → texts false (first ∷ (tokens_of items ++ last ∷ [])) ≡ token_text first ++ separated items ++ token_text last
+      → texts false (first ∷ (tokens_of items ++ last ∷ []))
+      ≡ token_text first ++ separated items ++ token_text last

@@ -22,7 +22,8 @@ meant_before meaning rest = option_and_then (λ octet. read_before octet rest) m
 -- the number of digits
 abbrev pub code_of : List ℕ → ℕ → Option ℕ
 code_of [] code = Some code
-code_of (x ∷ digits) code = if is_hex_digit x then code_of digits (code * 16 + number_of x) else None
+code_of (x ∷ digits) code =
+    if is_hex_digit x then code_of digits (code * 16 + number_of x) else None
 
 -- what a letter behind a backslash means in JSON
 abbrev pub json_meaning : ℕ → Option ℕ
@@ -50,7 +51,8 @@ read_json before_digits [] = None
 read_json before_digits (a ∷ []) = None
 read_json before_digits (a ∷ b ∷ []) = None
 read_json before_digits (a ∷ b ∷ c ∷ []) = None
-read_json before_digits (a ∷ b ∷ c ∷ d ∷ xs) = meant_before (code_of (a ∷ b ∷ c ∷ d ∷ []) 0) (read_json between xs)
+read_json before_digits (a ∷ b ∷ c ∷ d ∷ xs) =
+    meant_before (code_of (a ∷ b ∷ c ∷ d ∷ []) 0) (read_json between xs)
 
 -- what a letter behind a backslash means in a line
 abbrev pub line_meaning : ℕ → Option ℕ
@@ -97,4 +99,6 @@ StaysInLine = (text : List ℕ) → AreOctets text → list_all stays_in_line (e
 
 -- octets are read back from their digits
 abbrev pub DigitsReadBack : Type 0
-DigitsReadBack = (has_blanks : Bool) (octets : List ℕ) → AreOctets octets → octets_of has_blanks (encode_upper octets) ≡ Ok octets
+DigitsReadBack =
+    (has_blanks : Bool) (octets : List ℕ) → AreOctets octets
+    → octets_of has_blanks (encode_upper octets) ≡ Ok octets

@@ -6,7 +6,8 @@ use Rattle.sms_join.specs.Joiner.{is_among}
 use Rattle.sms_join.specs.Gateway.Finishings.{is_forgotten, keys_at}
 
 -- One of the keys is this one, and its finishing is not forgotten.
-pub record HasInTime (longest : Option ℕ) (now : ℕ) (ks : List Key) (ms : List ℕ) (k : Key) : Type 0 where
+pub record HasInTime (longest : Option ℕ) (now : ℕ) (ks : List Key) (ms : List ℕ)
+    (k : Key) : Type 0 where
   pub index : ℕ
   pub own : Key
   pub moment : ℕ

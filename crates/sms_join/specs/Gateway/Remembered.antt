@@ -8,4 +8,5 @@ use Rattle.sms_join.specs.Gateway.Value.{GatewayValue}
 abbrev pub IsRememberedAt : GatewayValue → ℕ → Option RememberedKey → Type 0
 IsRememberedAt g after None = length g.holds.finished ≤ after
 IsRememberedAt g after (Some r) =
-    (slice_get g.holds.finished after ≡ Some r.key.now) × (slice_get g.finishings after ≡ Some r.moment)
+    (slice_get g.holds.finished after ≡ Some r.key.now)
+    × (slice_get g.finishings after ≡ Some r.moment)

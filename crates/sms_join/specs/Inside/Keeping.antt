@@ -1,7 +1,7 @@
 -- A reader may pass this by: contracts of private functions, and proofs, alone cite it.
 --
 -- What a joiner holds, where its open sets stand in the order of their table, and in that of opening.
-use Rattle.std.specs.Prelude.{◌≡◌, ℕ, ◌≤◌, true, List, Option, length}
+use Rattle.std.specs.Prelude.{◌≡◌, ℕ, ◌≤◌, true, List, ◌∷◌, Option, length, take}
 use Rattle.sms_field.specs.Address.Value.{AddressValue}
 use Rattle.sms_join.specs.declared.key.Key.{Key}
 use Rattle.sms_join.specs.Key.{recipient_of}
@@ -27,6 +27,16 @@ in_order v =
       remembered = v.remembered;
       holds = record { kept = all_pieces (arranged v.told); finished = v.holds.finished };
       told = arranged v.told;
+    }
+
+-- The same, which remembers this key too, as that of the message that finished last.
+abbrev pub with_key : JoinerValue → Key → JoinerValue
+with_key v key =
+    record {
+      open_max = v.open_max;
+      remembered = v.remembered;
+      holds = record { kept = v.holds.kept; finished = take v.remembered (key ∷ v.holds.finished) };
+      told = v.told;
     }
 
 -- Each set of these pieces is of this recipient, or of none.

@@ -55,4 +55,5 @@ abbrev pub AreWalked : Type 0
 AreWalked =
     (ss : List SetValue) → RiseInTurn ss
     → (first_from 0 ss ≡ first_of ss)
-    × ((ls rs : List SetValue) (s : SetValue) → ss ≡ ls ++ s ∷ rs → first_from (suc s.turn) ss ≡ first_of rs)
+    × ((ls rs : List SetValue) (s : SetValue) → ss ≡ ls ++ s ∷ rs
+    → first_from (suc s.turn) ss ≡ first_of rs)

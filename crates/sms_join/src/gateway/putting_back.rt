@@ -1,9 +1,9 @@
 //! What a joiner held before, put back.
 
-ghost use Rattle.std.specs.Prelude.{◌≡◌, ℕ, ◌<◌, true, false, not, [], ◌∷◌, ◌++◌, length, take, OnOk, OnErr};
+ghost use Rattle.std.specs.Prelude.{◌≡◌, ℕ, ◌<◌, true, false, not, [], ◌∷◌, ◌++◌, length, OnOk, OnErr};
 ghost use Rattle.sms_join.specs.Key.{maximum_of};
 ghost use Rattle.sms_join.specs.Joiner.{is_among};
-ghost use Rattle.sms_join.specs.Gateway.Finishings.{not_before};
+ghost use Rattle.sms_join.specs.Gateway.Remembering.{remembering};
 ghost use Rattle.sms_join.specs.OpenSets.{all_pieces, has_set};
 ghost use Rattle.sms_join.specs.OpenSets.Places.{filled, set_by};
 
@@ -74,16 +74,7 @@ impl Gateway {
     pub fn remember(&mut self, key: Key, moment: u64)
         requires closed { has_set self.old.told key ≡ false }
         requires fresh { is_among self.old.holds.finished key ≡ false }
-        ensures { self.new ≡ record {
-          limits = self.old.limits;
-          holds = record {
-            kept = self.old.holds.kept;
-            finished = take self.old.limits.remembered (key ∷ self.old.holds.finished);
-          };
-          told = self.old.told;
-          finishings = take self.old.limits.remembered
-              (not_before self.old.finishings moment ∷ self.old.finishings);
-        } }
+        ensures { self.new ≡ remembering self.old key moment }
     {
         self.keeper.have_kept();
         self.keeper.remember(key);
@@ -95,16 +86,7 @@ impl Gateway {
     pub fn remember_new(&mut self, key: Key, moment: u64) -> bool
         requires closed { has_set self.old.told key ≡ false }
         ensures is_new { result ≡ not (is_among self.old.holds.finished key) }
-        ensures remembered { result ≡ true → self.new ≡ record {
-          limits = self.old.limits;
-          holds = record {
-            kept = self.old.holds.kept;
-            finished = take self.old.limits.remembered (key ∷ self.old.holds.finished);
-          };
-          told = self.old.told;
-          finishings = take self.old.limits.remembered
-              (not_before self.old.finishings moment ∷ self.old.finishings);
-        } }
+        ensures remembered { result ≡ true → self.new ≡ remembering self.old key moment }
         ensures kept { result ≡ false → self.new ≡ self.old }
     {
         self.keeper.have_kept();

@@ -1,11 +1,12 @@
 //! What was kept before, put back.
 
-ghost use Rattle.std.specs.Prelude.{◌≡◌, ℕ, ◌<◌, true, false, not, [], ◌∷◌, ◌++◌, length, take, OnOk, OnErr};
+ghost use Rattle.std.specs.Prelude.{◌≡◌, ℕ, ◌<◌, true, false, not, [], ◌∷◌, ◌++◌, length, OnOk, OnErr};
 ghost use Rattle.sms_join.specs.Key.{maximum_of};
 ghost use Rattle.sms_join.specs.Joiner.{is_among};
 ghost use Rattle.sms_join.specs.Joiner.Value.{SameLimits};
 ghost use Rattle.sms_join.specs.OpenSets.{has_set};
 ghost use Rattle.sms_join.specs.OpenSets.Places.{filled, set_by};
+ghost use Rattle.sms_join.specs.Inside.Keeping.{with_key};
 ghost use Rattle.sms_join.specs.Inside.Turns.{arranged};
 
 use crate::keeper::Keeper;
@@ -60,15 +61,7 @@ impl Keeper {
 
     /// Remembers a key, as that of the message that finished last.
     pub(crate) fn remember(&mut self, key: Key)
-        ensures { self.new ≡ record {
-          open_max = self.old.open_max;
-          remembered = self.old.remembered;
-          holds = record {
-            kept = self.old.holds.kept;
-            finished = take self.old.remembered (key ∷ self.old.holds.finished);
-          };
-          told = self.old.told;
-        } }
+        ensures { self.new ≡ with_key self.old key }
     {
         self.finished.push(key);
     }
@@ -76,15 +69,7 @@ impl Keeper {
     /// The same, unless the key is remembered: whether it was not.
     pub(crate) fn remember_new(&mut self, key: Key) -> bool
         ensures is_new { result ≡ not (is_among self.old.holds.finished key) }
-        ensures remembered { result ≡ true → self.new ≡ record {
-          open_max = self.old.open_max;
-          remembered = self.old.remembered;
-          holds = record {
-            kept = self.old.holds.kept;
-            finished = take self.old.remembered (key ∷ self.old.holds.finished);
-          };
-          told = self.old.told;
-        } }
+        ensures remembered { result ≡ true → self.new ≡ with_key self.old key }
         ensures kept { result ≡ false → self.new ≡ self.old }
     {
         self.finished.push_new(key)

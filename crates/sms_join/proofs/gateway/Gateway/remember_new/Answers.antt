@@ -8,12 +8,13 @@ use Rattle.sms_join.specs.Gateway.Distinct.{AreDistinct}
 use Rattle.sms_join.specs.Gateway.Finishings.{not_before}
 use Rattle.sms_join.specs.Gateway.Value.{GatewayValue}
 use Rattle.sms_join.specs.Inside.Gateways.{AreTimed}
-use Rattle.sms_join.proofs.PuttingBack.{remembers, timed_more, distinct_more}
+use Rattle.sms_join.specs.Inside.Keeping.{with_key}
+use Rattle.sms_join.proofs.PuttingBack.{timed_more, distinct_more}
 use Rattle.sms_join.proofs.gateway.Gateway.remember_new.Goals as goal
 
 pub invariant_of-self-2 : goal.invariant_of-self-2
 invariant_of-self-2 c =
-    let more : c.remember_new.new.self ≡ remembers c.self.inside.keeper c.args.key = c.remember_new.ensures.remembered c.if-not-remember_new.false in
+    let more : c.remember_new.new.self ≡ with_key c.self.inside.keeper c.args.key = c.remember_new.ensures.remembered c.if-not-remember_new.false in
     let fresh : is_among c.self.inside.keeper.holds.finished c.args.key ≡ false =
     not-true (is_among c.self.inside.keeper.holds.finished c.args.key) (sym c.remember_new.ensures.is_new ∙ c.if-not-remember_new.false) in (
       subst (λ (b : Buffer ℕ). AreTimed c.remember_new.new.self b.items b.capacity) (sym c.note_finishing.ensures)
