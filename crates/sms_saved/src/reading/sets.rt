@@ -37,12 +37,12 @@ fn septets_of(alloc: Global, bytes: &[u8]) -> Result<(Vec<u8>, &[u8]), Stop>
     Ok((Vec::from_slice(alloc, octets)?, rest))
 }
 
-/// So many 16-bit units.
+/// So many 16-bit units. Room is made once, for no more than these octets can be.
 fn units_of(alloc: Global, count: u64, bytes: &[u8]) -> Result<(Vec<u16>, &[u8]), Stop>
     ensures { Gives (λ x. (x.0.items, x.1.now)) result
         (items_at (number_at w16) count bytes.now) }
 {
-    let mut units = Vec::new(alloc);
+    let mut units = Vec::with_capacity(alloc, (count as usize).min(bytes.len() / 2))?;
     let mut rest = bytes;
     for _ in 0..count {
         let (unit, after) = u16_of(rest)?;
@@ -81,12 +81,12 @@ fn place_of(alloc: Global, bytes: &[u8]) -> Result<(Option<Units>, &[u8]), Stop>
     }
 }
 
-/// So many places.
+/// So many places. Room is made once, for no more than these octets can be.
 fn places_of(alloc: Global, count: u8, bytes: &[u8]) -> Result<(Vec<Option<Units>>, &[u8]), Stop>
     ensures { Gives (λ x. (view_places x.0.items, x.1.now)) result
         (items_at place_at count bytes.now) }
 {
-    let mut places = Vec::new(alloc);
+    let mut places = Vec::with_capacity(alloc, usize::from(count).min(bytes.len()))?;
     let mut rest = bytes;
     for _ in 0..count {
         let (place, after) = place_of(alloc, rest)?;
