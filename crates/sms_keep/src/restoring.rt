@@ -92,7 +92,9 @@ fn hold(
     check_sets(alloc, &state)?;
     let mut gateway = new_gateway(alloc, seed, limits)?;
     remember_keys(alloc, &mut gateway, &state)?;
-    put_sets_back(alloc, &mut gateway, state.sets)?;
+    if !put_sets_back(alloc, &mut gateway, state.sets)? {
+        unreachable!()
+    }
     let _open = gateway.open_sets();
     let _count = gateway.remembered_count();
     Ok(gateway)
