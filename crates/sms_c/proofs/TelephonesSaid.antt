@@ -1,109 +1,22 @@
 -- Texts whose octets are digits.
-use Rattle.std.proofs.Common.{◌≡◌, ℕ, zero, suc, ◌+◌, ◌-◌, ◌<◌, ◌≤◌, true, false, Bool, leb, Err, List, [], ◌∷◌, ◌++◌, length, take, drop, get_or, Option, Some, None, Ok, Result, refl, sym, ap, subst, ◌∙◌, arith}
+use Rattle.std.proofs.Common.{◌≡◌, ℕ, ◌-◌, ◌<◌, ◌≤◌, true, false, Bool, leb, Err, List, [], ◌∷◌, length, take, drop, get_or, Option, Some, None, Ok, Result, refl, sym, ap, subst, ◌∙◌, arith}
 use Rattle.std.specs.Prelude.{◌==◌, if◌then◌else◌, IfSome}
-use Rattle.std.specs.List.{AllByRecursion}
 use Rattle.std.specs.Str.{chars, IsAscii, IsUtf8}
-use Rattle.std.proofs.Math.ListN.{set, length-set}
 use Rattle.std.proofs.lemmas.Bool.{le-leb, eqb-true}
-use Rattle.std.proofs.lemmas.List.{take_more, take_more_set, take_all, length-take}
+use Rattle.std.proofs.lemmas.List.{take_all}
 use Rattle.std.proofs.lemmas.List.Elements.{All-from_recursion, recursion_from_All}
 use Rattle.std.proofs.lemmas.Str.{chars-IsAscii, IsUtf8-from_ascii, is_utf8-from_IsUtf8}
 use Rattle.std.proofs.lemmas.Str.Ascii.{IsAscii-from_all, All-from_ascii}
 use Rattle.sms_text.specs.SeptetsOfText.{septets_of_text}
 use Rattle.sms_field.specs.Address.DigitText.{digit_of_character, digits_of_text}
-use Rattle.sms_field.specs.Address.DigitValues.{AreDigits}
 use Rattle.sms_field.specs.Address.Text.{address_of_text, few_digits, telephone_of, telephone_or_name, name_of, without_plus}
 use Rattle.sms_field.specs.Address.Value.{AddressValue}
 use Rattle.sms_field.specs.declared.fault.AddressFault.{AddressFault}
 use Rattle.sms_c.specs.AddressGiven.{address_given}
 
--- the characters of digits from 0 to 9
-abbrev pub shown : List ℕ → List ℕ
-shown [] = []
-shown (digit ∷ digits) = (48 + digit) ∷ shown digits
-
-abbrev pub AreTen : List ℕ → Type 0
-AreTen digits = AllByRecursion (λ digit. digit < 10) digits
-
-one_shown : (digits : List ℕ) (digit : ℕ) → shown (digits ++ digit ∷ []) ≡ shown digits ++ (48 + digit) ∷ []
-one_shown [] digit = refl
-one_shown (d ∷ digits) digit = ap (λ (l : List ℕ). (48 + d) ∷ l) (one_shown digits digit)
-
-one_of_ten : (digits : List ℕ) (digit : ℕ) → AreTen digits → digit < 10 → AreTen (digits ++ digit ∷ [])
-one_of_ten [] digit others small = (small, record {})
-one_of_ten (d ∷ digits) digit others small = (others.0, one_of_ten digits digit others.1 small)
-
--- ---- read one by one
-
--- So many octets show as many digits.
-pub record Read (octets values : List ℕ) (i : ℕ) : Type 0 where
-  pub size : length values ≡ 20
-  pub small : AreTen (take i values)
-  pub shows : take i octets ≡ shown (take i values)
-
-pub none_read : (octets values : List ℕ) → length values ≡ 20 → Read octets values 0
-none_read octets values size = record { size = size; small = record {}; shows = refl }
-
-pub one_read : (octets values : List ℕ) (i digit : ℕ) → i < 20 → i < length octets → get_or octets i 0 ≡ 48 + digit → digit < 10 → Read octets values i → Read octets (set values i digit) (i + 1)
-one_read octets values i digit few inside is small r =
-    let taken : take (i + 1) (set values i digit) ≡ take i values ++ digit ∷ [] = take_more_set values i digit (omega (arith, few, r.size)) in
-    record {
-      size = length-set values i digit ∙ r.size;
-      small = subst AreTen (sym taken) (one_of_ten (take i values) digit r.small small);
-      shows = take_more octets i 0 inside
-          ∙ ap (λ (l : List ℕ). l ++ get_or octets i 0 ∷ []) r.shows
-          ∙ ap (λ (n : ℕ). shown (take i values) ++ n ∷ []) is
-          ∙ sym (one_shown (take i values) digit)
-          ∙ ap shown (sym taken);
-    }
-
--- ---- all read
-
--- a digit of at most nine
-ten : (digit : ℕ) → digit < 10 → (P : ℕ → Type 0) → P 0 → P 1 → P 2 → P 3 → P 4 → P 5 → P 6 → P 7 → P 8 → P 9 → P digit
-ten zero l P a b c d e f g h i j = a
-ten (suc zero) l P a b c d e f g h i j = b
-ten (suc (suc zero)) l P a b c d e f g h i j = c
-ten (suc (suc (suc zero))) l P a b c d e f g h i j = d
-ten (suc (suc (suc (suc zero)))) l P a b c d e f g h i j = e
-ten (suc (suc (suc (suc (suc zero))))) l P a b c d e f g h i j = f
-ten (suc (suc (suc (suc (suc (suc zero)))))) l P a b c d e f g h i j = g
-ten (suc (suc (suc (suc (suc (suc (suc zero))))))) l P a b c d e f g h i j = h
-ten (suc (suc (suc (suc (suc (suc (suc (suc zero)))))))) l P a b c d e f g h i j = i
-ten (suc (suc (suc (suc (suc (suc (suc (suc (suc zero))))))))) l P a b c d e f g h i j = j
-ten (suc (suc (suc (suc (suc (suc (suc (suc (suc (suc n)))))))))) l P a b c d e f g h i j = absurd (omega (arith, l))
-
-digit_is : (digit : ℕ) → digit < 10 → digit_of_character (48 + digit) ≡ Some digit
-unfolding digit_of_character
-digit_is digit small = ten digit small (λ d. digit_of_character (48 + d) ≡ Some d) refl refl refl refl refl refl refl refl refl refl
-
-digits_are : (digits : List ℕ) → AreTen digits → digits_of_text (shown digits) ≡ Some digits
-unfolding digits_of_text
-digits_are [] small = refl
-digits_are (d ∷ digits) small = rw (digit_is d small.0, digits_are digits small.1) refl
-
-below_128 : (digits : List ℕ) → AreTen digits → AllByRecursion (λ octet. octet < 128) (shown digits)
-below_128 [] small = record {}
-below_128 (d ∷ digits) small = (omega (arith, small.0), below_128 digits small.1)
-
-are_ascii : (digits : List ℕ) → AreTen digits → IsAscii (shown digits)
-are_ascii digits small = IsAscii-from_all (shown digits) (All-from_recursion (λ octet. octet < 128) (shown digits) (below_128 digits small))
-
-below_15 : (digits : List ℕ) → AreTen digits → AllByRecursion (λ digit. digit < 15) digits
-below_15 [] small = record {}
-below_15 (d ∷ digits) small = (omega (arith, small.0), below_15 digits small.1)
-
-pub all_read : (octets values digits : List ℕ) (i : ℕ) → length octets ≤ 20 → i ≡ length octets → digits ≡ take (length octets) values → Read octets values i → IsAscii octets × AreDigits digits × (few_digits (digits_of_text octets) ≡ Ok digits)
-all_read octets values digits i few end new r =
-    let kept : take i values ≡ digits = ap (λ (n : ℕ). take n values) end ∙ sym new in
-    let small : AreTen digits = subst AreTen kept r.small in
-    let shows : octets ≡ shown digits = sym (take_all i octets (omega (arith, end))) ∙ r.shows ∙ ap shown kept in
-    let short : length digits ≤ 20 = omega (arith, ap length new, length-take (length octets) values, few) in
-    let within : leb (length digits) 20 ≡ true = le-leb (length digits) 20 short in (
-      subst IsAscii (sym shows) (are_ascii digits small),
-      record { few = short; each = below_15 digits small },
-      rw (shows, digits_are digits small, within) refl,
-    )
+-- up to 20 digits that were read are those of the text
+pub few_read : (text digits : List ℕ) → digits_of_text text ≡ Some digits → length digits ≤ 20 → few_digits (digits_of_text text) ≡ Ok digits
+few_read text digits is few = let within : leb (length digits) 20 ≡ true = le-leb (length digits) 20 few in rw (is, within) refl
 
 -- ---- said
 

@@ -1,40 +1,11 @@
 //! The telephone number that a text of C says.
 
-ghost use Rattle.std.specs.Prelude.{◌≡◌, ◌+◌, ◌<◌, Ok, IfSome};
+ghost use Rattle.std.specs.Prelude.{◌≡◌, ◌<◌, Ok, IfSome};
 ghost use Rattle.std.specs.Str.{chars, IsAscii, IsUtf8};
 ghost use Rattle.sms_field.specs.Address.DigitText.{digits_of_text};
-ghost use Rattle.sms_field.specs.Address.DigitValues.{AreDigits};
 ghost use Rattle.sms_field.specs.Address.Text.{address_of_text, few_digits, telephone_of};
 
-use sms_field::{Address, DIGITS_MAX, Digits, Symbols};
-
-/// The digit that an octet is the character of, where it is `0` to `9`.
-#[inline(always)]
-fn digit_of(octet: u8) -> Option<u8>
-    ensures { IfSome result (λ digit. (octet ≡ 48 + digit) × (digit < 10)) }
-{
-    if octet >= 48 && octet < 58 {
-        Some(octet - 48)
-    } else {
-        None
-    }
-}
-
-/// The digits of up to 20 octets, where each is the character `0` to `9`.
-#[inline(always)]
-fn digits_of(octets: &[u8]) -> Option<Digits>
-    ensures { IfSome result (λ digits. IsAscii octets.now × AreDigits digits
-        × (few_digits (digits_of_text octets.now) ≡ Ok digits)) }
-{
-    if octets.len() > DIGITS_MAX {
-        return None;
-    }
-    let mut values = [0; DIGITS_MAX];
-    for place in 0..octets.len() {
-        values[place] = digit_of(octets[place])?;
-    }
-    Some(Digits::new(&values[..octets.len()]))
-}
+use sms_field::{Address, Symbols, plain_digits};
 
 /// A telephone number of this type, whose digits are said so.
 #[inline(always)]
@@ -43,7 +14,7 @@ fn telephone_with(type_of_number: u8, octets: &[u8]) -> Option<Address>
     ensures { IfSome result (λ address. IsAscii octets.now
         × (telephone_of type_of_number (few_digits (digits_of_text octets.now)) ≡ Ok address)) }
 {
-    let digits = digits_of(octets)?;
+    let digits = plain_digits(octets)?;
     Some(Address {
         type_of_number,
         plan: 1,

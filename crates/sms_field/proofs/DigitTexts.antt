@@ -138,8 +138,11 @@ small_digits [] digits e = tt
 small_digits (c ∷ text) digits e =
     of_both (digit_of_character c) (digits_of_text text) digits (λ digit is. small_digit c digit is) (λ others is. small_digits text others is) e
 
+pub digits_are_ascii : (text digits : List ℕ) → digits_of_text text ≡ Some digits → IsAscii text
+digits_are_ascii text digits is = IsAscii-from_all text (All-from_recursion (λ b. b < 128) text (small_digits text digits is))
+
 pub plain_text : (bs digits : List ℕ) → digits_of_text bs ≡ Some digits → length digits ≤ 20 → Ok digits ≡ few_digits (digits_of_text (chars bs))
 plain_text bs digits is few =
-    let same : chars bs ≡ bs = chars-IsAscii bs (IsAscii-from_all bs (All-from_recursion (λ b. b < 128) bs (small_digits bs digits is))) in
+    let same : chars bs ≡ bs = chars-IsAscii bs (digits_are_ascii bs digits is) in
     let t : leb (length digits) 20 ≡ true = le-leb (length digits) 20 few in
     rw (same, is, t) refl

@@ -5,6 +5,7 @@ pub mod DigitValues
 pub mod Faults
 pub mod NameOctets
 pub mod NamePacking
+pub mod Padded
 pub mod Same
 pub mod Seen
 pub mod Text

@@ -1,11 +1,12 @@
 //! The digits of an address: in octets, two an octet, and in texts.
 
-ghost use Rattle.std.specs.Prelude.{◌≡◌, ℕ, ◌+◌, ◌*◌, ◌/◌, ◌<◌, ◌≤◌, List, ◌∷◌, ◌++◌, length, take, Some, None, IfOk, IfSome, MatchOption, OnOk, OnErr, All, vec_len, vec_capacity, position, ◌==◌};
+ghost use Rattle.std.specs.Prelude.{◌≡◌, ℕ, ◌+◌, ◌*◌, ◌/◌, ◌<◌, ◌≤◌, List, ◌∷◌, ◌++◌, length, take, Some, None, IfOk, IfSome, IsSome, MatchOption, OnOk, OnErr, All, vec_len, vec_capacity, position, ◌==◌};
 ghost use Rattle.std.specs.List.{AllByRecursion};
-ghost use Rattle.std.specs.Str.{chars};
+ghost use Rattle.std.specs.Str.{chars, IsAscii};
 ghost use Rattle.std.specs.String.{string_bytes};
 ghost use Rattle.sms_field.specs.Address.DigitValues.{AreDigits};
-ghost use Rattle.sms_field.specs.Address.DigitText.{digit_characters, digit_of_character, character_of_digit, digits_of_text, text_of_digits};
+ghost use Rattle.sms_field.specs.Address.Padded.{padded};
+ghost use Rattle.sms_field.specs.Address.DigitText.{IsPlain, digit_characters, digit_of_character, character_of_digit, digits_of_text, text_of_digits};
 ghost use Rattle.sms_field.specs.Address.Text.{few_digits};
 ghost use Rattle.sms_field.specs.Address.DigitOctets.{low_digit, both_digits, digit_octets};
 ghost use Rattle.std.specs.Prelude.{nat_eq};
@@ -28,21 +29,24 @@ pub const DIGITS_MAX: usize = 20;
 /// of keys, which are kept by the thousand.
 #[derive(Drop)]
 pub struct Digits {
+    /// They lie at the front. Behind them is 0.
     values: [u8; DIGITS_MAX],
     /// How many of them there are.
     count: u8,
 }
 
 impl Model for Digits {
-    ghost use Rattle.std.specs.Prelude.{◌≤◌, ℕ, List, take};
+    ghost use Rattle.std.specs.Prelude.{◌≡◌, ◌≤◌, ℕ, List, take};
 
     ghost Value = { List ℕ };
 
     ghost use Rattle.sms_field.specs.Address.DigitValues.{AreDigits};
+    ghost use Rattle.sms_field.specs.Address.Padded.{padded};
 
     ghost view = { λ d. take d.count d.values };
 
-    ghost invariant = { λ d. (d.count ≤ 20) × AreDigits (take d.count d.values) };
+    ghost invariant = { λ d. (d.count ≤ 20) × AreDigits (take d.count d.values)
+        × (d.values ≡ padded 20 (take d.count d.values)) };
 }
 
 impl Debug for Digits {
@@ -59,7 +63,7 @@ impl PartialEq for Digits {
     ghost laws = { Prim.search (comparing, rules) };
 
     fn eq(&self, other: &Digits) -> bool {
-        self.as_slice() == other.as_slice()
+        self.count == other.count && self.values == other.values
     }
 }
 
@@ -91,11 +95,12 @@ impl Digits {
         }
     }
 
-    /// The first values, as many as are counted.
+    /// The digits at the front of this room, as many as are counted. Behind them it holds 0.
     #[inline(always)]
-    pub(crate) fn lying(values: [u8; DIGITS_MAX], count: u8) -> Digits
+    pub fn in_room(values: [u8; DIGITS_MAX], count: u8) -> Digits
         requires few { count ≤ 20 }
         requires digits { AreDigits (take count values) }
+        requires rest { values ≡ padded 20 (take count values) }
         ensures { result ≡ take count values }
     {
         Digits { values, count }
@@ -116,6 +121,15 @@ impl Digits {
         ensures each { All (λ digit. digit < 15) result.now }
     {
         &self.values[..usize::from(self.count)]
+    }
+
+    /// The room that the digits lie in: they are at its front, and behind them it holds 0.
+    #[inline(always)]
+    pub fn as_room(&self) -> &[u8; DIGITS_MAX]
+        ensures value { result.now ≡ padded 20 self.now }
+        ensures few { length self.now ≤ DIGITS_MAX }
+    {
+        &self.values
     }
 
     /// The same digits.
@@ -229,6 +243,7 @@ fn character_of(digit: u8) -> char
 fn plain_digit(octet: u8) -> Option<u8>
     ensures is { IfSome result (λ digit. digit_of_character octet ≡ Some digit) }
     ensures bound { IfSome result (λ digit. digit < 15) }
+    ensures only { IsPlain octet → IsSome result }
 {
     if octet < 48 || octet > 57 {
         return None;
@@ -236,10 +251,15 @@ fn plain_digit(octet: u8) -> Option<u8>
     Some(octet - 48)
 }
 
-/// The digits of up to 20 octets, where each is the character `0` to `9`.
-fn plain_digits(octets: &[u8]) -> Option<Digits>
+/// The digits of up to 20 octets, where each is the character `0` to `9`; none of others. It takes
+/// no memory.
+#[inline(always)]
+pub fn plain_digits(octets: &[u8]) -> Option<Digits>
     ensures digits { IfSome result (λ digits. digits_of_text octets.now ≡ Some digits) }
     ensures few { IfSome result (λ digits. length digits ≤ DIGITS_MAX) }
+    ensures are { IfSome result (λ digits. AreDigits digits) }
+    ensures ascii { IfSome result (λ digits. IsAscii octets.now) }
+    ensures only { length octets.now ≤ DIGITS_MAX → All IsPlain octets.now → IsSome result }
 {
     if octets.len() > DIGITS_MAX {
         return None;
@@ -248,7 +268,7 @@ fn plain_digits(octets: &[u8]) -> Option<Digits>
     for place in 0..octets.len() {
         values[place] = plain_digit(octets[place])?;
     }
-    Some(Digits::lying(values, octets.len() as u8))
+    Some(Digits::in_room(values, octets.len() as u8))
 }
 
 /// The digits of a text, up to 20, one character after the other.

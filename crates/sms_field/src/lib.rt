@@ -31,7 +31,7 @@ pub use bit::{bit_weight, has_bit};
 pub use chain::{Chain, law_of_chains};
 pub use coding::{Alphabet, alphabet_of};
 pub use cursor::Cursor;
-pub use digits::{DIGITS_MAX, Digits};
+pub use digits::{DIGITS_MAX, Digits, plain_digits};
 pub use fault::{AddressFault, FieldFault, TextFault};
 pub use moment::END_OF_2099;
 pub use name::Name;

@@ -3,6 +3,7 @@
 ghost use Rattle.std.specs.Prelude.{◌≡◌, ℕ, ◌≤◌, ◌∷◌, ◌++◌, length, IfOk, OnOk, OnErr};
 ghost use Rattle.sms_text.specs.Bits.{AreSeptets};
 ghost use Rattle.sms_field.specs.Address.NameOctets.{IsName, name_octets};
+ghost use Rattle.sms_field.specs.Address.Padded.{padded};
 ghost use Rattle.std.specs.Prelude.{nat_eq};
 ghost use Rattle.std.specs.Cmp.Lexicographic.{pointwise};
 ghost use Rattle.std.specs.Cmp.Rules.{comparing, hashing};
@@ -22,21 +23,24 @@ pub const NAME_MAX: usize = 11;
 /// A name: up to 11 septets of the 7-bit default alphabet. They lie in the value itself.
 #[derive(Drop)]
 pub struct Name {
+    /// They lie at the front. Behind them is 0.
     septets: [u8; NAME_MAX],
     /// How many of them there are.
     count: u8,
 }
 
 impl Model for Name {
-    ghost use Rattle.std.specs.Prelude.{◌≤◌, ℕ, List, take};
+    ghost use Rattle.std.specs.Prelude.{◌≡◌, ◌≤◌, ℕ, List, take};
 
     ghost Value = { List ℕ };
 
     ghost use Rattle.sms_field.specs.Address.NameOctets.{IsName};
+    ghost use Rattle.sms_field.specs.Address.Padded.{padded};
 
     ghost view = { λ n. take n.count n.septets };
 
-    ghost invariant = { λ n. (n.count ≤ 11) × IsName (take n.count n.septets) };
+    ghost invariant = { λ n. (n.count ≤ 11) × IsName (take n.count n.septets)
+        × (n.septets ≡ padded 11 (take n.count n.septets)) };
 }
 
 impl Debug for Name {
@@ -53,7 +57,7 @@ impl PartialEq for Name {
     ghost laws = { Prim.search (comparing, rules) };
 
     fn eq(&self, other: &Name) -> bool {
-        self.as_slice() == other.as_slice()
+        self.count == other.count && self.septets == other.septets
     }
 }
 
@@ -100,6 +104,15 @@ impl Name {
         ensures each { AreSeptets result.now }
     {
         &self.septets[..usize::from(self.count)]
+    }
+
+    /// The room that the septets lie in: they are at its front, and behind them it holds 0.
+    #[inline(always)]
+    pub fn as_room(&self) -> &[u8; NAME_MAX]
+        ensures value { result.now ≡ padded 11 self.now }
+        ensures few { length self.now ≤ NAME_MAX }
+    {
+        &self.septets
     }
 
     /// The same name.

@@ -53,7 +53,11 @@ impl<'a> DigitsView<'a> {
             values[2 * place] = octet % 16;
             values[2 * place + 1] = octet / 16;
         }
-        Digits::lying(values, self.count)
+        // the half of an octet that is left over is no digit
+        if self.count % 2 == 1 {
+            values[usize::from(self.count)] = 0;
+        }
+        Digits::in_room(values, self.count)
     }
 
     /// How many digits there are.

@@ -1,9 +1,13 @@
 -- Digits as they are shown (3GPP TS 23.040, 9.1.2.3).
-use Rattle.std.specs.Prelude.{ℕ, List, [], ◌∷◌, Option, Some, None, slice_index, map, position, ◌==◌}
+use Rattle.std.specs.Prelude.{ℕ, ◌<◌, ◌≤◌, List, [], ◌∷◌, Option, Some, None, slice_index, map, position, ◌==◌}
 
 -- the characters of the digits 0 to 14: 0 to 9, *, #, a, b, c
 abbrev pub digit_characters : List ℕ
 digit_characters = 48 ∷ 49 ∷ 50 ∷ 51 ∷ 52 ∷ 53 ∷ 54 ∷ 55 ∷ 56 ∷ 57 ∷ 42 ∷ 35 ∷ 97 ∷ 98 ∷ 99 ∷ []
+
+-- one of the characters 0 to 9
+abbrev pub IsPlain : ℕ → Type 0
+IsPlain c = (48 ≤ c) × (c < 58)
 
 unfoldable pub character_of_digit : ℕ → ℕ
 character_of_digit digit = slice_index digit_characters digit
