@@ -133,16 +133,23 @@ set_is_closed told own rest all more k line apart e =
     let some : is_among (set_keys (map saved_set told)) (key own.key) ≡ true = ap (λ q. is_among (set_keys (map saved_set told)) (key q)) (sym e) ∙ has_among told k h in
     absurd cc)
 
-pub set_is_fresh : (told : List SetValue) (own : SavedSet) (rest all : List SavedSet) (ks : List Key) (ms : List ℕ) (k : Key)
-    → map (λ (t : SetValue). unnumbered (saved_set t)) told ++ map unnumbered (own ∷ rest) ≡ map unnumbered all
-    → length ms ≡ length ks
+pub set_is_fresh : (all before : List SavedSet) (own : SavedSet) (after : List SavedSet) (ks : List Key) (ms : List ℕ) (k : Key)
+    → all ≡ before ++ own ∷ after → length ms ≡ length ks
     → AreApart [] (set_keys all ++ remembered_keys (saved_finishings ks ms))
-    → saved_key k ≡ own.key → is_remembered ks k ≡ false
-set_is_fresh told own rest all ks ms k line l apart e =
+    → saved_key k ≡ own.key → is_remembered ks k ≡ true → ⊥
+set_is_fresh all before own after ks ms k parts l apart e h =
     let M : List (List ℕ) = remembered_keys (saved_finishings ks ms) in
-    false_from_ne_true _ (λ h.
-    apart_after [] (set_keys (map saved_set told)) (key own.key) (set_keys rest ++ M) (line_apart told own rest all M line apart)
-    (among_right (set_keys rest) M (key own.key) (ap (λ q. is_among M (key q)) (sym e) ∙ finished_among ks ms k l h)))
+    let line : set_keys all ++ M ≡ set_keys before ++ key own.key ∷ (set_keys after ++ M) =
+    ap (λ (ss : List SavedSet). set_keys ss ++ M) parts
+    ∙ ap (λ (l : List (List ℕ)). l ++ M) (map-append (λ (s : SavedSet). key s.key) before (own ∷ after))
+    ∙ append_assoc (set_keys before) (key own.key ∷ set_keys after) M in
+    apart_after [] (set_keys before) (key own.key) (set_keys after ++ M) (subst (AreApart []) line apart)
+    (among_right (set_keys after) M (key own.key) (ap (λ q. is_among M (key q)) (sym e) ∙ finished_among ks ms k l h))
+
+-- the first of two lists stand apart where both do
+pub apart_front : (before xs ys : List (List ℕ)) → AreApart before (xs ++ ys) → AreApart before xs
+apart_front before [] ys both = tt
+apart_front before (x ∷ xs) ys both = (both.0, apart_front (before ++ x ∷ []) xs ys both.1)
 
 pub key_is_fresh : (sets : List SavedSet) (keys front : List SavedFinishing) (own : SavedFinishing) (rest : List SavedFinishing) (ks : List Key) (ms : List ℕ) (k : Key)
     → keys ≡ front ++ own ∷ rest → saved_finishings ks ms ≡ front → length ms ≡ length ks

@@ -1,35 +1,33 @@
 -- A state that is held as it is read.
-use Rattle.std.proofs.Common.{◌≡◌, ℕ, ◌+◌, ◌<◌, ◌≤◌, Bool, true, false, ◌||◌, List, [], ◌∷◌, ◌++◌, map, length, take, drop, get_or, refl, sym, ap, subst, ◌∙◌, append_assoc, arith, length-append}
-use Rattle.std.proofs.lemmas.List.{append-nil, length-map}
+use Rattle.std.proofs.Common.{◌≡◌, ℕ, ◌+◌, ◌<◌, ◌≤◌, Bool, true, false, ◌||◌, List, [], ◌∷◌, ◌++◌, length, take, drop, refl, sym, ap, subst, ◌∙◌, append_assoc, arith, length-append}
+use Rattle.std.proofs.lemmas.List.{append-nil}
 use Rattle.std.proofs.lemmas.Grind.{flat_map-append}
 use Rattle.std.proofs.lemmas.List.Concat.{flat_map-cons}
 use Rattle.std.specs.List.{AllByRecursion, flat_map}
 use Rattle.std.specs.Str.{bytes_eq}
 use Rattle.sms_join.specs.declared.key.Key.{Key}
 use Rattle.sms_join.specs.Joiner.{is_among as is_remembered}
-use Rattle.sms_join.specs.OpenSets.{SetValue, AreOpen, all_pieces, has_set}
+use Rattle.sms_join.specs.OpenSets.{SetValue, AreOpen, has_set}
 use Rattle.sms_join.specs.Gateway.Distinct.{AreDistinct}
 use Rattle.sms_join.specs.Gateway.Finishings.{not_before, Fall}
 use Rattle.sms_join.specs.Gateway.Value.{GatewayValue}
-use Rattle.sms_saved.specs.declared.state.Key.{Key as SavedKey}
 use Rattle.sms_saved.specs.declared.state.Limits.{Limits}
-use Rattle.sms_saved.specs.declared.state.OpenSet.{OpenSet}
 use Rattle.sms_saved.specs.declared.state.Remembered.{Remembered as SavedFinishing}
-use Rattle.sms_saved.specs.Fits.{is_among, AreApart, KeyFits, SetFits, RememberedFits, StateFits, set_keys, remembered_keys}
+use Rattle.sms_saved.specs.Fits.{is_among, KeyFits, SetFits, RememberedFits, StateFits, set_keys, remembered_keys}
 use Rattle.sms_saved.specs.Parts.{FrontValue, IsFront, HasKeys, AreRead, state_of, unsealed, is_sealed}
 use Rattle.sms_saved.specs.Spelling.{key, remembered, digest, spelling}
-use Rattle.sms_saved.specs.Value.{SetValue as SavedSet, StateValue, view_set, view_sets}
+use Rattle.sms_saved.specs.Value.{SetValue as SavedSet, StateValue}
 use Rattle.sms_keep.specs.declared.restoring.Restored.{Restored}
-use Rattle.sms_keep.specs.Saved.{saved_key, saved_limits, saved_set, saved_finishings}
-use Rattle.sms_keep.specs.Held.{KeyIsSpelled, HasAddresses, SetsHaveAddresses, KeysHaveAddresses, AreInTime, CanHold, unnumbered}
+use Rattle.sms_keep.specs.Saved.{saved_key, saved_limits, saved_finishings}
+use Rattle.sms_keep.specs.Held.{KeyIsSpelled, HasAddresses, SetsHaveAddresses, KeysHaveAddresses, AreInTime, CanHold}
 use Rattle.sms_keep.specs.Restored.{last_moment}
-use Rattle.sms_keep.specs.Inside.AtOnce.{IsNext, AreTaken, IsNewKey, SetsAreNew, IsReadAs}
-use Rattle.sms_keep.specs.Inside.Restoring.{Remembers, IsSavedAs}
+use Rattle.sms_keep.specs.Inside.AtOnce.{IsNext, AreTaken, IsReadAs}
+use Rattle.sms_keep.specs.Inside.Restoring.{Remembers}
 use Rattle.sms_keep.specs.Inside.Saving.{KeyIsSound}
+use Rattle.sms_keep.specs.Inside.SetsBack.{SetsAreNew, ArePut}
 use Rattle.sms_keep.proofs.SameKeys.{bytes_true}
 use Rattle.sms_keep.proofs.Distinct.{HaveOwnOctets, Distinct, AreDisjoint, apart_from, among_finished, finished_distinct}
 use Rattle.sms_keep.proofs.KeysBack.{all_more, last_more, in_time_more, one_more_key, saved_has}
-use Rattle.sms_keep.proofs.Lengths.{list_more, map_at}
 
 -- ---- the loop over the keys
 
@@ -118,16 +116,6 @@ all_going old g octets count i rest last was e =
 
 -- ---- sets whose keys are new
 
-pub key_new : (g : GatewayValue) (k : SavedKey) (own : Key) → IsSavedAs k own → is_remembered g.holds.finished own ≡ false → IsNewKey g k
-key_new g k own saved fresh = record { own = own; saved = saved; fresh = fresh }
-
-pub one_new : (g : GatewayValue) (xs : List OpenSet) (i : ℕ) (x : OpenSet) → i < length xs → x ≡ get_or xs i x → SetsAreNew g (take i (view_sets xs)) → IsNewKey g x.key
-    → SetsAreNew g (take (i + 1) (view_sets xs))
-one_new g xs i x l is was new =
-    let many = length-map xs view_set in
-    subst (SetsAreNew g) (sym (list_more (view_sets xs) i (view_set x) (omega (arith, l, many)) (map_at view_set xs i x l is)))
-    (all_more (λ (s : SavedSet). IsNewKey g s.key) (take i (view_sets xs)) (view_set x) was new)
-
 pub sets_have : (g : GatewayValue) (ss : List SavedSet) → SetsAreNew g ss → SetsHaveAddresses ss
 sets_have g [] h = tt
 sets_have g (s ∷ ss) h = (saved_has s.key h.0.own h.0.saved, sets_have g ss h.1)
@@ -206,21 +194,12 @@ filled law make own octets rest f g front sealed taken last new distinct =
       remembers = taken.remembers;
     }
 
--- what is asked where the sets are put back
-pub filled_apart : (own : Limits) (octets : List ℕ) (f : FrontValue) (g : GatewayValue) → IsFilled own octets f g
-    → AreApart [] (set_keys f.sets ++ remembered_keys (saved_finishings g.holds.finished g.finishings))
-filled_apart own octets f g h =
-    subst (λ (qs : List SavedFinishing). AreApart [] (set_keys f.sets ++ remembered_keys qs)) (sym h.remembers.keys) h.read.fits.apart
-
--- and what is known once they are
+-- what is known once the sets are put back
 pub filled_held : (own : Limits) (octets : List ℕ) (f : FrontValue) (g h : GatewayValue) → IsFilled own octets f g
-    → saved_limits h.limits ≡ own
-    → map (λ t. unnumbered (saved_set t)) h.told ≡ map unnumbered f.sets
-    → AllByRecursion (λ t. KeyIsSpelled t.key) h.told → h.holds.kept ≡ all_pieces h.told
-    → h.holds.finished ≡ g.holds.finished → h.finishings ≡ g.finishings
+    → saved_limits h.limits ≡ own → ArePut g h f.sets
     → AreOpen h.told → Fall h.finishings → (r : Restored) → r ≡ record { gateway = h; taken = f.taken }
     → IsReadAs own octets r
-filled_held own octets f g h is limits sets spelled kept finished finishings are_open fall r made =
+filled_held own octets f g h is limits put are_open fall r made =
     subst (IsReadAs own octets) (sym made)
     (record {
       state = state_of own f is.keys;
@@ -230,18 +209,18 @@ filled_held own octets f g h is limits sets spelled kept finished finishings are
         refl,
         record {
           limits = limits;
-          sets = sets;
+          sets = put.sets;
           keys =
-              ap (λ (ks : List Key). saved_finishings ks h.finishings) finished
-              ∙ ap (λ (ms : List ℕ). saved_finishings g.holds.finished ms) finishings
+              ap (λ (ks : List Key). saved_finishings ks h.finishings) put.finished
+              ∙ ap (λ (ms : List ℕ). saved_finishings g.holds.finished ms) put.finishings
               ∙ is.remembers.keys;
           is_joiner =
               record {
-                sets = spelled;
-                keys = subst (λ (ks : List Key). AllByRecursion KeyIsSpelled ks) (sym finished) is.remembers.spelled;
+                sets = put.spelled;
+                keys = subst (λ (ks : List Key). AllByRecursion KeyIsSpelled ks) (sym put.finished) is.remembers.spelled;
                 are_open = are_open;
-                pieces = kept;
-                moments = ap length finishings ∙ is.remembers.moments ∙ sym (ap length finished);
+                pieces = put.kept;
+                moments = ap length put.finishings ∙ is.remembers.moments ∙ sym (ap length put.finished);
                 fall = fall;
               };
         },

@@ -1,19 +1,18 @@
 //! A state that is held as it is read: each remembered key is looked up once, where it is put.
 
-ghost use Rattle.std.specs.Prelude.{◌≡◌, ◌≤◌, [], true, drop, IfOk, IfSome};
+ghost use Rattle.std.specs.Prelude.{◌≡◌, ◌≤◌, [], drop, IfOk, IfSome};
 ghost use Rattle.std.specs.Str.{bytes_eq};
 ghost use Rattle.sms_saved.specs.Parts.{unsealed};
-ghost use Rattle.sms_saved.specs.Value.{view_sets};
 ghost use Rattle.sms_keep.specs.Saved.{saved_limits};
-ghost use Rattle.sms_keep.specs.Inside.AtOnce.{AreTaken, IsReadAs, SetsAreNew};
+ghost use Rattle.sms_keep.specs.Inside.AtOnce.{AreTaken, IsReadAs};
 ghost use Rattle.sms_keep.specs.Inside.Restoring.{Remembers};
 
-use crate::keys::{key_from, key_in};
+use crate::keys::key_in;
 use crate::restoring::{Restored, new_gateway};
 use crate::sets_back::put_sets_back;
 use sms_join::{Gateway, GatewayLimits};
 use sms_saved::laws::{keys_have_own_octets, parts_make_a_state};
-use sms_saved::{Limits, OpenSet, is_sealed, read_front, read_remembered};
+use sms_saved::{Limits, is_sealed, read_front, read_remembered};
 use std::alloc::{AllocError, Global};
 
 /// How many octets a remembered key takes at least (docs/SAVED.md).
@@ -52,21 +51,6 @@ fn take_keys<'a>(
     Ok(Some(rest))
 }
 
-/// Whether these sets have keys that a joiner can hold, none of which it remembers.
-fn are_new(alloc: Global, gateway: &Gateway, sets: &[OpenSet]) -> Result<bool, AllocError>
-    ensures { IfOk result (λ are. are ≡ true → SetsAreNew gateway.now (view_sets sets.now)) }
-{
-    for before in 0..sets.len() {
-        let Some(key) = key_from(alloc, &sets[before].key)? else {
-            return Ok(false);
-        };
-        if gateway.remembers(&key) {
-            return Ok(false);
-        }
-    }
-    Ok(true)
-}
-
 /// Whether these are the last 32 octets.
 fn are_last(octets: &[u8], rest: &[u8]) -> bool
     ensures { result ≡ bytes_eq rest.now (drop (unsealed octets.now) octets.now) }
@@ -99,12 +83,11 @@ pub(crate) fn read_at_once(
     if !are_last(octets, rest) || !is_sealed(octets) {
         return Ok(None);
     }
-    if !are_new(alloc, &gateway, &front.sets)? {
-        return Ok(None);
-    }
     let _remembered = gateway.remembered_count();
     let taken = front.taken;
-    put_sets_back(alloc, &mut gateway, front.sets)?;
+    if !put_sets_back(alloc, &mut gateway, front.sets)? {
+        return Ok(None);
+    }
     let _open = gateway.open_sets();
     let _count = gateway.remembered_count();
     Ok(Some(Restored { gateway, taken }))

@@ -92,7 +92,9 @@ fn hold(
     check_sets(alloc, &state)?;
     let mut gateway = new_gateway(alloc, seed, limits)?;
     remember_keys(alloc, &mut gateway, &state)?;
-    put_sets_back(alloc, &mut gateway, state.sets)?;
+    if !put_sets_back(alloc, &mut gateway, state.sets)? {
+        unreachable!()
+    }
     let _open = gateway.open_sets();
     let _count = gateway.remembered_count();
     Ok(gateway)
@@ -100,7 +102,8 @@ fn hold(
 
 /// The joiner with these limits that holds what the octets spell, all of them, and how many lines
 /// of its input were taken before (docs/SAVED.md). Its tables hash with the seed, if there is one;
-/// it does not show. Room is asked for only as entries come, whatever the counts say.
+/// it does not show. Room is asked for no more entries than the octets can hold, whatever the counts
+/// say.
 pub fn read(
     alloc: Global,
     seed: Option<u128>,

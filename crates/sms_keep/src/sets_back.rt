@@ -1,14 +1,13 @@
 //! Open sets, put back as they were saved.
 
-ghost use Rattle.std.specs.Prelude.{◌≡◌, ◌<◌, ◌≤◌, ◌∷◌, ◌++◌, [], false, length, map, option_map, OnOk, IfOk, IfSome};
+ghost use Rattle.std.specs.Prelude.{◌≡◌, ◌<◌, ◌≤◌, [], false, length, map, option_map, IfOk, IfSome, MatchBool};
 ghost use Rattle.std.specs.List.{AllByRecursion};
 ghost use Rattle.sms_join.specs.declared.key.Key.{Key as TheKey};
-ghost use Rattle.sms_join.specs.Joiner.{is_among};
-ghost use Rattle.sms_join.specs.OpenSets.{SetValue, all_pieces, has_set};
-ghost use Rattle.sms_saved.specs.Fits.{AreApart, SetFits, UnitsFit, remembered_keys, set_keys};
+ghost use Rattle.sms_join.specs.OpenSets.{has_set};
+ghost use Rattle.sms_saved.specs.Fits.{AreApart, SetFits, UnitsFit, set_keys};
 ghost use Rattle.sms_saved.specs.Value.{view_place, view_places, view_set, view_sets, view_units};
-ghost use Rattle.sms_keep.specs.Saved.{saved_finishings, saved_key, saved_set, saved_units};
-ghost use Rattle.sms_keep.specs.Held.{HasAddresses, KeyIsSpelled, SetsHaveAddresses, unnumbered};
+ghost use Rattle.sms_keep.specs.Saved.{saved_key, saved_units};
+ghost use Rattle.sms_keep.specs.Inside.SetsBack.{ArePut, IsHindered, IsPut, OneIsHindered};
 
 use crate::keys::key_from;
 use sms_join::{Gateway, Ucs2Units, Units};
@@ -54,53 +53,46 @@ fn places_from(
     Ok(back)
 }
 
-/// Puts a set back.
-fn put_set_back(alloc: Global, gateway: &mut Gateway, own: OpenSet) -> Result<(), AllocError>
+/// Puts a set back, where its key is one that a joiner can hold and is not remembered: whether it
+/// was put.
+fn put_set_back(alloc: Global, gateway: &mut Gateway, own: OpenSet) -> Result<bool, AllocError>
     requires fits { SetFits (view_set own) }
-    requires addresses { HasAddresses own.key }
     requires few { length gateway.old.told < gateway.old.limits.open_max }
     requires closed { (k : TheKey) → saved_key k ≡ own.key → has_set gateway.old.told k ≡ false }
-    requires fresh { (k : TheKey) → saved_key k ≡ own.key
-        → is_among gateway.old.holds.finished k ≡ false }
-    ensures told { OnOk result ((t : SetValue)
-        × (gateway.new.told ≡ gateway.old.told ++ t ∷ [])
-        × (unnumbered (saved_set t) ≡ unnumbered (view_set own)) × KeyIsSpelled t.key) }
-    ensures kept { OnOk result (gateway.new.holds.kept ≡ all_pieces gateway.new.told) }
-    ensures finished { gateway.new.holds.finished ≡ gateway.old.holds.finished }
-    ensures finishings { gateway.new.finishings ≡ gateway.old.finishings }
-    ensures limits { gateway.new.limits ≡ gateway.old.limits }
+    ensures { IfOk result (λ is_put. MatchBool is_put
+        (IsPut gateway.old gateway.new (view_set own)) (IsHindered gateway.old own.key)) }
 {
     let Some(key) = key_from(alloc, &own.key)? else {
-        unreachable!()
+        return Ok(false);
     };
+    if gateway.remembers(&key) {
+        return Ok(false);
+    }
     let moment = own.moment;
     let back = places_from(alloc, own.places)?;
-    gateway.put_back(key, moment, back)
+    gateway.put_back(key, moment, back)?;
+    Ok(true)
 }
 
-/// Puts sets back, into a joiner that has none.
+/// Puts sets back, into a joiner that has none, up to the first whose key is none that a joiner can
+/// hold, or is remembered: whether all were put.
 pub(crate) fn put_sets_back(
     alloc: Global,
     gateway: &mut Gateway,
     sets: Vec<OpenSet>,
-) -> Result<(), AllocError>
+) -> Result<bool, AllocError>
     requires none { (gateway.old.told ≡ []) × (gateway.old.holds.kept ≡ []) }
-    requires moments { length gateway.old.finishings ≡ length gateway.old.holds.finished }
     requires fits { AllByRecursion SetFits (view_sets sets.items) }
-    requires addresses { SetsHaveAddresses (view_sets sets.items) }
     requires few { length sets.items ≤ gateway.old.limits.open_max }
-    requires apart { AreApart [] (set_keys (view_sets sets.items) ++ remembered_keys
-        (saved_finishings gateway.old.holds.finished gateway.old.finishings)) }
-    ensures sets { OnOk result (map (λ t. unnumbered (saved_set t)) gateway.new.told
-        ≡ map unnumbered (view_sets sets.items)) }
-    ensures spelled { OnOk result (AllByRecursion (λ t. KeyIsSpelled t.key) gateway.new.told) }
-    ensures kept { OnOk result (gateway.new.holds.kept ≡ all_pieces gateway.new.told) }
-    ensures finished { gateway.new.holds.finished ≡ gateway.old.holds.finished }
-    ensures finishings { gateway.new.finishings ≡ gateway.old.finishings }
-    ensures limits { gateway.new.limits ≡ gateway.old.limits }
+    requires apart { AreApart [] (set_keys (view_sets sets.items)) }
+    ensures { IfOk result (λ are_put. MatchBool are_put
+        (ArePut gateway.old gateway.new (view_sets sets.items))
+        (OneIsHindered gateway.old (view_sets sets.items))) }
 {
     for own in sets {
-        put_set_back(alloc, gateway, own)?;
+        if !put_set_back(alloc, gateway, own)? {
+            return Ok(false);
+        }
     }
-    Ok(())
+    Ok(true)
 }

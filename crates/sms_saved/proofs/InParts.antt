@@ -1,9 +1,12 @@
 -- A state in parts.
-use Rattle.std.proofs.Common.{◌≡◌, ℕ, ◌-◌, ◌≤◌, ltb, List, [], ◌++◌, length, take, Option, Ok, refl, sym, ap, subst, ◌∙◌, append_assoc, arith}
+use Rattle.std.proofs.Common.{◌≡◌, ℕ, ◌-◌, ◌≤◌, false, ltb, List, [], ◌++◌, length, take, Option, Result, Ok, refl, sym, ap, subst, ◌∙◌, append_assoc, arith}
 use Rattle.std.specs.List.{flat_map}
 use Rattle.std.specs.Int.{w64}
-use Rattle.std.proofs.lemmas.Bool.{ltb-false}
+use Rattle.std.proofs.lemmas.Bool.{ltb-false, le-ltb}
+use Rattle.sms_saved.specs.declared.fault.Halt.{Halt}
 use Rattle.sms_saved.specs.declared.fault.StateFault.TheVariants.{TooMany}
+use Rattle.sms_saved.specs.declared.fault.Stop.{Stop}
+use Rattle.sms_saved.specs.declared.fault.Stop.TheVariants as stops_at
 use Rattle.sms_saved.specs.declared.state.Limits.{Limits}
 use Rattle.sms_saved.specs.declared.state.Remembered.{Remembered}
 use Rattle.sms_saved.specs.Value.{StateValue}
@@ -13,19 +16,19 @@ use Rattle.sms_saved.specs.Fits.{LimitsFit, SetFits, KeyFits, RememberedFits, St
 use Rattle.sms_saved.specs.Inside.Fronts.{front_at}
 use Rattle.sms_saved.specs.Parts.{FrontValue, IsFront, HasKeys, AreRead, state_of, unsealed}
 use Rattle.sms_saved.specs.Spelling.{eight, set, remembered, counted, limits, head, front, body, digest, spelling}
-use Rattle.sms_saved.specs.Reading.Fields.{number_at, optional_at}
+use Rattle.sms_saved.specs.Reading.Fields.{Fails, IsHalt, number_at, optional_at}
 use Rattle.sms_saved.specs.Reading.Keys.{address_at, message_at, key_at}
 use Rattle.sms_saved.specs.Reading.Sets.{set_at, remembered_at}
 use Rattle.sms_saved.specs.Reading.Lists.{few_judged_at, judge_set}
 use Rattle.sms_saved.specs.Reading.Whole.{limits_at, head_at, state_at}
 use Rattle.sms_saved.proofs.TakenFields.{IsBytes, bind_ok, guard_ok, Takes-then, ok_is}
 use Rattle.sms_saved.proofs.Numbers.{reads_eight}
-use Rattle.sms_saved.proofs.Keys.{reads_key}
+use Rattle.sms_saved.proofs.Keys.{reads_key, regroup3}
 use Rattle.sms_saved.proofs.Sets.{reads_set, reads_remembered}
 use Rattle.sms_saved.proofs.Judged.{reads_few}
-use Rattle.sms_saved.proofs.Passed.{sets_passed, apart_joined}
+use Rattle.sms_saved.proofs.Passed.{sets_passed, sets_pass, apart_joined}
 use Rattle.sms_saved.proofs.LimitsRead.{reads_limits}
-use Rattle.sms_saved.proofs.Whole.{head_takes, before_last, length_digest, state_again}
+use Rattle.sms_saved.proofs.Whole.{head_takes, head_again, before_last, length_digest, state_again}
 
 pub key_fits_read : (bytes origin r1 : List ℕ) (recipient : Option (List ℕ)) (r2 : List ℕ) (m : Message) (r3 : List ℕ) → IsBytes bytes
     → address_at bytes ≡ Ok (origin, r1) → optional_at address_at r1 ≡ Ok (recipient, r2) → message_at r2 ≡ Ok (m, r3)
@@ -37,6 +40,41 @@ key_fits_read bytes origin r1 recipient r2 m r3 fits e1 e2 e3 =
 
 pub remembered_taken : (bytes : List ℕ) (r : Remembered) (rest : List ℕ) → IsBytes bytes → remembered_at bytes ≡ Ok (r, rest) → (bytes ≡ remembered r ++ rest) × RememberedFits r
 remembered_taken bytes r rest fits e = let t = reads_remembered.takes bytes (r, rest) fits e in (t.0.parts, t.1)
+
+-- where a key that fits stands, it is read, and no other
+pub remembered_same : (bytes : List ℕ) (own r : Remembered) (left rest : List ℕ) → RememberedFits r → bytes ≡ remembered r ++ rest → remembered_at bytes ≡ Ok (own, left) → (own ≡ r) × (left ≡ rest)
+remembered_same bytes own r left rest fits parts read =
+    let p : Remembered × List ℕ = (own, left) in
+    let q : Remembered × List ℕ = (r, rest) in
+    let same : p ≡ q = ok_is p q (sym read ∙ ap remembered_at parts ∙ reads_remembered.again r rest fits) in
+    (ap (λ (z : Remembered × List ℕ). z.0) same, ap (λ (z : Remembered × List ℕ). z.1) same)
+
+-- what is read is no fault
+pub no_halt : {Y : Type 0} (e : Stop) (read : Result Y Halt) (y : Y) → IsHalt e → Fails e read → read ≡ Ok y → ⊥
+no_halt stops_at.Memory read y halts fails is = halts
+no_halt (stops_at.At h) read y halts fails is = cc
+
+pub remembered_there : (bytes : List ℕ) (e : Stop) (r : Remembered) (rest : List ℕ) → RememberedFits r → bytes ≡ remembered r ++ rest → IsHalt e → Fails e (remembered_at bytes) → ⊥
+remembered_there bytes e r rest fits parts halts fails =
+    let y : Remembered × List ℕ = (r, rest) in
+    no_halt e (remembered_at bytes) y halts fails (ap remembered_at parts ∙ reads_remembered.again r rest fits)
+
+pub front_again : (own : Limits) (bytes : List ℕ) (f : FrontValue) → IsFront own bytes f → front_at own bytes ≡ Ok f
+unfolding front_at
+front_again own bytes f is =
+    let r5 : List ℕ = eight f.count ++ f.rest in
+    let r4 : List ℕ = counted set f.sets ++ r5 in
+    let r3 : List ℕ = eight f.next ++ r4 in
+    let r2 : List ℕ = eight f.taken ++ r3 in
+    let r1 : List ℕ = limits own ++ r2 in
+    let sets = (reads_few own.sets is.limits.sets (judge_set f.next) set_at set SetFits reads_set).again f.sets r5 (is.sets_count, is.sets, sets_pass f.next [] f.sets is.rise is.apart) in
+    let count = reads_eight.again f.count f.rest (omega (arith, is.count, is.limits.keys)) in
+    let few : ltb own.keys f.count ≡ false = le-ltb _ _ is.count in
+    ap (front_at own) (is.octets ∙ (regroup3 (front own f.taken f.next) (counted set f.sets) (eight f.count) f.rest ∙ append_assoc (head ++ limits own ++ eight f.taken) (eight f.next) r4 ∙ regroup3 head (limits own) (eight f.taken) r3))
+    ∙ rw (head_again r1, (reads_limits own).again own r2 (is.limits, refl), reads_eight.again f.taken r3 is.taken, reads_eight.again f.next r4 is.next, sets, count, few) refl
+
+pub front_there : (own : Limits) (bytes : List ℕ) (e : Stop) (h : Halt) (f : FrontValue) → IsFront own bytes f → e ≡ stops_at.At h → Fails e (front_at own bytes) → ⊥
+front_there own bytes e h f is same fails = no_halt e (front_at own bytes) f (subst IsHalt (sym same) tt) fails (front_again own bytes f is)
 
 pub front_takes : (own : Limits) (bytes : List ℕ) (f : FrontValue) → IsBytes bytes → front_at own bytes ≡ Ok f → IsFront own bytes f
 unfolding front_at

@@ -1,8 +1,9 @@
 //! A state in parts, for whoever takes its remembered keys as they are read.
 
-ghost use Rattle.std.specs.Prelude.{◌≡◌, ◌++◌, IfOk, IfSome};
+ghost use Rattle.std.specs.Prelude.{◌≡◌, ◌++◌, ℕ, List, IfOk, IfSome, IsSomeAnd};
+ghost use Rattle.sms_saved.specs.declared.state.Remembered.{Remembered};
 ghost use Rattle.sms_saved.specs.Fits.{RememberedFits};
-ghost use Rattle.sms_saved.specs.Parts.{is_sealed, view_front, IsFront};
+ghost use Rattle.sms_saved.specs.Parts.{is_sealed, view_front, FrontValue, IsFront};
 ghost use Rattle.sms_saved.specs.Spelling.{remembered};
 ghost use Rattle.sms_saved.specs.Views.{seen_remembered};
 
@@ -37,8 +38,12 @@ pub fn read_front(
     limits: Limits,
     octets: &[u8],
 ) -> Result<Option<Front<'_>>, AllocError>
-    ensures { IfOk result (λ front. IfSome front
+    // What is read stands there.
+    ensures found { IfOk result (λ front. IfSome front
         (λ f. IsFront limits octets.now (view_front f))) }
+    // What stands there is read, unless memory runs out.
+    ensures only { (f : FrontValue) → IsFront limits octets.now f
+        → IfOk result (λ front. IsSomeAnd front (λ own. view_front own ≡ f)) }
 {
     match front_of(alloc, seed, limits, octets) {
         Ok(front) => Ok(Some(front)),
@@ -51,8 +56,13 @@ pub fn read_front(
 /// It takes no memory.
 #[inline(always)]
 pub fn read_remembered(octets: &[u8]) -> Option<(RememberedView<'_>, &[u8])>
-    ensures { IfSome result (λ x. (octets.now ≡ remembered (seen_remembered x.0) ++ x.1.now)
+    // What is read stands there.
+    ensures found { IfSome result (λ x. (octets.now ≡ remembered (seen_remembered x.0) ++ x.1.now)
         × RememberedFits (seen_remembered x.0)) }
+    // What stands there is read.
+    ensures only { (r : Remembered) (rest : List ℕ) → RememberedFits r
+        → octets.now ≡ remembered r ++ rest
+        → IsSomeAnd result (λ x. (seen_remembered x.0 ≡ r) × (x.1.now ≡ rest)) }
 {
     match remembered_view_of(octets) {
         Ok(read) => Some(read),

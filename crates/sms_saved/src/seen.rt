@@ -59,6 +59,13 @@ impl<'a> Seen<'a> {
         Ok(Seen { keys })
     }
 
+    /// Makes room for so many more.
+    pub(crate) fn expect(&mut self, count: usize) -> Result<(), AllocError>
+        ensures { self.new ≡ self.old }
+    {
+        self.keys.reserve(count)
+    }
+
     /// Notes a key, and says whether it is new.
     pub(crate) fn note(&mut self, key: &'a [u8]) -> Result<bool, AllocError>
         ensures is_new { IfOk result (λ is_new. is_new ≡ not (is_among self.old key.now)) }

@@ -84,8 +84,8 @@ fn greatest_fault(alloc: Global, place: usize) -> Result<Option<StateFault>, Fai
     Ok(fault_of(alloc, LIMITS, &made).map(|fault| fault.why))
 }
 
-/// Whatever a number says, room is asked for only as entries are there: of septets, of 16-bit
-/// units and of remembered keys.
+/// Whatever a number says, room is asked for no more entries than the octets can hold: of septets,
+/// of 16-bit units and of remembered keys.
 #[test]
 fn numbers_ask_for_no_room(rt: HostRuntime) -> Result<(), Fail> {
     for place in [104, 147, 160] {

@@ -1,22 +1,20 @@
 -- A reader may pass this by: contracts of private functions, and proofs, alone cite it.
 --
 -- What is known while a state is held as it is read.
-use Rattle.std.specs.Prelude.{◌≡◌, ℕ, ◌++◌, false, List, length}
+use Rattle.std.specs.Prelude.{◌≡◌, ℕ, ◌++◌, List, length}
 use Rattle.std.specs.List.{AllByRecursion, flat_map}
 use Rattle.sms_join.specs.declared.key.Key.{Key}
-use Rattle.sms_join.specs.Joiner.{is_among}
 use Rattle.sms_join.specs.Gateway.Value.{GatewayValue}
-use Rattle.sms_saved.specs.declared.state.Key.{Key as SavedKey}
 use Rattle.sms_saved.specs.declared.state.Limits.{Limits}
 use Rattle.sms_saved.specs.declared.state.Remembered.{Remembered as SavedFinishing}
 use Rattle.sms_saved.specs.Fits.{RememberedFits}
 use Rattle.sms_saved.specs.Parts.{AreRead}
 use Rattle.sms_saved.specs.Spelling.{remembered}
-use Rattle.sms_saved.specs.Value.{SetValue as SavedSet, StateValue}
+use Rattle.sms_saved.specs.Value.{StateValue}
 use Rattle.sms_keep.specs.declared.restoring.Restored.{Restored}
 use Rattle.sms_keep.specs.Held.{AreInTime, CanHold, KeysHaveAddresses}
 use Rattle.sms_keep.specs.Restored.{HoldsRestored}
-use Rattle.sms_keep.specs.Inside.Restoring.{CanFollow, IsSavedAs, Remembers}
+use Rattle.sms_keep.specs.Inside.Restoring.{CanFollow, Remembers}
 
 -- At the front of the octets stands this key, which can be remembered after one that finished at
 -- this moment.
@@ -36,15 +34,6 @@ pub record AreTaken (g : GatewayValue) (count : ℕ) (octets rest : List ℕ) : 
   pub remembers : Remembers g keys
   pub addresses : KeysHaveAddresses keys
   pub in_time : AreInTime 0 keys
-
--- The key is one that a joiner can hold, and is not remembered.
-pub record IsNewKey (g : GatewayValue) (k : SavedKey) : Type 0 where
-  pub own : Key
-  pub saved : IsSavedAs k own
-  pub fresh : is_among g.holds.finished own ≡ false
-
-abbrev pub SetsAreNew : GatewayValue → List SavedSet → Type 0
-SetsAreNew g sets = AllByRecursion (λ s. IsNewKey g s.key) sets
 
 -- The octets spell a state that the joiner holds.
 pub record IsReadAs (own : Limits) (octets : List ℕ) (r : Restored) : Type 0 where

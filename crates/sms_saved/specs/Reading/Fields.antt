@@ -21,6 +21,11 @@ abbrev pub Gives : {X Y : Type 0} → (X → Y) → Result X Stop → Result Y H
 Gives view (Ok x) read = read ≡ Ok (view x)
 Gives view (Err e) read = Fails e read
 
+-- Memory never runs out.
+abbrev pub IsHalt : Stop → Type 0
+IsHalt stops_at.Memory = ⊥
+IsHalt (stops_at.At h) = Unit {0}
+
 -- a value and the octets after it
 abbrev pub Read : Type 0 → Type 0
 Read A = Result (A × List ℕ) Halt

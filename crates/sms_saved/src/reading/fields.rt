@@ -1,14 +1,15 @@
 //! Fields of any kind.
 
-ghost use Rattle.std.specs.Prelude.{◌≡◌};
+ghost use Rattle.std.specs.Prelude.{◌≡◌, IfErr};
 ghost use Rattle.std.specs.Int.{w16, w64};
-ghost use Rattle.sms_saved.specs.Reading.Fields.{Gives, octet_at, number_at, octets_at, string_at, optional_at, flag_at};
+ghost use Rattle.sms_saved.specs.Reading.Fields.{Gives, IsHalt, octet_at, number_at, octets_at, string_at, optional_at, flag_at};
 
 use crate::fault::{StateFault, Stop, halted};
 
 /// An octet.
 pub(crate) fn octet_of(bytes: &[u8]) -> Result<(u8, &[u8]), Stop>
-    ensures { Gives (λ x. (x.0, x.1.now)) result (octet_at bytes.now) }
+    ensures read { Gives (λ x. (x.0, x.1.now)) result (octet_at bytes.now) }
+    ensures halts { IfErr result IsHalt }
 {
     match bytes {
         [] => Err(halted(bytes, StateFault::Short)),
@@ -18,7 +19,8 @@ pub(crate) fn octet_of(bytes: &[u8]) -> Result<(u8, &[u8]), Stop>
 
 /// A number in two octets.
 pub(crate) fn u16_of(bytes: &[u8]) -> Result<(u16, &[u8]), Stop>
-    ensures { Gives (λ x. (x.0, x.1.now)) result (number_at w16 bytes.now) }
+    ensures read { Gives (λ x. (x.0, x.1.now)) result (number_at w16 bytes.now) }
+    ensures halts { IfErr result IsHalt }
 {
     if bytes.len() < 2 {
         return Err(halted(bytes, StateFault::Short));
@@ -30,7 +32,8 @@ pub(crate) fn u16_of(bytes: &[u8]) -> Result<(u16, &[u8]), Stop>
 
 /// A number in eight octets.
 pub(crate) fn u64_of(bytes: &[u8]) -> Result<(u64, &[u8]), Stop>
-    ensures { Gives (λ x. (x.0, x.1.now)) result (number_at w64 bytes.now) }
+    ensures read { Gives (λ x. (x.0, x.1.now)) result (number_at w64 bytes.now) }
+    ensures halts { IfErr result IsHalt }
 {
     if bytes.len() < 8 {
         return Err(halted(bytes, StateFault::Short));
@@ -44,7 +47,8 @@ pub(crate) fn u64_of(bytes: &[u8]) -> Result<(u64, &[u8]), Stop>
 
 /// Seven octets.
 pub(crate) fn seven_of(bytes: &[u8]) -> Result<([u8; 7], &[u8]), Stop>
-    ensures { Gives (λ x. (x.0, x.1.now)) result (octets_at 7 bytes.now) }
+    ensures read { Gives (λ x. (x.0, x.1.now)) result (octets_at 7 bytes.now) }
+    ensures halts { IfErr result IsHalt }
 {
     if bytes.len() < 7 {
         return Err(halted(bytes, StateFault::Short));

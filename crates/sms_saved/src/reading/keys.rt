@@ -1,11 +1,11 @@
 //! Keys.
 
-ghost use Rattle.std.specs.Prelude.{◌≡◌, IfOk, option_map};
+ghost use Rattle.std.specs.Prelude.{◌≡◌, IfErr, IfOk, option_map};
 ghost use Rattle.sms_saved.specs.declared.state.Width.TheVariants as widths;
 ghost use Rattle.sms_saved.specs.Fits.{KeyFits};
 ghost use Rattle.sms_saved.specs.Spelling.{key};
 ghost use Rattle.sms_saved.specs.Views.{seen_key};
-ghost use Rattle.sms_saved.specs.Reading.Fields.{Gives, optional_at};
+ghost use Rattle.sms_saved.specs.Reading.Fields.{Gives, IsHalt, optional_at};
 ghost use Rattle.sms_saved.specs.Reading.Keys.{address_at, segmented_at, message_at, key_at};
 
 use crate::address::ADDRESS_MAX;
@@ -18,7 +18,8 @@ use crate::state::{Key, Message, Width};
 #[tactic(auto, unfolding(crate::specs::Reading::Fields::tested_at, crate::specs::Reading::Fields::string_at))]
 #[inline(always)]
 fn address_of(bytes: &[u8]) -> Result<(&[u8], &[u8]), Stop>
-    ensures { Gives (λ x. (x.0.now, x.1.now)) result (address_at bytes.now) }
+    ensures read { Gives (λ x. (x.0.now, x.1.now)) result (address_at bytes.now) }
+    ensures halts { IfErr result IsHalt }
 {
     let (count, behind) = octet_of(bytes)?;
     if behind.len() < usize::from(count) {
@@ -34,8 +35,9 @@ fn address_of(bytes: &[u8]) -> Result<(&[u8], &[u8]), Stop>
 #[tactic(auto, unfolding(crate::specs::Reading::Fields::optional_at))]
 #[inline(always)]
 fn recipient_of(bytes: &[u8]) -> Result<(Option<&[u8]>, &[u8]), Stop>
-    ensures { Gives (λ x. (option_map (λ octets. octets.now) x.0, x.1.now)) result
+    ensures read { Gives (λ x. (option_map (λ octets. octets.now) x.0, x.1.now)) result
         (optional_at address_at bytes.now) }
+    ensures halts { IfErr result IsHalt }
 {
     match bytes {
         [] => Err(halted(bytes, StateFault::Short)),
@@ -51,7 +53,8 @@ fn recipient_of(bytes: &[u8]) -> Result<(Option<&[u8]>, &[u8]), Stop>
 /// Reference and maximum.
 #[tactic(auto, unfolding(crate::specs::Reading::Keys::segmented_at))]
 fn segmented_of(width: Width, bytes: &[u8]) -> Result<(Message, &[u8]), Stop>
-    ensures { Gives (λ x. (x.0, x.1.now)) result (segmented_at width bytes.now) }
+    ensures read { Gives (λ x. (x.0, x.1.now)) result (segmented_at width bytes.now) }
+    ensures halts { IfErr result IsHalt }
 {
     let (reference, rest) = u16_of(bytes)?;
     let (maximum, rest) = octet_of(rest)?;
@@ -66,7 +69,8 @@ fn segmented_of(width: Width, bytes: &[u8]) -> Result<(Message, &[u8]), Stop>
 /// Which message it is.
 #[tactic(auto, unfolding(crate::specs::Reading::Keys::message_at))]
 fn message_of(bytes: &[u8]) -> Result<(Message, &[u8]), Stop>
-    ensures { Gives (λ x. (x.0, x.1.now)) result (message_at bytes.now) }
+    ensures read { Gives (λ x. (x.0, x.1.now)) result (message_at bytes.now) }
+    ensures halts { IfErr result IsHalt }
 {
     match bytes {
         [] => Err(halted(bytes, StateFault::Short)),
@@ -86,6 +90,7 @@ fn message_of(bytes: &[u8]) -> Result<(Message, &[u8]), Stop>
 pub(crate) fn key_view_of(bytes: &[u8]) -> Result<(KeyView<'_>, &[u8]), Stop>
     ensures read { Gives (λ x. (seen_key x.0, x.1.now)) result (key_at bytes.now) }
     ensures fits { IfOk result (λ x. KeyFits (seen_key x.0)) }
+    ensures halts { IfErr result IsHalt }
 {
     let (origin, rest) = address_of(bytes)?;
     let (recipient, rest) = recipient_of(rest)?;

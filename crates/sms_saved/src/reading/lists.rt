@@ -14,6 +14,10 @@ use crate::seen::Seen;
 use crate::state::{OpenSet, Remembered};
 use std::alloc::Global;
 
+/// How many octets an open set takes at least: its key 6, its moment and the number of its opening 8
+/// each, one place 1 and another 9 (docs/SAVED.md).
+const SET_MIN: usize = 32;
+
 /// Notes a key that is new. The fault is told of the octets from which it was read on.
 #[tactic(auto, unfolding(crate::specs::Reading::Lists::judge_text))]
 fn note_new<'a>(seen: &mut Seen<'a>, key: &'a [u8], rest: &[u8]) -> Result<(), Stop>
@@ -50,7 +54,7 @@ fn note_set<'a>(
     Ok(opening + 1)
 }
 
-/// So many open sets, whose keys are noted.
+/// So many open sets, whose keys are noted. Room is made once, for no more than these octets can be.
 fn sets_of<'a>(
     alloc: Global,
     next: u64,
@@ -63,7 +67,9 @@ fn sets_of<'a>(
         (judged_at (judge_set next) set_at [] count bytes.now) }
     ensures seen { IfOk result (λ x. seen.new ≡ set_keys (view_sets x.0.items)) }
 {
-    let mut sets = Vec::new(alloc);
+    let room = (count as usize).min(bytes.len() / SET_MIN);
+    seen.expect(room)?;
+    let mut sets = Vec::with_capacity(alloc, room)?;
     let mut rest = bytes;
     let mut low = 0;
     for _ in 0..count {

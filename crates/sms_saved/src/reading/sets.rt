@@ -1,6 +1,6 @@
 //! Open sets and remembered keys.
 
-ghost use Rattle.std.specs.Prelude.{◌≡◌, IfOk};
+ghost use Rattle.std.specs.Prelude.{◌≡◌, IfErr, IfOk};
 ghost use Rattle.std.specs.Int.{w16};
 ghost use Rattle.std.specs.List.{list_any};
 ghost use Rattle.sms_saved.specs.Value.{maximum_of, view_place, view_places, view_set};
@@ -8,7 +8,7 @@ ghost use Rattle.sms_saved.specs.Fits.{is_open};
 ghost use Rattle.sms_saved.specs.Spelling.{key};
 ghost use Rattle.sms_saved.specs.Views.{seen_remembered};
 ghost use Rattle.sms_saved.specs.Inside.Places.{lies_there, lies_not_there};
-ghost use Rattle.sms_saved.specs.Reading.Fields.{Gives, number_at, items_at};
+ghost use Rattle.sms_saved.specs.Reading.Fields.{Gives, IsHalt, number_at, items_at};
 ghost use Rattle.sms_saved.specs.Reading.Sets.{are_septets, septets_at, wide_at, place_at, any_set_at, set_at, remembered_at};
 
 use crate::fault::{StateFault, Stop, halted};
@@ -37,12 +37,12 @@ fn septets_of(alloc: Global, bytes: &[u8]) -> Result<(Vec<u8>, &[u8]), Stop>
     Ok((Vec::from_slice(alloc, octets)?, rest))
 }
 
-/// So many 16-bit units.
+/// So many 16-bit units. Room is made once, for no more than these octets can be.
 fn units_of(alloc: Global, count: u64, bytes: &[u8]) -> Result<(Vec<u16>, &[u8]), Stop>
     ensures { Gives (λ x. (x.0.items, x.1.now)) result
         (items_at (number_at w16) count bytes.now) }
 {
-    let mut units = Vec::new(alloc);
+    let mut units = Vec::with_capacity(alloc, (count as usize).min(bytes.len() / 2))?;
     let mut rest = bytes;
     for _ in 0..count {
         let (unit, after) = u16_of(rest)?;
@@ -81,12 +81,12 @@ fn place_of(alloc: Global, bytes: &[u8]) -> Result<(Option<Units>, &[u8]), Stop>
     }
 }
 
-/// So many places.
+/// So many places. Room is made once, for no more than these octets can be.
 fn places_of(alloc: Global, count: u8, bytes: &[u8]) -> Result<(Vec<Option<Units>>, &[u8]), Stop>
     ensures { Gives (λ x. (view_places x.0.items, x.1.now)) result
         (items_at place_at count bytes.now) }
 {
-    let mut places = Vec::new(alloc);
+    let mut places = Vec::with_capacity(alloc, usize::from(count).min(bytes.len()))?;
     let mut rest = bytes;
     for _ in 0..count {
         let (place, after) = place_of(alloc, rest)?;
@@ -176,7 +176,8 @@ pub(crate) fn remembered_of(bytes: &[u8]) -> Result<(Remembered, &[u8], &[u8]), 
 #[tactic(auto, unfolding(crate::specs::Reading::Sets::remembered_at))]
 #[inline(always)]
 pub(crate) fn remembered_view_of(bytes: &[u8]) -> Result<(RememberedView<'_>, &[u8]), Stop>
-    ensures { Gives (λ x. (seen_remembered x.0, x.1.now)) result (remembered_at bytes.now) }
+    ensures read { Gives (λ x. (seen_remembered x.0, x.1.now)) result (remembered_at bytes.now) }
+    ensures halts { IfErr result IsHalt }
 {
     let (key, rest) = key_view_of(bytes)?;
     let (moment, rest) = u64_of(rest)?;

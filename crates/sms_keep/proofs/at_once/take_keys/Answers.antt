@@ -13,8 +13,8 @@ loop-preserved c =
     record {
       saved = seen_remembered own;
       moment_is = refl;
-      parts = c.in-Some.ensures.0;
-      fits = c.in-Some.ensures.1;
+      parts = c.in-Some.ensures.found.0;
+      fits = c.in-Some.ensures.found.1;
       can = record { key = key; in_time = c.if-own-last.false };
     } in
     one_going c.args.gateway.now c.loop.gateway c.remember_new.new.self c.args.octets.now c.loop.counter c.loop.rest.now c.loop.last c.in-Some-2.key own.moment c.in-Some.after.now

@@ -14,7 +14,7 @@ use Rattle.sms_saved.proofs.reading.lists.sets_of.Goals as goal
 
 pub returns-in_err-set-clause-read : goal.returns-in_err-set-clause-read
 returns-in_err-set-clause-read c =
-    let p = err_from_is_err_and c.from_residual.result c.from_residual.ensures.1 in
+    let p = err_from_is_err_and c.from_residual-in_err-set.result c.from_residual-in_err-set.ensures.1 in
     rw (p.1, p.2) (ends (judge_set c.args.next) set_at c.in_err-set.field-0.0 (view_sets c.loop.sets.items) c.args.count c.loop.counter c.loop.rest.now (judged_at (judge_set c.args.next) set_at [] c.args.count c.args.bytes.now) c.loop-test.true c.in_err-set.ensures.read c.loop.invariant.read)
 
 pub returns-in_err-low-clause-read : goal.returns-in_err-low-clause-read

@@ -9,7 +9,7 @@ use Rattle.sms_saved.proofs.reading.sets.places_of.Goals as goal
 
 pub returns-in_err-place : goal.returns-in_err-place
 returns-in_err-place c =
-    let p = err_from_is_err_and c.from_residual.result c.from_residual.ensures.1 in
+    let p = err_from_is_err_and c.from_residual-in_err-place.result c.from_residual-in_err-place.ensures.1 in
     rw (p.1, p.2) (ends place_at c.in_err-place.field-0.0 (view_places c.loop.places.items) c.args.count c.loop.counter c.loop.rest.now (items_at place_at c.args.count c.args.bytes.now) c.loop-test.true c.in_err-place.ensures c.loop.invariant)
 
 pub loop-preserved : goal.loop-preserved
