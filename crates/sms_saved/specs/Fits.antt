@@ -66,7 +66,8 @@ pub record RememberedFits (r : Remembered) : Type 0 where
 -- The numbers of the openings rise strictly from low on, and are below next.
 abbrev pub AreRising : (low next : ℕ) → List SetValue → Type 0
 AreRising low next [] = Unit {0}
-AreRising low next (s ∷ sets) = (low ≤ s.opening) × (s.opening < next) × AreRising (s.opening + 1) next sets
+AreRising low next (s ∷ sets) =
+    (low ≤ s.opening) × (s.opening < next) × AreRising (s.opening + 1) next sets
 
 -- whether one of these is this
 abbrev pub is_among : List (List ℕ) → List ℕ → Bool
@@ -75,7 +76,8 @@ is_among texts text = list_any (bytes_eq text) texts
 -- None of the second list is among those before it, of which the first list has the first.
 abbrev pub AreApart : (before texts : List (List ℕ)) → Type 0
 AreApart before [] = Unit {0}
-AreApart before (text ∷ texts) = (is_among before text ≡ false) × AreApart (before ++ text ∷ []) texts
+AreApart before (text ∷ texts) =
+    (is_among before text ≡ false) × AreApart (before ++ text ∷ []) texts
 
 -- the keys of open sets, as their octets
 abbrev pub set_keys : List SetValue → List (List ℕ)

@@ -20,7 +20,14 @@ pub record FrontValue : Type 0 where
   pub rest : List ℕ
 
 abbrev pub view_front : Front → FrontValue
-view_front f = record { taken = f.taken; next = f.next; sets = view_sets f.sets.items; count = f.count; rest = f.rest.now }
+view_front f =
+    record {
+      taken = f.taken;
+      next = f.next;
+      sets = view_sets f.sets.items;
+      count = f.count;
+      rest = f.rest.now;
+    }
 
 -- The octets begin as a state of a joiner with these limits.
 pub record IsFront (own : Limits) (bytes : List ℕ) (f : FrontValue) : Type 0 where
@@ -52,7 +59,8 @@ pub record HasKeys (bytes : List ℕ) (f : FrontValue) (keys : List Remembered) 
 
 -- the state of these parts
 abbrev pub state_of : Limits → FrontValue → List Remembered → StateValue
-state_of own f keys = record { limits = own; taken = f.taken; next = f.next; sets = f.sets; keys = keys }
+state_of own f keys =
+    record { limits = own; taken = f.taken; next = f.next; sets = f.sets; keys = keys }
 
 -- The octets spell this state of a joiner with these limits, and are read as it.
 pub record AreRead (own : Limits) (bytes : List ℕ) (s : StateValue) : Type 0 where

@@ -38,7 +38,8 @@ flag true = 1 ∷ []
 
 abbrev pub limits : Limits → List ℕ
 limits l =
-    eight l.sets ++ eight l.keys ++ eight l.age_of_sets ++ optional eight l.age_of_keys ++ flag l.passes_singles
+    eight l.sets ++ eight l.keys ++ eight l.age_of_sets ++ optional eight l.age_of_keys
+    ++ flag l.passes_singles
 
 -- how many octets there are, and these
 abbrev pub string : (ℕ → List ℕ) → List ℕ → List ℕ

@@ -46,10 +46,23 @@ abbrev pub view_places : List (Option Units) → List (Option UnitsValue)
 view_places places = map view_place places
 
 abbrev pub view_set : OpenSet → SetValue
-view_set s = record { key = s.key; moment = s.moment; opening = s.opening; places = view_places s.places.items }
+view_set s =
+    record {
+      key = s.key;
+      moment = s.moment;
+      opening = s.opening;
+      places = view_places s.places.items;
+    }
 
 abbrev pub view_sets : List OpenSet → List SetValue
 view_sets sets = map view_set sets
 
 abbrev pub view : State → StateValue
-view s = record { limits = s.limits; taken = s.taken; next = s.next; sets = view_sets s.sets.items; keys = s.keys.items }
+view s =
+    record {
+      limits = s.limits;
+      taken = s.taken;
+      next = s.next;
+      sets = view_sets s.sets.items;
+      keys = s.keys.items;
+    }

@@ -16,7 +16,12 @@ abbrev pub seen_place : Option UnitsView → Option UnitsValue
 seen_place place = option_map seen_units place
 
 abbrev pub seen_key : KeyView → Key
-seen_key k = record { origin = k.origin.now; recipient = option_map (λ octets. octets.now) k.recipient; message = k.message }
+seen_key k =
+    record {
+      origin = k.origin.now;
+      recipient = option_map (λ octets. octets.now) k.recipient;
+      message = k.message;
+    }
 
 abbrev pub seen_remembered : RememberedView → Remembered
 seen_remembered r = record { key = seen_key r.key; moment = r.moment }

@@ -35,7 +35,8 @@ abbrev pub stops : {A : Type 0} → List ℕ → StateFault → Result A Halt
 stops rest why = Err (record { left = length rest; why = why })
 
 -- a field that has to pass a test
-unfoldable pub tested_at : {A : Type 0} → (A → Bool) → StateFault → (List ℕ → Read A) → List ℕ → Read A
+unfoldable pub tested_at : {A : Type 0} → (A → Bool) → StateFault → (List ℕ → Read A) → List ℕ
+    → Read A
 tested_at test why one bytes = do
   x ← one bytes
   if test x.0 then Ok x else stops bytes why
@@ -45,11 +46,14 @@ octet_at [] = stops [] Short
 octet_at (n ∷ rest) = Ok (n, rest)
 
 abbrev pub number_at : Width → List ℕ → Read ℕ
-number_at w bytes = if nat_lt (length bytes) (byte_len w) then stops bytes Short else Ok (from_be_bytes w (take (byte_len w) bytes), drop (byte_len w) bytes)
+number_at w bytes =
+    if nat_lt (length bytes) (byte_len w) then stops bytes Short
+    else Ok (from_be_bytes w (take (byte_len w) bytes), drop (byte_len w) bytes)
 
 -- as many octets as this
 abbrev pub octets_at : ℕ → List ℕ → Read (List ℕ)
-octets_at n bytes = if nat_lt (length bytes) n then stops bytes Short else Ok (take n bytes, drop n bytes)
+octets_at n bytes =
+    if nat_lt (length bytes) n then stops bytes Short else Ok (take n bytes, drop n bytes)
 
 -- as many octets as a number before them says
 unfoldable pub string_at : (List ℕ → Read ℕ) → List ℕ → Read (List ℕ)

@@ -16,14 +16,16 @@ unless bytes None others = others
 unless bytes (Some why) others = stops bytes why
 
 -- so many, after those before
-unfoldable pub judged_at : {A : Type 0} → (List A → A → Option StateFault) → (List ℕ → Read A) → List A → ℕ → List ℕ → Read (List A)
+unfoldable pub judged_at : {A : Type 0} → (List A → A → Option StateFault)
+    → (List ℕ → Read A) → List A → ℕ → List ℕ → Read (List A)
 judged_at judge one before zero bytes = Ok (before, bytes)
 judged_at judge one before (suc n) bytes = do
   x ← one bytes
   unless bytes (judge before x.0) (judged_at judge one (before ++ x.0 ∷ []) n x.1)
 
 -- a count up to a limit, and so many
-unfoldable pub few_judged_at : {A : Type 0} → ℕ → (List A → A → Option StateFault) → (List ℕ → Read A) → List ℕ → Read (List A)
+unfoldable pub few_judged_at : {A : Type 0} → ℕ → (List A → A → Option StateFault)
+    → (List ℕ → Read A) → List ℕ → Read (List A)
 few_judged_at most judge one bytes = do
   n ← number_at w64 bytes
   if nat_lt most n.0 then stops bytes TooMany else judged_at judge one [] n.0 n.1
@@ -35,7 +37,8 @@ above low (s ∷ sets) = above (s.opening + 1) sets
 
 -- a number from low on, below the next
 unfoldable pub judge_opening : (low next opening : ℕ) → Option StateFault
-judge_opening low next opening = if nat_le low opening && nat_lt opening next then None else Some OutOfOrder
+judge_opening low next opening =
+    if nat_le low opening && nat_lt opening next then None else Some OutOfOrder
 
 -- a key that is new
 unfoldable pub judge_text : List (List ℕ) → List ℕ → Option StateFault
@@ -47,7 +50,9 @@ first_of None other = other
 
 -- an open set, by the number of the next opening
 abbrev pub judge_set : ℕ → List SetValue → SetValue → Option StateFault
-judge_set next before s = first_of (judge_opening (above 0 before) next s.opening) (judge_text (set_keys before) (key s.key))
+judge_set next before s =
+    first_of (judge_opening (above 0 before) next s.opening)
+    (judge_text (set_keys before) (key s.key))
 
 -- a remembered key, by the keys of the open sets too
 abbrev pub judge_key : List (List ℕ) → List Remembered → Remembered → Option StateFault

@@ -24,7 +24,16 @@ any_limits_at bytes = do
   age_of_sets ← number_at w64 keys.1
   age_of_keys ← optional_at (number_at w64) age_of_sets.1
   passes ← flag_at age_of_keys.1
-  Ok (record { sets = sets.0; keys = keys.0; age_of_sets = age_of_sets.0; age_of_keys = age_of_keys.0; passes_singles = passes.0 }, passes.1)
+  Ok (
+    record {
+      sets = sets.0;
+      keys = keys.0;
+      age_of_sets = age_of_sets.0;
+      age_of_keys = age_of_keys.0;
+      passes_singles = passes.0;
+    },
+    passes.1,
+  )
 
 abbrev pub same_flag : Bool → Bool → Bool
 same_flag true b = b
@@ -56,7 +65,8 @@ version_at (suc (suc v) ∷ rest) = stops (suc (suc v) ∷ rest) (Newer (suc (su
 unfoldable pub head_at : List ℕ → Result (List ℕ) Halt
 head_at bytes =
     if nat_lt (length bytes) 8 then stops bytes NotAState
-    else (if bytes_eq (take 8 bytes) magic then version_at (drop 8 bytes) else stops bytes NotAState)
+    else (if bytes_eq (take 8 bytes) magic then version_at (drop 8 bytes)
+    else stops bytes NotAState)
 
 unfoldable pub body_at : Limits → List ℕ → Read StateValue
 body_at own bytes = do
@@ -66,14 +76,24 @@ body_at own bytes = do
   next ← number_at w64 taken.1
   sets ← few_judged_at own.sets (judge_set next.0) set_at next.1
   keys ← few_judged_at own.keys (judge_key (set_keys sets.0)) remembered_at sets.1
-  Ok (record { limits = limits.0; taken = taken.0; next = next.0; sets = sets.0; keys = keys.0 }, keys.1)
+  Ok (
+    record {
+      limits = limits.0;
+      taken = taken.0;
+      next = next.0;
+      sets = sets.0;
+      keys = keys.0;
+    },
+    keys.1,
+  )
 
 -- after the body stands its checksum, and nothing more
 unfoldable pub sealed_at : List ℕ → StateValue × List ℕ → Result StateValue Halt
 sealed_at bytes read =
     if nat_lt (length read.1) 32 then stops read.1 Short
     else (if nat_lt 32 (length read.1) then stops read.1 Trailing
-    else (if bytes_eq read.1 (digest (take (length bytes - 32) bytes)) then Ok read.0 else stops read.1 Checksum))
+    else (if bytes_eq read.1 (digest (take (length bytes - 32) bytes)) then Ok read.0
+    else stops read.1 Checksum))
 
 unfoldable pub state_at : Limits → List ℕ → Result StateValue Halt
 state_at own bytes = do
