@@ -47,7 +47,8 @@ SayNoAddress recipient origin =
 -- a call says the answer to the piece
 abbrev pub SaysTo : GatewayValue → Piece → Result Offer OfferFault → Type 0
 SaysTo before piece result =
-    SaysAnswer (gateway_answer before.limits before.holds piece) (is_first before.holds piece) result
+    SaysAnswer (gateway_answer before.limits before.holds piece) (is_first before.holds piece)
+    result
 
 -- the joiner answers so to the piece, and holds what it holds after that
 pub record IsTakenTo (before after : Inside) (piece : Piece) (outcome : ℕ) : Type 0 where
@@ -57,7 +58,8 @@ pub record IsTakenTo (before after : Inside) (piece : Piece) (outcome : ℕ) : T
   pub holds : IsSame after.gateway.holds
       (gateway_offered before.gateway.limits before.gateway.holds piece)
   pub finishings : after.gateway.finishings
-      ≡ gateway_finishings before.gateway.limits before.gateway.holds before.gateway.finishings piece
+      ≡ gateway_finishings before.gateway.limits before.gateway.holds
+      before.gateway.finishings piece
   pub passed : is_passed before.gateway.limits.alone piece.key ≡ true
       → after.gateway ≡ before.gateway
   pub limits : after.gateway.limits ≡ before.gateway.limits

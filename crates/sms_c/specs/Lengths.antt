@@ -42,4 +42,5 @@ PacketsFit = IsWithin 258 SpellsCp
 
 -- SMS_ADDRESS_TEXT_MAX
 abbrev pub AddressTextsFit : Type 0
-AddressTextsFit = (address : AddressValue) → HasSpelling address → IsShortText 33 (address_text address)
+AddressTextsFit =
+    (address : AddressValue) → HasSpelling address → IsShortText 33 (address_text address)

@@ -1,6 +1,6 @@
 //! For whom what a joiner of C is offered is, and whom it is from.
 
-ghost use Rattle.std.specs.Prelude.{◌≡◌, ◌≢◌, ◌⊎◌, ◌↔◌, ◌<◌, Some, IsSome, IfSome, IfOk, IfErr};
+ghost use Rattle.std.specs.Prelude.{◌≡◌, ◌≢◌, ◌⊎◌, ◌↔◌, ◌<◌, IsSome, IfSome, IfOk, IfErr};
 ghost use Rattle.std.specs.Str.{IsUtf8};
 ghost use Rattle.sms_c.specs.DataOffers.{IsFrom};
 ghost use Rattle.sms_c.specs.GatewayOffers.{IsTo, SayNoAddress};
@@ -37,17 +37,17 @@ fn recipient_said(alloc: Global, text: &str) -> Result<Option<Address>, Failure>
     Ok(Some(address_of(alloc, text)?))
 }
 
-/// The telephone number that a text says that is not empty, where it is one.
+/// The recipient that a text says, where it is empty or a telephone number: none where it is empty.
 #[inline(always)]
-fn telephone_to(text: &[u8]) -> Option<Address>
-    ensures to { IfSome result (λ address. IsTo text.now (Some address)) }
+fn telephone_to(text: &[u8]) -> Option<Option<Address>>
+    ensures is_to { IfSome result (IsTo text.now) }
     ensures text { IsSome result → IsUtf8 text.now }
     ensures address { IsSome result → SaysNoAddress text.now → ⊥ }
 {
     if text.is_empty() {
-        return None;
+        return Some(None);
     }
-    telephone_given(text)
+    Some(Some(telephone_given(text)?))
 }
 
 /// The recipient that a text in UTF-8 says, be it a number or a name: none where it is empty.
@@ -78,11 +78,8 @@ pub fn recipient_in(alloc: Global, text: &[u8]) -> Result<Option<Address>, Failu
     ensures answered { IfErr result (λ why.
         (why ≡ NotUtf8) ⊎ (why ≡ Memory) ⊎ (why ≡ BadAddress)) }
 {
-    if text.is_empty() {
-        return Ok(None);
-    }
     match telephone_to(text) {
-        Some(address) => Ok(Some(address)),
+        Some(recipient) => Ok(recipient),
         None => any_recipient_in(alloc, text),
     }
 }

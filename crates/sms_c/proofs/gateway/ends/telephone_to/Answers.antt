@@ -1,7 +1,7 @@
 use Rattle.std.proofs.Common.{length, sym, ◌∙◌}
 use Rattle.std.proofs.lemmas.Bool.{eqb-true}
 use Rattle.sms_c.proofs.GatewayOffering.{empty_says}
-use Rattle.sms_c.proofs.gateway.ends.recipient_in.Goals as goal
+use Rattle.sms_c.proofs.gateway.ends.telephone_to.Goals as goal
 
 pub returns-then-is_empty-clause-address : goal.returns-then-is_empty-clause-address
 returns-then-is_empty-clause-address c =
