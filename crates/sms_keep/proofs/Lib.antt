@@ -14,4 +14,5 @@ mod PlainDigits
 mod PlainNames
 mod PlainAddress
 mod AddressBack
+mod Rooms
 mod TelephonesRead

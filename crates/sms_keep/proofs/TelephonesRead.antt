@@ -1,5 +1,5 @@
 -- Digits that are written as octets, two by two.
-use Rattle.std.proofs.Common.{◌≡◌, ◌≢◌, ℕ, ◌-◌, ◌+◌, ◌*◌, ◌/◌, ◌%◌, ◌<◌, ◌≤◌, List, [], ◌∷◌, ◌++◌, length, take, drop, get_or, refl, sym, ap, subst, ◌∙◌, arith}
+use Rattle.std.proofs.Common.{◌≡◌, ◌≢◌, ℕ, ◌-◌, ◌+◌, ◌*◌, ◌/◌, ◌%◌, ◌<◌, ◌≤◌, List, [], ◌∷◌, ◌++◌, length, take, drop, get_or, replicate, refl, sym, ap, subst, ◌∙◌, arith}
 use Rattle.std.proofs.Math.ListN.{set, length-set}
 use Rattle.std.proofs.lemmas.List.{take_more, take_more_set, take_all, length-take}
 use Rattle.std.proofs.lemmas.Grind.{take-set_at}
@@ -7,8 +7,10 @@ use Rattle.std.specs.List.{AllByRecursion}
 use Rattle.sms_field.specs.Address.{address_octets}
 use Rattle.sms_field.specs.Address.DigitOctets.{digit_octets}
 use Rattle.sms_field.specs.Address.DigitValues.{AreDigits}
+use Rattle.sms_field.specs.Address.Padded.{padded}
 use Rattle.sms_field.specs.Address.Value.{HasSpelling}
 use Rattle.sms_field.specs.declared.symbols.Symbols.TheVariants.{Digits}
+use Rattle.sms_keep.proofs.Rooms.{IsZeroFrom, is_padded, zero_behind_set}
 
 two_more : (xs : List ℕ) (low high : ℕ) → length xs % 2 ≡ 0 → digit_octets ((xs ++ low ∷ []) ++ high ∷ []) ≡ digit_octets xs ++ (16 * high + low) ∷ []
 unfolding digit_octets
@@ -29,15 +31,16 @@ one_small : (xs : List ℕ) (digit : ℕ) → AreSmall xs → digit < 15 → Are
 one_small [] digit others small = (small, record {})
 one_small (x ∷ xs) digit others small = (others.0, one_small xs digit others.1 small)
 
--- So many octets are written of twice as many digits.
+-- So many octets are written of twice as many digits. Behind these is 0.
 pub record Read (symbols values : List ℕ) (i : ℕ) : Type 0 where
   pub size : length values ≡ 20
   pub digits : AreSmall (take (2 * i) values)
   pub written : digit_octets (take (2 * i) values) ≡ take i symbols
+  pub zeros : IsZeroFrom 20 (2 * i) values
 
-pub none_read : (symbols values : List ℕ) → length values ≡ 20 → Read symbols values 0
+pub none_read : (symbols values : List ℕ) → length values ≡ 20 → values ≡ replicate 20 0 → Read symbols values 0
 unfolding digit_octets
-none_read symbols values size = record { size = size; digits = record {}; written = refl }
+none_read symbols values size zeros = record { size = size; digits = record {}; written = refl; zeros = zeros }
 
 even_front : (values : List ℕ) (i : ℕ) → 2 * i ≤ length values → length (take (2 * i) values) % 2 ≡ 0
 even_front values i enough = let l : length (take (2 * i) values) ≡ 2 * i = omega (arith, length-take (2 * i) values, enough) in omega (arith, l)
@@ -61,6 +64,9 @@ pair_read symbols values i low high few inside is small_low small_high r =
           ∙ ap (λ (l : List ℕ). l ++ (16 * high + low) ∷ []) r.written
           ∙ ap (λ (n : ℕ). take i symbols ++ n ∷ []) (sym is)
           ∙ sym (take_more symbols i 0 inside);
+      zeros =
+          subst (λ (n : ℕ). IsZeroFrom 20 n two) (omega arith)
+          (zero_behind_set 20 (2 * i + 1) high one (zero_behind_set 20 (2 * i) low values r.zeros));
     }
 
 -- What is read of so many digits.
@@ -68,6 +74,7 @@ pub record AreRead (count : ℕ) (symbols values : List ℕ) : Type 0 where
   pub size : length (take count values) ≡ count
   pub digits : AreSmall (take count values)
   pub written : digit_octets (take count values) ≡ symbols
+  pub room : values ≡ padded 20 (take count values)
 
 pub even_read : (count i : ℕ) (symbols values : List ℕ) → count ≤ 20 → count % 2 ≡ 0 → i ≡ count / 2 → length symbols ≡ (count + 1) / 2 → Read symbols values i → AreRead count symbols values
 even_read count i symbols values few even at whole r =
@@ -76,6 +83,7 @@ even_read count i symbols values few even at whole r =
       size = omega (arith, length-take count values, few, r.size);
       digits = subst (λ (n : ℕ). AreSmall (take n values)) all r.digits;
       written = ap (λ (n : ℕ). digit_octets (take n values)) (sym all) ∙ r.written ∙ take_all i symbols (omega (arith, whole, even, at));
+      room = is_padded 20 count values few r.size (subst (λ (n : ℕ). IsZeroFrom 20 n values) all r.zeros);
     }
 
 pub odd_read : (count i digit : ℕ) (symbols values : List ℕ) → count ≤ 20 → count % 2 ≡ 1 → i ≡ count / 2 → length symbols ≡ (count + 1) / 2 → get_or symbols i 0 ≡ 240 + digit → digit < 15 → Read symbols values i
@@ -94,16 +102,17 @@ odd_read count i digit symbols values few odd at whole is small r =
           ∙ ap (λ (n : ℕ). take i symbols ++ n ∷ []) (sym is)
           ∙ sym (take_more symbols i 0 (omega (arith, all, whole)))
           ∙ take_all (i + 1) symbols (omega (arith, all, whole));
+      room =
+          is_padded 20 count (set values (2 * i) digit) few (length-set values (2 * i) digit ∙ r.size)
+          (subst (λ (n : ℕ). IsZeroFrom 20 n (set values (2 * i) digit)) all (zero_behind_set 20 (2 * i) digit values r.zeros));
     }
 
 pub are_digits : (count : ℕ) (symbols values : List ℕ) → count ≤ 20 → AreRead count symbols values → AreDigits (take count values)
 are_digits count symbols values few r = record { few = omega (arith, few, r.size); each = r.digits }
 
-pub answered : (count n : ℕ) (symbols values kept digits : List ℕ) → count ≤ 20 → n ≡ count → digits ≡ take n kept → kept ≡ values → AreRead count symbols values
+pub answered : (count : ℕ) (symbols values digits : List ℕ) → count ≤ 20 → digits ≡ take count values → AreRead count symbols values
     → AreDigits digits × (length digits ≡ count) × (digit_octets digits ≡ symbols)
-answered count n symbols values kept digits few same new is r =
-    let all : digits ≡ take count values = new ∙ ap (λ (k : ℕ). take k kept) same ∙ ap (take count) is in
-    (subst AreDigits (sym all) (are_digits count symbols values few r), ap length all ∙ r.size, ap digit_octets all ∙ r.written)
+answered count symbols values digits few all r = (subst AreDigits (sym all) (are_digits count symbols values few r), ap length all ∙ r.size, ap digit_octets all ∙ r.written)
 
 in_front : (octets : List ℕ) → 2 ≤ length octets → octets ≡ get_or octets 0 0 ∷ get_or octets 1 0 ∷ take (length octets - 2) (drop 2 octets)
 in_front [] enough = absurd (omega (arith, enough))

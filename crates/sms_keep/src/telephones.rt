@@ -52,7 +52,7 @@ fn digits_from(count: u8, symbols: &[u8]) -> Option<Digits>
     if count % 2 == 1 {
         values[2 * pairs] = last_of(symbols[pairs])?;
     }
-    Some(Digits::new(&values[..usize::from(count)]))
+    Some(Digits::in_room(values, count))
 }
 
 /// The address that is written as these octets, where it is one of digits: most are, and they are
