@@ -25,7 +25,8 @@ SetsAreNew g sets = AllByRecursion (λ s. IsNewKey g s.key) sets
 -- This set was put back behind the others, and its key is new.
 pub record IsPut (old new : GatewayValue) (own : SavedSet) : Type 0 where
   pub is_new : IsNewKey old own.key
-  pub told : (t : SetValue) × (new.told ≡ old.told ++ t ∷ []) × (unnumbered (saved_set t) ≡ unnumbered own) × KeyIsSpelled t.key
+  pub told : (t : SetValue) × (new.told ≡ old.told ++ t ∷ [])
+      × (unnumbered (saved_set t) ≡ unnumbered own) × KeyIsSpelled t.key
   pub kept : new.holds.kept ≡ all_pieces new.told
   pub finished : new.holds.finished ≡ old.holds.finished
   pub finishings : new.finishings ≡ old.finishings
