@@ -1,5 +1,5 @@
 -- No key is remembered twice, whatever is offered and whatever ages.
-use Rattle.std.proofs.Common.{◌≡◌, ℕ, zero, suc, Bool, true, false, cond, ◌||◌, List, [], ◌∷◌, take, Result, Ok, Err, refl, sym, ap, ◌∙◌, subst}
+use Rattle.std.proofs.Common.{◌≡◌, ℕ, zero, suc, Bool, true, false, ◌||◌, List, [], ◌∷◌, take, Result, Ok, Err, refl, sym, ap, ◌∙◌, subst}
 use Rattle.std.proofs.lemmas.Bool.{or_parts}
 use Rattle.std.specs.Result.{OnOk, OnErr}
 use Rattle.sms_join.specs.declared.key.Key.{Key}
@@ -8,7 +8,7 @@ use Rattle.sms_join.specs.declared.offer.OfferFault.{OfferFault}
 use Rattle.sms_join.specs.Key.{same_key}
 use Rattle.sms_join.specs.Piece.{Piece}
 use Rattle.sms_join.specs.Joiner.Sets.{has, is_open, units_upto, without}
-use Rattle.sms_join.specs.Joiner.{Joiner, Answer, Repeat, Kept, Finished, TooManyOpen, new_joiner, is_among, is_repeat, is_whole, has_room, decided, answer, answered, offered}
+use Rattle.sms_join.specs.Joiner.{Joiner, new_joiner, is_among, is_repeat, is_whole, has_room, decided, answer, answered, offered}
 use Rattle.sms_join.specs.Joiner.Aging.{young}
 use Rattle.sms_join.specs.Joiner.Same.{IsSame}
 use Rattle.sms_join.specs.Joiner.Value.{JoinerValue}

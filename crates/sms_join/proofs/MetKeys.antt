@@ -1,12 +1,12 @@
 -- Which keys of a ring are among the last so many.
-use Rattle.std.proofs.Common.{◌≡◌, ℕ, zero, suc, ◌+◌, ◌-◌, ◌<◌, ◌≤◌, Bool, true, false, cond, ltb, ◌&&◌, ◌||◌, List, [], ◌∷◌, ◌++◌, take, drop, length, reverse, refl, sym, ap, ◌∙◌, subst, arith, length-append, length-drop}
+use Rattle.std.proofs.Common.{◌≡◌, ℕ, zero, suc, ◌+◌, ◌-◌, ◌<◌, ◌≤◌, Bool, true, false, cond, ltb, ◌&&◌, ◌||◌, List, [], ◌∷◌, ◌++◌, take, drop, length, reverse, refl, sym, ap, ◌∙◌, subst, arith, length-drop}
 use Rattle.std.proofs.lemmas.Bool.{lt-ltb, ltb-true}
 use Rattle.std.proofs.lemmas.List.{reverse-append, length-take, length-reverse}
 use Rattle.sms_join.specs.declared.key.Key.{Key}
 use Rattle.sms_join.specs.Key.{same_key}
 use Rattle.sms_join.specs.Joiner.{is_among}
 use Rattle.sms_join.specs.Inside.KeyRings.{placed, entries, keys_of, came_after}
-use Rattle.sms_join.proofs.RingSearch.{Asked, is_met, any_met}
+use Rattle.sms_join.proofs.RingSearch.{Asked, any_met}
 
 -- From this number on each came after as many as its number says.
 abbrev AreCounted : (ℕ → ℕ) → ℕ → List (ℕ × Key) → Type 0

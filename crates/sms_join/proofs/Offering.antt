@@ -1,5 +1,5 @@
 -- What an offer does to the sets in order of opening.
-use Rattle.std.proofs.Common.{◌≡◌, ℕ, zero, suc, ◌<◌, inl, inr, Bool, true, false, cond, ◌||◌, not, eqb, ltb, List, [], ◌∷◌, ◌++◌, length, map, slice_get, Some, refl, sym, ap, ◌∙◌, subst}
+use Rattle.std.proofs.Common.{◌≡◌, ℕ, zero, suc, inl, inr, Bool, true, false, cond, ◌||◌, not, eqb, ltb, List, [], ◌∷◌, ◌++◌, map, slice_get, Some, refl, sym, ap, ◌∙◌}
 use Rattle.std.proofs.Math.ListN.{set}
 use Rattle.std.proofs.lemmas.Bool.{eqb-true, eq-eqb, or_parts}
 use Rattle.std.specs.List.{filter, swap_remove}
@@ -7,7 +7,7 @@ use Rattle.sms_join.specs.declared.key.Key.{Key}
 use Rattle.sms_join.specs.Key.{same_key}
 use Rattle.sms_join.specs.Piece.{Piece}
 use Rattle.sms_join.specs.OpenSets.{SetValue, AreOpen, has_set, with_piece}
-use Rattle.sms_join.specs.OpenSets.Offered.{opened_by, with_more, without_set, TellsKept}
+use Rattle.sms_join.specs.OpenSets.Offered.{opened_by, without_set, TellsKept}
 use Rattle.sms_join.specs.Inside.Turns.{HaveTurns, AreApart, has_turn, put_in, arranged}
 use Rattle.sms_join.proofs.SameKeys.{same_key_true, same_key_refl}
 use Rattle.sms_join.proofs.Arranged.{has_arranged}

@@ -1,14 +1,13 @@
 -- The first old set from a number of opening on, among sets that stand in order of opening.
-use Rattle.std.proofs.Common.{◌≡◌, ◌≢◌, ℕ, zero, suc, ◌+◌, ◌<◌, ◌≤◌, ◌⊎◌, inl, inr, Bool, true, false, cond, leb, List, [], ◌∷◌, slice_get, Option, Some, None, refl, sym, ap, ◌∙◌, subst, arith}
+use Rattle.std.proofs.Common.{◌≡◌, ℕ, suc, ◌+◌, ◌<◌, ◌≤◌, ◌⊎◌, inl, inr, Bool, true, false, cond, leb, List, [], ◌∷◌, slice_get, Some, None, refl, sym, ap, ◌∙◌, subst, arith}
 use Rattle.std.proofs.lemmas.Bool.{leb-true, leb-false, le-leb}
-use Rattle.std.specs.List.{filter}
 use Rattle.sms_join.specs.declared.age.Age.{Age}
 use Rattle.sms_join.specs.OpenSets.{SetValue}
 use Rattle.sms_join.specs.OpenSets.Told.{AreAbove, RiseInTurn, first_from}
 use Rattle.sms_join.specs.Inside.Ages.{old_of}
-use Rattle.sms_join.specs.Inside.Lines.{InLine, AreInTime}
+use Rattle.sms_join.specs.Inside.Lines.{AreInTime}
 use Rattle.sms_join.specs.Inside.Turns.{AreBefore, arranged}
-use Rattle.sms_join.proofs.Told.{Among, arranged_among, arranged_climbs}
+use Rattle.sms_join.proofs.Told.{Among, arranged_among}
 
 -- whether a set is old
 abbrev pub is_old : Age → SetValue → Bool

@@ -3,7 +3,7 @@ use Rattle.std.proofs.Common.{◌≡◌, ℕ, zero, suc, ◌+◌, ◌-◌, ◌<�
 use Rattle.std.proofs.Math.ListN.{set}
 use Rattle.std.proofs.lemmas.List.{map-append, map-set, take-map, drop-map, length-map, reverse-append, take-append-drop, get_or-drop, get_or-map, get_or_default, map_push}
 use Rattle.circular_buffer.specs.Buffer.{keep_last}
-use Rattle.sms_join.specs.Inside.KeyRings.{laid, placed, newest_first, entries, of_head, head_of, IsChain, LieIn, IsFree, LieApart, AreLinked, IsChained}
+use Rattle.sms_join.specs.Inside.KeyRings.{laid, placed, newest_first, entries, of_head, head_of, IsChain, LieIn, IsFree, LieApart, IsChained}
 use Rattle.sms_join.proofs.RingPlaces.{lie_front, lie_back}
 use Rattle.sms_join.proofs.RingKeys.{length-laid, laid-push, laid-turn}
 

@@ -1,19 +1,15 @@
 -- Keys are the same just where they are equal.
-use Rattle.std.proofs.Common.{◌≡◌, ℕ, Bool, true, false, ◌&&◌, eqb, List, Option, Some, None, refl, sym, ap, ◌∙◌}
-use Rattle.std.proofs.lemmas.Bool.{eqb-true, eq-eqb, and_parts, and_from}
+use Rattle.std.proofs.Common.{◌≡◌, ℕ, Bool, true, false, ◌&&◌, List, Option, Some, None, refl, sym, ap, ◌∙◌}
+use Rattle.std.proofs.lemmas.Bool.{eq-eqb, and_from}
 use Rattle.std.proofs.lemmas.Slice.Eq.{bytes_eq-Decides}
 use Rattle.std.specs.Str.{bytes_eq}
 use Rattle.sms_field.specs.Address.Value.{AddressValue}
-use Rattle.sms_field.specs.declared.symbols.Symbols.{Symbols}
-use Rattle.sms_field.specs.declared.symbols.Symbols.TheVariants.{Digits, Name}
 use Rattle.sms_field.specs.Address.Same.{same_address}
-use Rattle.sms_field.specs.Inside.SameAddressLaws.{same_address_refl, same_address_true}
+use Rattle.sms_field.specs.Inside.SameAddressLaws.{same_address_refl}
 use Rattle.sms_tpdu.specs.declared.user_data.concat.Width.{Width}
 use Rattle.sms_tpdu.specs.declared.user_data.concat.Width.TheVariants.{Eight, Sixteen}
 use Rattle.sms_join.specs.declared.key.Key.{Key}
 use Rattle.sms_tpdu.specs.declared.user_data.concat.Concat.{Concat}
-use Rattle.sms_field.specs.contracts.address.AddressPartialEq.TheImpl as address_derived
-use Rattle.sms_tpdu.specs.contracts.user_data.concat.WidthPartialEq.TheImpl as width_derived
 use Rattle.sms_join.specs.declared.key.Key.TheVariants.{Single, Segmented, SingleTo, SegmentedTo}
 use Rattle.sms_join.specs.Key.{same_width, same_key, same_recipient, is_for, origin_of}
 use Rattle.sms_join.specs.Piece.{key_to}

@@ -1,5 +1,5 @@
 -- A moment before which no set was opened, as sets come and go.
-use Rattle.std.proofs.Common.{◌≡◌, ℕ, zero, suc, ◌+◌, ◌<◌, ◌≤◌, inl, inr, Bool, true, false, leb, min, List, [], ◌∷◌, ◌++◌, length, get_or, slice_get, Some, refl, sym, ap, ◌∙◌, subst, arith}
+use Rattle.std.proofs.Common.{◌≡◌, ℕ, zero, suc, ◌+◌, ◌<◌, ◌≤◌, inl, inr, false, leb, min, List, [], ◌∷◌, ◌++◌, length, get_or, slice_get, Some, refl, sym, ap, ◌∙◌, subst, arith}
 use Rattle.std.proofs.Math.ListN.{set}
 use Rattle.std.proofs.lemmas.Bool.{leb-false}
 use Rattle.std.specs.List.{swap_remove, fold}
@@ -7,7 +7,7 @@ use Rattle.std.specs.Map.{values_of}
 use Rattle.sms_join.specs.declared.key.Key.{Key}
 use Rattle.sms_join.specs.declared.age.Age.{Age}
 use Rattle.sms_join.specs.OpenSets.{SetValue}
-use Rattle.sms_join.specs.Inside.Dropping.{Drops, DropsMany, DropsOld}
+use Rattle.sms_join.specs.Inside.Dropping.{DropsMany, DropsOld}
 use Rattle.sms_join.specs.declared.line.Opening.{Opening}
 use Rattle.sms_join.specs.Inside.Lines.{AreAfter, AreInTime, AreSince, InLine, IsNoted}
 use Rattle.sms_join.specs.Inside.Slots.{SlotValue, sets_of}

@@ -1,7 +1,7 @@
 -- A reader may pass this by: contracts of private functions, and proofs, alone cite it.
 --
 -- Which open sets are old.
-use Rattle.std.specs.Prelude.{ℕ, ◌+◌, Bool, not, nat_le, List}
+use Rattle.std.specs.Prelude.{◌+◌, Bool, not, nat_le, List}
 use Rattle.std.specs.List.{filter}
 use Rattle.sms_join.specs.declared.age.Age.{Age}
 use Rattle.sms_join.specs.OpenSets.{SetValue}

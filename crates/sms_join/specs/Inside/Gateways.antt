@@ -1,7 +1,7 @@
 -- A reader may pass this by: contracts of private functions, and proofs, alone cite it.
 --
 -- A joiner for many recipients, and the joiner that it is but for messages that are passed.
-use Rattle.std.specs.Prelude.{◌≡◌, ℕ, ◌<◌, ◌≤◌, List, [], ◌∷◌, take, length, Option, Result, Ok, Err}
+use Rattle.std.specs.Prelude.{◌≡◌, ℕ, ◌<◌, List, ◌∷◌, take, length, Option, Result, Ok, Err}
 use Rattle.sms_join.specs.declared.gateway_limits.Alone.{Alone}
 use Rattle.sms_join.specs.declared.offer.Offer.{Offer}
 use Rattle.sms_join.specs.declared.offer.Offer.TheVariants as offers

@@ -1,14 +1,13 @@
 -- A reader may pass this by: contracts of private functions, and proofs, alone cite it.
 --
 -- The hashes of keys: numbers that keys of one message share, and that other keys seldom have.
-use Rattle.std.specs.Prelude.{ℕ, ◌/◌, ◌%◌, ◌-◌, ◌^◌, List, [], ◌∷◌, ◌++◌, Option, None, Some, if◌then◌else◌, drop, length, nat_le, nat_lt, replicate, slice_index, take}
+use Rattle.std.specs.Prelude.{ℕ, ◌/◌, ◌%◌, ◌^◌, List, [], ◌∷◌, ◌++◌, Option, None, Some, drop, length, take}
 use Rattle.std.specs.List.{flat_map}
 use Rattle.sms_field.specs.Address.Padded.{padded}
 use Rattle.sms_field.specs.Address.Value.{AddressValue}
 use Rattle.sms_tpdu.specs.declared.user_data.concat.Width.{Width}
 use Rattle.sms_tpdu.specs.declared.user_data.concat.Width.TheVariants.{Eight, Sixteen}
 use Rattle.sms_join.specs.declared.hashing.Hashing.{Hashing}
-use Rattle.sms_join.specs.declared.hashing.KeyHasher.{KeyHasher}
 use Rattle.sms_join.specs.declared.key.Key.{Key}
 use Rattle.sms_join.specs.declared.key.Key.TheVariants.{Single, Segmented, SingleTo, SegmentedTo}
 use Rattle.sms_join.specs.Key.{origin_of, recipient_of}

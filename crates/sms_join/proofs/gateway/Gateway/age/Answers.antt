@@ -1,4 +1,4 @@
-use Rattle.std.proofs.Common.{◌≡◌, ℕ, ap, ◌∙◌, subst}
+use Rattle.std.proofs.Common.{ℕ, ap, ◌∙◌, subst}
 use Rattle.circular_buffer.specs.Buffer.{Buffer}
 use Rattle.sms_join.specs.Joiner.{Joiner}
 use Rattle.sms_join.specs.Joiner.Same.{IsSame}

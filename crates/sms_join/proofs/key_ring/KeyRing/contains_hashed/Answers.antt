@@ -1,4 +1,4 @@
-use Rattle.std.proofs.Common.{◌≡◌, ℕ, ◌<◌, false, List, length, take, get_or, sym, ap, ◌∙◌, arith}
+use Rattle.std.proofs.Common.{◌≡◌, false, List, take, get_or, sym, ap, ◌∙◌, arith}
 use Rattle.std.specs.Prelude.{option_copied}
 use Rattle.sms_join.specs.declared.key.Key.{Key}
 use Rattle.sms_join.specs.Piece.{key_to}
@@ -10,7 +10,7 @@ use Rattle.sms_join.proofs.RingHashes.{chained_keys, hash_at, there_at, as_many_
 use Rattle.sms_join.proofs.RingPlaces.{head_at}
 use Rattle.sms_join.proofs.RingKeys.{length-laid, oldest_there, keys_in}
 use Rattle.sms_join.proofs.MetKeys.{met_is}
-use Rattle.sms_join.proofs.RingSearch.{Asked, asked, is_met, met_both, met_early, met_other, met_elsewhere, sought_first, sought_within, sought_found, sought_next, sought_end}
+use Rattle.sms_join.proofs.RingSearch.{asked, is_met, met_both, met_early, met_other, met_elsewhere, sought_first, sought_within, sought_found, sought_next, sought_end}
 use Rattle.sms_join.proofs.key_ring.KeyRing.contains_hashed.Goals.{then-index-hash+else-found, else-found-via-then-found+else-came_after-last, else-found-via-else-found, else-index-hash}
 use Rattle.sms_join.proofs.key_ring.KeyRing.contains_hashed.Goals as goal
 

@@ -1,4 +1,4 @@
-use Rattle.std.proofs.Common.{◌≡◌, ◌∷◌, ◌∙◌, [], List, None, Option, Some, MatchOption, refl, sym, ap, subst}
+use Rattle.std.proofs.Common.{◌≡◌, ◌∷◌, ◌∙◌, [], List, None, Option, Some, MatchOption, sym, ap}
 use Rattle.sms_join.specs.OpenSets.{SetValue}
 use Rattle.sms_join.specs.OpenSets.Told.{first_from}
 use Rattle.sms_join.specs.Inside.Slots.{sets_of}
