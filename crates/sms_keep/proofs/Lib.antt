@@ -15,3 +15,4 @@ mod PlainNames
 mod PlainAddress
 mod AddressBack
 mod TelephonesRead
+mod TelephonesWritten
