@@ -16,3 +16,4 @@ mod PlainAddress
 mod AddressBack
 mod Rooms
 mod TelephonesRead
+mod TelephonesWritten

@@ -12,14 +12,15 @@ ghost use Rattle.sms_keep.specs.Inside.Saving.{KeyIsSound};
 ghost use Rattle.sms_keep.specs.Inside.Restoring.{IsAddressOf, IsKeyOf};
 
 use crate::plain::is_plain;
+use crate::telephone_octets::octets_of_digits;
 use crate::telephones::telephone_from;
-use sms_field::{Address, Stamp, address_laws};
+use sms_field::{Address, Stamp, Symbols, address_laws};
 use sms_join::Key;
 use sms_saved::{AddressOctets, Key as SavedKey, KeyView, Message, Width as SavedWidth};
 use sms_tpdu::Width;
 use std::alloc::{AllocError, Global};
 
-/// The octets of an address, which are written in this room.
+/// The octets of an address. Those of a name are written in this room.
 fn octets_of(room: &mut Vec<u8>, address: &Address) -> Result<AddressOctets, AllocError>
     ensures value { IfOk result (λ octets. octets ≡ address_octets address.now) }
     ensures spelled { HasSpelling address.now }
@@ -27,6 +28,10 @@ fn octets_of(room: &mut Vec<u8>, address: &Address) -> Result<AddressOctets, All
 {
     address_laws();
     let _kind = address.type_of_number;
+    if let Symbols::Digits(digits) = &address.symbols {
+        let octets = octets_of_digits(address.type_of_number, address.plan, digits);
+        return Ok(octets);
+    }
     room.clear();
     address.write_to(room)?;
     match AddressOctets::new(room) {
@@ -90,7 +95,7 @@ fn message_of(key: &Key) -> Message
     }
 }
 
-/// The key, whose addresses are written in this room, one after the other.
+/// The key. Those of its addresses that are names are written in this room, one after the other.
 pub(crate) fn key_of(room: &mut Vec<u8>, key: &Key) -> Result<SavedKey, AllocError>
     ensures value { IfOk result (λ saved. saved ≡ saved_key key.now) }
     ensures sound { OnOk result (KeyIsSound key.now) }

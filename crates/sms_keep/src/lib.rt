@@ -12,6 +12,7 @@ mod restoring;
 mod saving;
 mod sets;
 mod sets_back;
+mod telephone_octets;
 mod telephones;
 
 pub use fault::{Fault, HeldFault, ReadFault};

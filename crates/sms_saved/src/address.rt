@@ -48,6 +48,15 @@ impl AddressOctets {
         Some(AddressOctets::of(octets))
     }
 
+    /// The octets at the front of this room, as many as are counted.
+    #[inline(always)]
+    pub fn in_room(octets: [u8; ADDRESS_MAX], count: u8) -> AddressOctets
+        requires { count ≤ ADDRESS_MAX }
+        ensures { result ≡ take count octets }
+    {
+        AddressOctets { octets, count }
+    }
+
     /// These octets, of which there are few enough.
     pub(crate) fn of(octets: &[u8]) -> AddressOctets
         requires { length octets.now ≤ ADDRESS_MAX }
