@@ -102,8 +102,8 @@ fn hold(
 
 /// The joiner with these limits that holds what the octets spell, all of them, and how many lines
 /// of its input were taken before (docs/SAVED.md). Its tables hash with the seed, if there is one;
-/// it does not show. Room is asked for no more entries than the octets can hold, whatever the counts
-/// say.
+/// it does not show. Room is asked for no more entries than the octets can hold, whatever the
+/// counts say.
 pub fn read(
     alloc: Global,
     seed: Option<u128>,

@@ -22,8 +22,8 @@ use crate::state::{Limits, State};
 use std::alloc::Global;
 
 /// The state of a joiner with these limits that the octets spell, all of them. Room is asked for no
-/// more entries than the octets can hold, whatever the counts say. Keys are hashed with the seed, so
-/// that no sender can pick keys that take long to tell apart; it does not show.
+/// more entries than the octets can hold, whatever the counts say. Keys are hashed with the seed,
+/// so that no sender can pick keys that take long to tell apart; it does not show.
 pub fn read(alloc: Global, seed: u128, limits: Limits, octets: &[u8]) -> Result<State, ReadFault>
     // What is read is spelled so, and is of a joiner with these limits.
     ensures found { IfOk result (λ s. StateFits (view s) × ((view s).limits ≡ limits)

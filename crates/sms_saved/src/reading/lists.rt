@@ -14,8 +14,8 @@ use crate::seen::Seen;
 use crate::state::{OpenSet, Remembered};
 use std::alloc::Global;
 
-/// How many octets an open set takes at least: its key 6, its moment and the number of its opening 8
-/// each, one place 1 and another 9 (docs/SAVED.md).
+/// How many octets an open set takes at least: its key 6, its moment and the number of its opening
+/// 8 each, one place 1 and another 9 (docs/SAVED.md).
 const SET_MIN: usize = 32;
 
 /// Notes a key that is new. The fault is told of the octets from which it was read on.
@@ -54,7 +54,8 @@ fn note_set<'a>(
     Ok(opening + 1)
 }
 
-/// So many open sets, whose keys are noted. Room is made once, for no more than these octets can be.
+/// So many open sets, whose keys are noted. Room is made once, for no more than these octets can
+/// be.
 fn sets_of<'a>(
     alloc: Global,
     next: u64,
