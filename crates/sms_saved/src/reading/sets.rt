@@ -18,11 +18,15 @@ use crate::reading::keys::{key_of, key_view_of};
 use crate::state::{Message, OpenSet, Remembered, Units};
 use std::alloc::Global;
 
-/// Whether all are septets.
+/// Whether all are septets. None is left out, so that many are looked at together.
 fn are_septets(octets: &[u8]) -> bool
     ensures { result ≡ are_septets octets.now }
 {
-    octets.iter().all(|n| *n < 128)
+    let mut are = true;
+    for octet in octets {
+        are &= *octet < 128;
+    }
+    are
 }
 
 /// Septets, one an octet.
