@@ -1,6 +1,7 @@
 mod SeenKeys
 mod TakenFields
 mod Numbers
+mod Placed
 mod Strings
 mod Items
 mod Keys

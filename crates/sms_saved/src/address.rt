@@ -1,6 +1,7 @@
 //! The octets of an address.
 
-ghost use Rattle.std.specs.Prelude.{◌≡◌, ◌≤◌, ◌↔◌, length, take, IsSome, IfSome};
+ghost use Rattle.std.specs.Prelude.{◌≡◌, ◌+◌, ◌≤◌, ◌↔◌, length, take, IsSome, IfSome};
+ghost use Rattle.sms_saved.specs.Spelling.{address};
 
 use std::fmt::{self, Debug, Formatter};
 use std::marker::Model;
@@ -68,6 +69,17 @@ impl AddressOctets {
             octets: room,
             count: octets.len() as u8,
         }
+    }
+
+    /// How many octets there are, and these, at the front of a room.
+    #[inline(always)]
+    pub(crate) fn spelled(&self) -> [u8; ADDRESS_MAX + 1]
+        ensures { take (1 + length self.now) result ≡ address self.now }
+    {
+        let mut room = [0; ADDRESS_MAX + 1];
+        room[0] = self.count;
+        room[1..].copy_from_slice(&self.octets);
+        room
     }
 
     /// The octets.

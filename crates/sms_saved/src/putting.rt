@@ -1,6 +1,6 @@
 //! Fields as octets.
 
-ghost use Rattle.std.specs.Prelude.{◌≡◌, ◌++◌, OnOk};
+ghost use Rattle.std.specs.Prelude.{◌≡◌, ◌+◌, ◌≤◌, ◌++◌, length, take, OnOk};
 ghost use Rattle.sms_saved.specs.Spelling.{octet, two, eight, string, counted, optional, flag, limits, address, message, form_of, key, place, numbers};
 ghost use Rattle.sms_saved.specs.Views.{seen_place};
 
@@ -8,6 +8,9 @@ use crate::address::AddressOctets;
 use crate::state::{Key, Limits, Message, Width};
 use crate::views::UnitsView;
 use std::alloc::AllocError;
+
+/// The most octets of a key and a moment.
+const KEY_MAX: usize = 43;
 
 /// A number in eight octets.
 #[tactic(auto, unfolding(crate::specs::Spelling::eight))]
@@ -61,28 +64,48 @@ pub(crate) fn put_limits(out: &mut Vec<u8>, own: Limits) -> Result<(), AllocErro
     Ok(())
 }
 
-/// An address.
-fn put_address(out: &mut Vec<u8>, own: &AddressOctets) -> Result<(), AllocError>
-    ensures { OnOk result (out.new.items ≡ out.old.items ++ address own.now) }
+/// Octets in a room behind those that are done, and how many are done then. All of them are
+/// copied, since a copy of a known size takes the fewest steps: what comes next lies over those
+/// that do not count.
+#[inline(always)]
+fn put_behind<const N: usize>(room: &mut [u8], done: usize, octets: &[u8; N], count: usize) -> usize
+    requires room { done + N ≤ length room.old }
+    requires few { count ≤ N }
+    ensures done { result ≡ done + count }
+    ensures put { take result room.new ≡ take done room.old ++ take count octets.now }
+    ensures size { length room.new ≡ length room.old }
 {
-    let octets = own.as_slice();
-    out.push(octets.len() as u8)?;
-    out.extend_from_slice(octets)?;
-    Ok(())
+    room[done..done + N].copy_from_slice(octets);
+    done + count
+}
+
+/// An address.
+#[inline(always)]
+fn put_address(room: &mut [u8], done: usize, own: &AddressOctets) -> usize
+    requires { done + 13 ≤ length room.old }
+    ensures few { result ≤ done + 13 }
+    ensures put { take result room.new ≡ take done room.old ++ address own.now }
+    ensures size { length room.new ≡ length room.old }
+{
+    let count = 1 + own.as_slice().len();
+    put_behind(room, done, &own.spelled(), count)
 }
 
 /// A recipient, or none.
-fn put_recipient(out: &mut Vec<u8>, own: &Option<AddressOctets>) -> Result<(), AllocError>
-    ensures { OnOk result (out.new.items ≡ out.old.items ++ optional address own.now) }
+#[inline(always)]
+fn put_recipient(room: &mut [u8], done: usize, own: &Option<AddressOctets>) -> usize
+    requires { done + 14 ≤ length room.old }
+    ensures few { result ≤ done + 14 }
+    ensures put { take result room.new ≡ take done room.old ++ optional address own.now }
+    ensures size { length room.new ≡ length room.old }
 {
     match own {
-        None => out.push(0)?,
+        None => put_behind(room, done, &[0], 1),
         Some(octets) => {
-            out.push(1)?;
-            put_address(out, octets)?;
+            let told = put_behind(room, done, &[1], 1);
+            put_address(room, told, octets)
         }
     }
-    Ok(())
 }
 
 /// The octet that says the form of a key in segments.
@@ -96,35 +119,56 @@ fn form_of(width: Width) -> u8
 }
 
 /// Which message it is.
-fn put_message(out: &mut Vec<u8>, own: Message) -> Result<(), AllocError>
-    ensures { OnOk result (out.new.items ≡ out.old.items ++ message own) }
+#[inline(always)]
+#[tactic(auto, unfolding(crate::specs::Spelling::two))]
+fn put_message(room: &mut [u8], done: usize, own: Message) -> usize
+    requires { done + 8 ≤ length room.old }
+    ensures few { result ≤ done + 8 }
+    ensures put { take result room.new ≡ take done room.old ++ message own }
+    ensures size { length room.new ≡ length room.old }
 {
     match own {
         Message::Single { stamp } => {
-            out.push(0)?;
-            out.extend_from_slice(&stamp)?;
+            let mut octets = [0; 8];
+            octets[1..].copy_from_slice(&stamp);
+            put_behind(room, done, &octets, 8)
         }
         Message::Segmented {
             width,
             reference,
             maximum,
         } => {
-            out.push(form_of(width))?;
-            put_u16(out, reference)?;
-            out.push(maximum)?;
+            let [high, low] = reference.to_be_bytes();
+            put_behind(room, done, &[form_of(width), high, low, maximum], 4)
         }
     }
-    Ok(())
 }
 
-/// A key.
-#[tactic(auto, unfolding(crate::specs::Spelling::key))]
-pub(crate) fn put_key(out: &mut Vec<u8>, own: &Key) -> Result<(), AllocError>
-    ensures { OnOk result (out.new.items ≡ out.old.items ++ key own.now) }
+/// A key and a moment, at the front of a room. How many octets they are.
+#[inline(always)]
+#[tactic(auto, unfolding(crate::specs::Spelling::key, crate::specs::Spelling::eight))]
+fn spell_key(room: &mut [u8], own: &Key, moment: u64) -> usize
+    requires { KEY_MAX ≤ length room.old }
+    ensures few { result ≤ KEY_MAX }
+    ensures spelled { take result room.new ≡ key own.now ++ eight moment }
+    ensures size { length room.new ≡ length room.old }
 {
-    put_address(out, &own.origin)?;
-    put_recipient(out, &own.recipient)?;
-    put_message(out, own.message)?;
+    let origin = put_address(room, 0, &own.origin);
+    let recipient = put_recipient(room, origin, &own.recipient);
+    let message = put_message(room, recipient, own.message);
+    put_behind(room, message, &moment.to_be_bytes(), 8)
+}
+
+/// A key and a moment. What a short key leaves of the room is taken back, and is needed anyway: at
+/// least the 32 octets of the checksum follow.
+#[inline(always)]
+pub(crate) fn put_key(out: &mut Vec<u8>, own: &Key, moment: u64) -> Result<(), AllocError>
+    ensures { OnOk result (out.new.items ≡ out.old.items ++ (key own.now ++ eight moment)) }
+{
+    let start = out.len();
+    out.extend_from_slice(&[0; KEY_MAX])?;
+    let count = spell_key(&mut out[start..], own, moment);
+    out.truncate(start + count);
     Ok(())
 }
 

@@ -59,8 +59,7 @@ impl Writer {
         ensures { OnOk result (self.new
             ≡ self.old ++ front_of_set key.now moment opening) }
     {
-        put_key(&mut self.octets, key)?;
-        put_u64(&mut self.octets, moment)?;
+        put_key(&mut self.octets, key, moment)?;
         put_u64(&mut self.octets, opening)
     }
 
@@ -79,12 +78,12 @@ impl Writer {
     }
 
     /// A remembered key, and when its message finished.
+    #[inline(always)]
     pub fn put_key(&mut self, key: &Key, moment: u64) -> Result<(), AllocError>
         ensures { OnOk result (self.new
             ≡ self.old ++ remembered (record { key = key.now; moment = moment })) }
     {
-        put_key(&mut self.octets, key)?;
-        put_u64(&mut self.octets, moment)
+        put_key(&mut self.octets, key, moment)
     }
 
     /// How many octets there are with the checksum at their end.
