@@ -36,6 +36,7 @@ pub mod RingPlaces
 pub mod RingChains
 pub mod RingTurns
 pub mod RingKeys
+pub mod LooseSearch
 pub mod RingSearch
 pub mod RingUnlinked
 pub mod RingPushed

@@ -4,8 +4,10 @@ pub mod KeyParts
 pub mod KeyRings
 pub mod KeyTags
 pub mod LastKeys
+pub mod LooseKeys
 pub mod MostSets
 pub mod Remembered
+pub mod Gathered
 pub mod SegmentsAt
 pub mod WrittenAt
 pub mod Slots

@@ -1,6 +1,7 @@
 //! A joiner of segments for many recipients.
 
 mod putting_back;
+mod recalling;
 
 ghost use Rattle.std.specs.Prelude.{◌≡◌, ℕ, ◌<◌, ◌≤◌, ◌-◌, ◌^◌, [], length, option_copied, true, IfOk, OnOk, OnErr};
 ghost use Rattle.sms_join.specs.declared.units.Units.{Units as TheUnits};
@@ -20,6 +21,7 @@ ghost use Rattle.sms_join.specs.OpenSets.Told.{first_from, old_after, young_afte
 
 use crate::age::Age;
 use crate::finishings::{forget_by, note_answer};
+pub use crate::gateway::recalling::Recalling;
 use crate::gateway_limits::{Alone, GatewayLimits};
 use crate::hashing::Hashing;
 use crate::keeper::Keeper;

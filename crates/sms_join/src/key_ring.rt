@@ -1,5 +1,7 @@
 //! Keys in a ring, and chains of the places of those that share a head.
 
+mod loose_keys;
+
 ghost use Rattle.std.specs.Prelude.{◌≡◌, ◌+◌, ◌-◌, ◌<◌, ◌≤◌, ◌^◌, ◌==◌, true, false, not, [], ◌∷◌, take, if◌then◌else◌, IfOk, bit_and, length, replicate, option_copied, slice_set, slice_index, slice_index_or, slice_get};
 ghost use Rattle.sms_join.specs.Joiner.{is_among};
 ghost use Rattle.sms_join.specs.Piece.{key_to};
@@ -10,6 +12,7 @@ ghost use Rattle.sms_join.specs.Inside.KeyRings as rings;
 use crate::hashing::Hashing;
 use crate::key::Key;
 use crate::key_hash::{hash_of, key_hash};
+pub(crate) use crate::key_ring::loose_keys::LooseKeys;
 use circular_buffer::HeapCircularBuffer;
 use sms_field::{Address, Stamp};
 use sms_tpdu::Concat;

@@ -1,5 +1,7 @@
 //! The keys of the last sets that finished.
 
+mod gathered_keys;
+
 ghost use Rattle.std.specs.Prelude.{◌≡◌, ◌<◌, true, false, not, [], ◌∷◌, take, slice_get, option_copied, IfOk};
 ghost use Rattle.sms_join.specs.Inside.Remembered.{last_keys};
 ghost use Rattle.sms_join.specs.Joiner.{is_among};
@@ -9,6 +11,7 @@ use crate::hashing::Hashing;
 use crate::key::Key;
 use crate::key_ring::{KeyRing, PLACES_MAX};
 use crate::key_row::KeyRow;
+pub(crate) use crate::last_keys::gathered_keys::GatheredKeys;
 use sms_field::{Address, Stamp};
 use sms_tpdu::Concat;
 use std::alloc::{AllocError, Global};
@@ -28,6 +31,18 @@ pub(crate) enum Remembered {
 }
 
 impl Remembered {
+    /// None, with room for the limit.
+    fn new(alloc: Global, limit: usize, hashing: Hashing) -> Result<Remembered, AllocError>
+        requires { 0 < limit }
+        ensures { IfOk result (λ keys. last_keys keys ≡ record { limit = limit; keys = [] }) }
+    {
+        if limit <= FEW_KEYS || limit > PLACES_MAX {
+            Ok(Remembered::Few(KeyRow::new(alloc, limit)?))
+        } else {
+            Ok(Remembered::Many(KeyRing::new(alloc, limit, hashing)?))
+        }
+    }
+
     /// Whether the key of such a message or segment is among the last so many.
     fn contains(
         &self,
@@ -123,13 +138,8 @@ impl LastKeys {
         requires { 0 < limit }
         ensures { IfOk result (λ keys. keys ≡ record { limit = limit; keys = [] }) }
     {
-        let keys = if limit <= FEW_KEYS || limit > PLACES_MAX {
-            Remembered::Few(KeyRow::new(alloc, limit)?)
-        } else {
-            Remembered::Many(KeyRing::new(alloc, limit, hashing)?)
-        };
         Ok(LastKeys {
-            keys,
+            keys: Remembered::new(alloc, limit, hashing)?,
             limit,
             count: 0,
         })

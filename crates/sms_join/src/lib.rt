@@ -39,7 +39,7 @@ mod wide;
 mod written;
 
 pub use cut::{SEGMENTS_MAX, SplitFault, cut_text, split};
-pub use gateway::{Gateway, RememberedKey};
+pub use gateway::{Gateway, Recalling, RememberedKey};
 pub use gateway_limits::{Alone, GatewayLimits};
 pub use joiner::Joiner;
 pub use key::Key;

@@ -24,6 +24,8 @@ mod put_back;
 #[cfg(test)]
 mod reading;
 #[cfg(test)]
+mod recalling;
+#[cfg(test)]
 mod remembered;
 #[cfg(test)]
 mod room;

@@ -7,7 +7,7 @@ use Rattle.std.specs.List.{AllByRecursion, flat_map}
 use Rattle.std.specs.Str.{bytes_eq}
 use Rattle.sms_join.specs.declared.key.Key.{Key}
 use Rattle.sms_join.specs.Joiner.{is_among as is_remembered}
-use Rattle.sms_join.specs.OpenSets.{SetValue, AreOpen, has_set}
+use Rattle.sms_join.specs.OpenSets.{AreOpen}
 use Rattle.sms_join.specs.Gateway.Distinct.{AreDistinct}
 use Rattle.sms_join.specs.Gateway.Finishings.{not_before, Fall}
 use Rattle.sms_join.specs.Gateway.Value.{GatewayValue}
@@ -27,7 +27,7 @@ use Rattle.sms_keep.specs.Inside.Saving.{KeyIsSound}
 use Rattle.sms_keep.specs.Inside.SetsBack.{SetsAreNew, ArePut}
 use Rattle.sms_keep.proofs.SameKeys.{bytes_true}
 use Rattle.sms_keep.proofs.Distinct.{HaveOwnOctets, Distinct, AreDisjoint, apart_from, among_finished, finished_distinct}
-use Rattle.sms_keep.proofs.KeysBack.{all_more, last_more, in_time_more, one_more_key, saved_has}
+use Rattle.sms_keep.proofs.KeysBack.{many_finishings, all_more, last_more, in_time_more, one_more_key, saved_has}
 
 -- ---- the loop over the keys
 
@@ -57,8 +57,12 @@ none_going g octets h =
       limits = refl;
     }
 
-pub going_closed : (old g : GatewayValue) (octets : List ℕ) (i : ℕ) (rest : List ℕ) (last : ℕ) (k : Key) → Going old g octets i rest last → has_set g.told k ≡ false
-going_closed old g octets i rest last k was = ap (λ (ts : List SetValue). has_set ts k) was.remembers.told
+-- there is room for one more
+pub going_room : (old g : GatewayValue) (octets : List ℕ) (i : ℕ) (rest : List ℕ) (last : ℕ) → Going old g octets i rest last → i < old.limits.remembered → length g.holds.finished < g.limits.remembered
+going_room old g octets i rest last was few =
+    let as_many = many_finishings g.holds.finished g.finishings was.remembers.moments in
+    let limit : g.limits.remembered ≡ old.limits.remembered = ap (λ x. x.remembered) was.limits in
+    omega (arith, as_many, ap (λ (l : List SavedFinishing). length l) was.remembers.keys, was.count_is, limit, few)
 
 one_flat : (r : SavedFinishing) → flat_map remembered (r ∷ []) ≡ remembered r
 one_flat r = flat_map-cons remembered r [] ∙ append-nil (remembered r)

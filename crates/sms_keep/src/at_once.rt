@@ -1,4 +1,4 @@
-//! A state that is held as it is read: each remembered key is looked up once, where it is put.
+//! A state that is held as it is read: each remembered key goes from its octets to its place.
 
 ghost use Rattle.std.specs.Prelude.{◌≡◌, ◌≤◌, [], drop, IfOk, IfSome};
 ghost use Rattle.std.specs.Str.{bytes_eq};
@@ -8,31 +8,28 @@ ghost use Rattle.sms_keep.specs.Inside.AtOnce.{AreTaken, IsReadAs};
 ghost use Rattle.sms_keep.specs.Inside.Restoring.{Remembers};
 
 use crate::keys::key_in;
-use crate::restoring::{Restored, new_gateway};
+use crate::restoring::Restored;
 use crate::sets_back::put_sets_back;
-use sms_join::{Gateway, GatewayLimits};
+use sms_join::{GatewayLimits, Recalling};
 use sms_saved::laws::{keys_have_own_octets, parts_make_a_state};
 use sms_saved::{Limits, is_sealed, read_front, read_remembered};
 use std::alloc::{AllocError, Global};
 
-/// How many octets a remembered key takes at least (docs/SAVED.md).
-const KEY_MIN: usize = 14;
-
 /// Remembers so many keys from the front of the octets, in a joiner that holds nothing, and hands
-/// on the octets after them; none where one of them cannot be remembered.
+/// on the octets after them; none where one of them cannot be remembered. Whether one comes twice
+/// is not told.
 fn take_keys<'a>(
     alloc: Global,
-    gateway: &mut Gateway,
+    recalling: &mut Recalling,
     count: u64,
     octets: &'a [u8],
 ) -> Result<Option<&'a [u8]>, AllocError>
-    requires none { Remembers gateway.old [] }
-    requires few { count ≤ gateway.old.limits.remembered }
+    requires none { Remembers recalling.old [] }
+    requires few { count ≤ recalling.old.limits.remembered }
     ensures taken { IfOk result (λ behind. IfSome behind
-        (λ rest. AreTaken gateway.new count octets.now rest.now)) }
-    ensures limits { gateway.new.limits ≡ gateway.old.limits }
+        (λ rest. AreTaken recalling.new count octets.now rest.now)) }
+    ensures limits { recalling.new.limits ≡ recalling.old.limits }
 {
-    gateway.expect((count as usize).min(octets.len() / KEY_MIN));
     let mut rest = octets;
     let mut last = 0;
     for _ in 0..count {
@@ -42,9 +39,10 @@ fn take_keys<'a>(
         let Some(key) = key_in(alloc, own.key)? else {
             return Ok(None);
         };
-        if own.moment < last || !gateway.remember_new(key, own.moment) {
+        if own.moment < last {
             return Ok(None);
         }
+        recalling.remember(key, own.moment);
         last = own.moment;
         rest = after;
     }
@@ -76,13 +74,16 @@ pub(crate) fn read_at_once(
     let Some(front) = read_front(alloc, seed.unwrap_or(0), own, octets)? else {
         return Ok(None);
     };
-    let mut gateway = new_gateway(alloc, seed, limits)?;
-    let Some(rest) = take_keys(alloc, &mut gateway, front.count, front.rest)? else {
+    let mut recalling = Recalling::new(alloc, limits, seed)?;
+    let Some(rest) = take_keys(alloc, &mut recalling, front.count, front.rest)? else {
         return Ok(None);
     };
     if !are_last(octets, rest) || !is_sealed(octets) {
         return Ok(None);
     }
+    let Some(mut gateway) = recalling.end() else {
+        return Ok(None);
+    };
     let _remembered = gateway.remembered_count();
     let taken = front.taken;
     if !put_sets_back(alloc, &mut gateway, front.sets)? {

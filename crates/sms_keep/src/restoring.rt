@@ -64,7 +64,7 @@ fn check_sets(alloc: Global, state: &State) -> Result<(), ReadFault>
 }
 
 /// A joiner that holds nothing, whose tables hash with the seed, if there is one.
-pub(crate) fn new_gateway(
+fn new_gateway(
     alloc: Global,
     seed: Option<u128>,
     limits: GatewayLimits,

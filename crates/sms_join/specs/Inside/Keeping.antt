@@ -1,7 +1,7 @@
 -- A reader may pass this by: contracts of private functions, and proofs, alone cite it.
 --
 -- What a joiner holds, where its open sets stand in the order of their table, and in that of opening.
-use Rattle.std.specs.Prelude.{◌≡◌, ℕ, ◌≤◌, true, List, ◌∷◌, Option, length, take}
+use Rattle.std.specs.Prelude.{◌≡◌, ℕ, ◌≤◌, true, List, [], ◌∷◌, Option, length, take}
 use Rattle.sms_field.specs.Address.Value.{AddressValue}
 use Rattle.sms_join.specs.declared.key.Key.{Key}
 use Rattle.sms_join.specs.Key.{recipient_of}
@@ -9,6 +9,7 @@ use Rattle.sms_join.specs.Piece.{Piece}
 use Rattle.sms_join.specs.Joiner.Sets.{is_open}
 use Rattle.sms_join.specs.Joiner.Value.{JoinerValue}
 use Rattle.sms_join.specs.OpenSets.{AreOpen, all_pieces}
+use Rattle.sms_join.specs.Inside.LastKeys.{LastKeysValue}
 use Rattle.sms_join.specs.Inside.Turns.{HaveTurns, arranged}
 
 -- The pieces are those of the sets, which are open and were opened one after another.
@@ -37,6 +38,16 @@ with_key v key =
       remembered = v.remembered;
       holds = record { kept = v.holds.kept; finished = take v.remembered (key ∷ v.holds.finished) };
       told = v.told;
+    }
+
+-- One that has no set, and remembers these keys.
+abbrev pub with_keys : ℕ → LastKeysValue → JoinerValue
+with_keys open_max keys =
+    record {
+      open_max = open_max;
+      remembered = keys.limit;
+      holds = record { kept = []; finished = keys.keys };
+      told = [];
     }
 
 -- Each set of these pieces is of this recipient, or of none.

@@ -6,15 +6,35 @@ ghost use Rattle.sms_join.specs.Joiner.{is_among};
 ghost use Rattle.sms_join.specs.Joiner.Value.{SameLimits};
 ghost use Rattle.sms_join.specs.OpenSets.{has_set};
 ghost use Rattle.sms_join.specs.OpenSets.Places.{filled, set_by};
-ghost use Rattle.sms_join.specs.Inside.Keeping.{with_key};
+ghost use Rattle.sms_join.specs.Inside.Keeping.{with_key, with_keys};
 ghost use Rattle.sms_join.specs.Inside.Turns.{arranged};
 
+use crate::hashing::Hashing;
 use crate::keeper::Keeper;
 use crate::key::Key;
+use crate::last_keys::LastKeys;
+use crate::open_sets::OpenSets;
 use crate::units::Units;
-use std::alloc::AllocError;
+use std::alloc::{AllocError, Global};
 
 impl Keeper {
+    /// No open sets, in a table that hashes so, and these keys.
+    pub(crate) fn with_keys(
+        alloc: Global,
+        open_max: usize,
+        hashing: Hashing,
+        finished: LastKeys,
+    ) -> Keeper
+        ensures { result ≡ with_keys open_max finished }
+    {
+        Keeper {
+            alloc,
+            open_max,
+            sets: OpenSets::new(alloc, hashing),
+            finished,
+        }
+    }
+
     /// How many sets may be open.
     pub(crate) fn open_max(&self) -> usize
         ensures { result ≡ self.now.open_max }

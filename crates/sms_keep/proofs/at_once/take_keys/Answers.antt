@@ -2,7 +2,7 @@ use Rattle.std.proofs.Common.{refl, arith}
 use Rattle.sms_saved.specs.Views.{seen_key, seen_remembered}
 use Rattle.sms_keep.specs.Inside.AtOnce.{IsNext}
 use Rattle.sms_keep.specs.Inside.Restoring.{IsSavedAs}
-use Rattle.sms_keep.proofs.AtOnce.{one_going}
+use Rattle.sms_keep.proofs.AtOnce.{going_room, one_going}
 use Rattle.sms_keep.proofs.at_once.take_keys.Goals as goal
 
 pub loop-preserved : goal.loop-preserved
@@ -17,5 +17,10 @@ loop-preserved c =
       fits = c.in-Some.ensures.found.1;
       can = record { key = key; in_time = c.if-own-last.false };
     } in
-    one_going c.args.gateway.now c.loop.gateway c.remember_new.new.self c.args.octets.now c.loop.counter c.loop.rest.now c.loop.last c.in-Some-2.key own.moment c.in-Some.after.now
-    c.loop.invariant next (omega (arith, c.loop-test.true, c.requires.few)) (c.remember_new.ensures.remembered c.if-not-remember_new.false)
+    one_going c.args.recalling.now c.loop.recalling c.remember.new.self c.args.octets.now c.loop.counter c.loop.rest.now c.loop.last c.in-Some-2.key own.moment c.in-Some.after.now
+    c.loop.invariant next (omega (arith, c.loop-test.true, c.requires.few)) c.remember.ensures
+
+pub remember-requires : goal.remember-requires
+remember-requires c =
+    going_room c.args.recalling.now c.loop.recalling c.args.octets.now c.loop.counter c.loop.rest.now c.loop.last c.loop.invariant
+    (omega (arith, c.loop-test.true, c.requires.few))
