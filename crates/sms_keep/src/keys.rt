@@ -20,18 +20,15 @@ use sms_saved::{AddressOctets, Key as SavedKey, KeyView, Message, Width as Saved
 use sms_tpdu::Width;
 use std::alloc::{AllocError, Global};
 
-/// The octets of an address. Those of a name are written in this room.
-fn octets_of(room: &mut Vec<u8>, address: &Address) -> Result<AddressOctets, AllocError>
+/// The octets of an address, be it of digits or a name. They are written in this room.
+#[inline(never)]
+fn written_octets(room: &mut Vec<u8>, address: &Address) -> Result<AddressOctets, AllocError>
     ensures value { IfOk result (λ octets. octets ≡ address_octets address.now) }
     ensures spelled { HasSpelling address.now }
     ensures few { AddressFits (address_octets address.now) }
 {
     address_laws();
     let _kind = address.type_of_number;
-    if let Symbols::Digits(digits) = &address.symbols {
-        let octets = octets_of_digits(address.type_of_number, address.plan, digits);
-        return Ok(octets);
-    }
     room.clear();
     address.write_to(room)?;
     match AddressOctets::new(room) {
@@ -40,7 +37,26 @@ fn octets_of(room: &mut Vec<u8>, address: &Address) -> Result<AddressOctets, All
     }
 }
 
+/// The octets of an address. Those of a name are written in this room.
+#[inline(always)]
+fn octets_of(room: &mut Vec<u8>, address: &Address) -> Result<AddressOctets, AllocError>
+    ensures value { IfOk result (λ octets. octets ≡ address_octets address.now) }
+    ensures spelled { HasSpelling address.now }
+    ensures few { AddressFits (address_octets address.now) }
+{
+    address_laws();
+    let _kind = address.type_of_number;
+    match &address.symbols {
+        Symbols::Digits(digits) => {
+            let octets = octets_of_digits(address.type_of_number, address.plan, digits);
+            Ok(octets)
+        }
+        Symbols::Name(_) => written_octets(room, address),
+    }
+}
+
 /// The octets of a recipient, or none.
+#[inline(always)]
 fn recipient_octets(
     room: &mut Vec<u8>,
     recipient: Option<&Address>,
@@ -68,6 +84,7 @@ fn width_of(width: Width) -> SavedWidth
 }
 
 /// Which message of a sender it is.
+#[inline(always)]
 fn message_of(key: &Key) -> Message
     ensures value { result ≡ saved_message key.now }
     ensures fits { MessageFits (saved_message key.now) }
@@ -96,6 +113,7 @@ fn message_of(key: &Key) -> Message
 }
 
 /// The key. Those of its addresses that are names are written in this room, one after the other.
+#[inline(always)]
 pub(crate) fn key_of(room: &mut Vec<u8>, key: &Key) -> Result<SavedKey, AllocError>
     ensures value { IfOk result (λ saved. saved ≡ saved_key key.now) }
     ensures sound { OnOk result (KeyIsSound key.now) }
@@ -109,7 +127,10 @@ pub(crate) fn key_of(room: &mut Vec<u8>, key: &Key) -> Result<SavedKey, AllocErr
     })
 }
 
-/// The address that is written as these octets, be it of digits or a name.
+/// The address that is written as these octets, be it of digits or a name. Few are asked for here,
+/// so the way of the others is laid out without it.
+#[cold]
+#[inline(never)]
 fn any_address_from(alloc: Global, octets: &[u8]) -> Result<Option<Address>, AllocError>
     ensures { IfOk result (IsAddressOf octets.now) }
 {

@@ -52,6 +52,7 @@ fn next_of(sets: ToldSets<'_>) -> Result<u64, AllocError>
 }
 
 /// The key of a message, and the moment at which it finished.
+#[inline(always)]
 fn put_finished(
     room: &mut Vec<u8>,
     writer: &mut Writer,
