@@ -154,6 +154,15 @@ static int restore_one(size_t turn)
            taken == REMEMBERED;
 }
 
+/* And written again. */
+static int save_one(size_t turn)
+{
+    if (turn == 0 && !restore_one(turn))
+        return 0;
+    return sms_gateway_save(&gateway, REMEMBERED, state, sizeof state, &needed) == SMS_OK &&
+           needed == state_size;
+}
+
 static int make_gateway(void)
 {
     limits.has_seed = 1;
@@ -173,7 +182,7 @@ static const struct {
     int (*make)(size_t turn);
 } CALLS[] = {
     {"read", read_one},   {"text", text_of_one}, {"write", write_one},     {"split", split_one},
-    {"offer", offer_one}, {"serve", serve_one},  {"restore", restore_one},
+    {"offer", offer_one}, {"serve", serve_one},  {"restore", restore_one}, {"save", save_one},
 };
 
 static int make_calls(int (*make)(size_t turn), size_t times)
