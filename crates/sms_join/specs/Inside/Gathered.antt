@@ -13,5 +13,6 @@ gathered_keys (Many keys) = record { limit = keys.limit; keys = reverse keys.key
 
 -- Of few keys it is known whether one came twice; of many none is linked.
 abbrev pub AreGathered : Gathered → Type 0
-AreGathered (Few row none_twice) = MatchBool none_twice (NoneTwice row.keys) (NoneTwice row.keys → ⊥)
+AreGathered (Few row none_twice) =
+    MatchBool none_twice (NoneTwice row.keys) (NoneTwice row.keys → ⊥)
 AreGathered (Many keys) = keys.linked ≡ 0

@@ -192,11 +192,12 @@ impl LooseKeys {
     /// The ring in which the keys are found, unless one of them is there twice.
     pub(crate) fn link(mut self) -> Option<KeyRing>
         requires { self.linked ≡ 0 }
-        ensures { MatchOption result (NoneTwice (reverse self.keys) → ⊥) (λ ring. (ring ≡ record {
-          limit = self.limit;
-          keys = reverse self.keys;
-          hashing = self.hashing;
-        }) × NoneTwice (reverse self.keys)) }
+        ensures { MatchOption result (NoneTwice (reverse self.keys) → ⊥)
+            (λ ring. (ring ≡ record {
+              limit = self.limit;
+              keys = reverse self.keys;
+              hashing = self.hashing;
+            }) × NoneTwice (reverse self.keys)) }
     {
         if !self.link_all() {
             return None;

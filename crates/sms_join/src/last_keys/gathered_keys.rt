@@ -26,7 +26,10 @@ impl Gathered {
     /// No keys, in the room of what remembers none.
     fn of(keys: Remembered) -> Gathered
         requires { (last_keys keys).keys ≡ [] }
-        ensures none { gathered_keys result ≡ record { limit = (last_keys keys).limit; keys = [] } }
+        ensures none { gathered_keys result ≡ record {
+          limit = (last_keys keys).limit;
+          keys = [];
+        } }
         ensures is { AreGathered result }
     {
         match keys {
